@@ -1,0 +1,15 @@
+pub mod Parts
+pub mod Difference
+pub mod Polynomial
+pub mod Ring
+pub mod Integer
+pub mod OrderedRing
+pub mod Order
+pub mod Fraction
+pub mod FractionOrder
+pub mod FractionInverse
+pub mod FractionLinear
+pub mod Rounding
+pub mod RoundingLaws
+pub mod Machine
+pub mod Examples

@@ -1,0 +1,2 @@
+// Division with an exact rounding, on machine numbers. specs/ holds the algebra of whole numbers and fractions.
+pub mod rounding;
