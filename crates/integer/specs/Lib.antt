@@ -5,11 +5,14 @@ pub mod Ring
 pub mod Integer
 pub mod OrderedRing
 pub mod Order
+pub mod Embedding
 pub mod Fraction
 pub mod FractionOrder
 pub mod FractionInverse
 pub mod FractionLinear
 pub mod Rounding
 pub mod RoundingLaws
+pub mod FractionRounding
+pub mod Archimedean
 pub mod Machine
 pub mod Examples

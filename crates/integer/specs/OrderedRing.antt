@@ -6,7 +6,7 @@
 --   box : (x y z w : A) → 0 ≤ x → x ≤ z → 0 ≤ w → y ≤ w → x y ≤ z w
 --   box x y z w hx hz hw hy = by-certificate O (⊞ O (⊠ O (gap O hz) hw) (⊠ O hx (gap O hy))) (solve ..)
 use mathlib.Core.Path.{_≡_, refl, sym, _∙_, ap, ap₂, subst}
-use mathlib.Core.Logic.{_⊎_, inl, inr}
+use mathlib.Core.Logic.{_↔_, _⊎_, inl, inr}
 use mathlib.Core.List.{List, [], _∷_}
 use lib.IntN.{ℤ, pos, negsuc}
 use Rattle.integer.specs.Ring.{CommutativeRing, reify, solve}
@@ -200,3 +200,21 @@ module _ (O : OrderedRing) where
 
   pub abs-square : (t n : A) → abs t ≼ n → t ⊗ t ≼ n ⊗ n
   abs-square t n h = abs-hi (t ⊗ t) ⟨≼⟩ abs-mul-le t t h h
+
+  -- ---- bounds of |·|
+
+  pub abs-add-le : (x y : A) {a b : A} → abs x ≼ a → abs y ≼ b → abs (x ⊕ y) ≼ a ⊕ b
+  abs-add-le x y h k = triangle x y ⟨≼⟩ (h ⟨+⟩ k)
+
+  pub abs-neg-le : (x : A) {a : A} → abs x ≼ a → abs (⊖ x) ≼ a
+  abs-neg-le x h = le-of-eq (abs-neg x) ⟨≼⟩ h
+
+  -- |x| ≤ n and |c·x| ≤ c·n say the same where c > 0
+  pub abs-scale : (c x n : A) → ι (pos 0) ≺ c → (abs x ≼ n) ↔ (abs (c ⊗ x) ≼ c ⊗ n)
+  abs-scale c x n positive = (
+    λ h. rw scaled (mul-left c (lt-le positive) h),
+    λ h. le-cancel c (abs x) n positive (rw scaled at h),
+  )
+    where
+      scaled : abs (c ⊗ x) ≡ c ⊗ abs x
+      scaled = abs-mul c x ∙ ap (λ z. z ⊗ abs x) (abs-of-nonneg (lt-le positive))

@@ -1,0 +1,1 @@
+// Chebyshev polynomials and coefficient lists: definitions and theorems in specs/, no code.
