@@ -142,6 +142,10 @@ module _ (R : CommutativeRing) where
 
   -- ---- whole numbers in the ring
 
+  pub map-ι-zeros : (n : ℕ) → map ι (replicate n (pos 0)) ≡ replicate n (ι (pos 0))
+  map-ι-zeros zero = refl
+  map-ι-zeros (suc n) = ap (λ l. ι (pos 0) ∷ l) (map-ι-zeros n)
+
   pub map-ι-add : (a b : List ℤ) → map ι (addLists ℤ-ring a b) ≡ addLists R (map ι a) (map ι b)
   unfolding addLists
   map-ι-add [] b = refl

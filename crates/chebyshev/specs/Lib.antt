@@ -9,6 +9,7 @@ pub mod Lipschitz
 pub mod Product
 pub mod ProductLaws
 pub mod ProductWeight
+pub mod ProductEnd
 pub mod ProductSums
 pub mod Derivative
 pub mod Primitive

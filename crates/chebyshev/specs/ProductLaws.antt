@@ -13,7 +13,7 @@ use Rattle.integer.specs.Integer.{ℤ-ring}
 use Rattle.chebyshev.specs.Kinds.{firstKind}
 use Rattle.chebyshev.specs.KindsLaws.{first-product}
 use Rattle.chebyshev.specs.Coefficients.{valueFrom, value}
-use Rattle.chebyshev.specs.CoefficientLaws.{valueFrom-zeros}
+use Rattle.chebyshev.specs.CoefficientLaws.{valueFrom-zeros, map-ι-zeros}
 use Rattle.chebyshev.specs.Product.{distance, addAt, addPair, addRow, addRows, product}
 
 module _ (R : CommutativeRing) where
@@ -171,11 +171,7 @@ module _ (R : CommutativeRing) where
 
   pub map-ι-product : (width : ℕ) (a b : List ℤ) → map ι (product ℤ-ring width a b) ≡ product R width (map ι a) (map ι b)
   unfolding product
-  map-ι-product width a b = map-ι-addRows (replicate width (pos 0)) 0 a b ∙ ap (λ l. addRows R l 0 (map ι a) (map ι b)) (zeros width)
-    where
-      zeros : (n : ℕ) → map ι (replicate n (pos 0)) ≡ replicate n (ι (pos 0))
-      zeros zero = refl
-      zeros (suc n) = ap (λ l. ι (pos 0) ∷ l) (zeros n)
+  map-ι-product width a b = map-ι-addRows (replicate width (pos 0)) 0 a b ∙ ap (λ l. addRows R l 0 (map ι a) (map ι b)) (map-ι-zeros R width)
 
   pub value-product-whole : (x : A) (width : ℕ) (a b : List ℤ) → length a + length b ≤ suc width
       → ι (pos 2) ⊗ value R x (map ι a) ⊗ value R x (map ι b) ≡ value R x (map ι (product ℤ-ring width a b))

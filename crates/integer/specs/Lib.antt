@@ -12,7 +12,9 @@ pub mod FractionInverse
 pub mod FractionLinear
 pub mod Rounding
 pub mod RoundingLaws
+pub mod RoundingSize
 pub mod FractionRounding
 pub mod Archimedean
 pub mod Machine
+pub mod Fill
 pub mod Examples

@@ -1,0 +1,182 @@
+-- `add::combine` meets its contract. The loop fills the list a + sign·b from the front and sums its weight.
+use mathlib.Core.Path.{_≡_, refl, ap}
+use mathlib.Core.List.{List}
+use Prim.Native.Nat.{ℕ, _+_, _-_, _*_, _^_, _<_, _≤_}
+use native.Mathlib.Omega.{arith}
+use lib.IntN.{ℤ, pos, natAbs, _+ℤ_, _*ℤ_}
+use lib.ListN.{length, getD, drop, length-replicate}
+use mir.Syntax.{w32}
+use mir.Val.{SFits, toZ}
+use mir.Facts.{toZ-ofZ}
+use Rattle.integer.specs.Parts.{abs-mul}
+use Rattle.integer.specs.Integer.{ℤ-ring}
+use Rattle.integer.specs.Machine.{signed-needs, abs-fits, fits-widens}
+use Rattle.integer.specs.Fill.{Filled, fill-none, fill-step, fill-done}
+use Rattle.chebyshev.specs.Coefficients.{weight, addLists, scaleList}
+use Rattle.chebyshev.specs.CoefficientLaws.{length-add, length-scale, getD-add, getD-scale}
+use Rattle.chebyshev.specs.Weight.{weight-at, weight-add, weight-scale, weight-step, weight-end}
+use Rattle.model.proofs.add.combine.Statement.{statement}
+use Rattle.model.proofs.add.combine.Tie as tie
+
+-- a + s·b
+abbrev sum : List ℤ → List ℤ → ℤ → List ℤ
+sum a b s = addLists ℤ-ring a (scaleList ℤ-ring s b)
+
+-- the first i places of z are written, and their weight is summed
+record Walked (z out : List ℤ) (total i : ℕ) : Type 0 where
+  filled : Filled 33 z out i
+  rest : total + weight (drop i z) ≡ weight z
+
+abbrev Inv-loop : tie.InvT-loop
+Inv-loop a b sign coefficients₀ weight₀ i₀ coefficients total i = Walked (sum a b (toZ w32 sign)) coefficients total i
+
+abbrev μ-loop : tie.MeasureT-loop
+μ-loop a b sign coefficients₀ weight₀ i₀ coefficients total i = 33 - i
+
+loop-holds : tie.Need-loop-holds Inv-loop μ-loop
+loop-holds c = record { filled = fill-none (simp length-replicate); rest = omega arith }
+
+mul-c : tie.Need-mul-c Inv-loop μ-loop
+mul-c c = search signed-needs
+
+element-copy-out-c : tie.Need-element-copy-out-c Inv-loop μ-loop
+element-copy-out-c c = search signed-needs
+
+mul-c-2 : tie.Need-mul-c-2 Inv-loop μ-loop
+mul-c-2 c = search signed-needs
+
+element-copy-out-c-2 : tie.Need-element-copy-out-c-2 Inv-loop μ-loop
+element-copy-out-c-2 c = search signed-needs
+
+-- at the loop's head
+module _ (l : tie.At-loop Inv-loop μ-loop) where
+  abbrev i : ℕ
+  i = l .loop .i
+
+  abbrev a : List ℤ
+  a = l .before .args .a .now
+
+  abbrev b : List ℤ
+  b = l .before .args .b .now
+
+  abbrev s : ℤ
+  s = l .before .args .sign
+
+  abbrev z : List ℤ
+  z = sum a b s
+
+  inv : Walked z (l .loop .coefficients) (l .loop .weight) i
+  inv = rw (toZ-ofZ (l .before .fits .sign)) at (l .loop .inv)
+
+  z-length : length z ≡ 33
+  z-length = simp (length-add ℤ-ring, length-scale ℤ-ring) (omega (arith, l .before .pre .0))
+
+  scaled : weight (scaleList ℤ-ring s b) ≡ weight b
+  scaled = omega (arith, weight-scale s b, ap (λ (n : ℕ). n * weight b) (l .before .pre .1 .2))
+
+  z-weight : weight z ≤ 2 ^ 29
+  z-weight = omega (arith, weight-add a (scaleList ℤ-ring s b), scaled, l .before .pre .1)
+
+-- in a turn
+module _ (c : tie.After-c2 Inv-loop μ-loop) where
+  abbrev l : tie.At-loop Inv-loop μ-loop
+  l = c .before .before .before
+
+  abbrev x : ℤ
+  x = getD (a l) (i l) (pos 0)
+
+  abbrev y : ℤ
+  y = getD (b l) (i l) (pos 0)
+
+  abbrev v : ℤ
+  v = x +ℤ s l *ℤ y
+
+  v-is : v ≡ getD (z l) (i l) (pos 0)
+  v-is = simp (getD-add ℤ-ring, getD-scale ℤ-ring)
+
+  fits-s : SFits w32 (s l)
+  fits-s = l .before .fits .sign
+
+  fits-x : SFits w32 x
+  fits-x = record { sfits = c .before .c .given }
+
+  fits-y : SFits w32 y
+  fits-y = record { sfits = c .c2 .given }
+
+  fits-sy : SFits w32 (s l *ℤ y)
+  fits-sy = abs-fits w32 (s l *ℤ y) (omega (arith, simp (getD-scale ℤ-ring) at (weight-at (scaleList ℤ-ring (s l) (b l)) (i l)), scaled l, l .before .pre .1))
+
+  fits-v : SFits w32 v
+  fits-v = abs-fits w32 v (omega (arith, ap natAbs v-is, weight-at (z l) (i l), z-weight l))
+
+mul-c-3 : tie.Need-mul-c-3 Inv-loop μ-loop
+mul-c-3 c = simp (toZ-ofZ (fits-s c), toZ-ofZ (fits-y c)) (fits-sy c)
+
+add-c : tie.Need-add-c Inv-loop μ-loop
+add-c c = simp (toZ-ofZ (fits-s c), toZ-ofZ (fits-x c), toZ-ofZ (fits-y c), toZ-ofZ (fits-sy c)) (fits-v c)
+
+mul-coefficients : tie.Need-mul-coefficients Inv-loop μ-loop
+mul-coefficients c = search signed-needs
+
+array-set-from-coefficients : tie.Need-array-set-from-coefficients Inv-loop μ-loop
+array-set-from-coefficients c = search signed-needs
+
+cast-magnitude : tie.Need-cast-magnitude Inv-loop μ-loop
+cast-magnitude c = simp (toZ-ofZ (fits-s c), toZ-ofZ (fits-x c), toZ-ofZ (fits-y c), toZ-ofZ (fits-sy c), toZ-ofZ (fits-v c)) (fits-widens (fits-v c))
+
+magnitude-requires : tie.Need-magnitude-requires Inv-loop μ-loop
+magnitude-requires c κs = tt
+
+-- what the turn adds to the weight
+turn : (m : tie.After-magnitude Inv-loop μ-loop) → let l = l (m .before) in weight (drop (i l) (z l)) ≡ m .magnitude .result + weight (drop (i l + 1) (z l))
+turn m =
+    let c = m .before in
+    let e : m .magnitude .result ≡ natAbs (v c) = simp (toZ-ofZ (fits-s c), toZ-ofZ (fits-x c), toZ-ofZ (fits-y c), toZ-ofZ (fits-sy c), toZ-ofZ (fits-v c), toZ-ofZ (fits-widens (fits-v c))) at (m .magnitude .ensures) in
+    omega (arith, ap natAbs (v-is c), weight-step (z (l c)) (i (l c)) (omega (arith, z-length (l c))))
+
+add-weight : tie.Need-add-weight Inv-loop μ-loop
+add-weight m = let l = l (m .before) in omega (arith, turn m, z-weight l, inv l .rest)
+
+add-i : tie.Need-add-i Inv-loop μ-loop
+add-i c = omega arith
+
+loop-less : tie.Need-loop-less Inv-loop μ-loop
+loop-less c = omega arith
+
+loop-again : tie.Need-loop-again Inv-loop μ-loop
+loop-again m =
+    let c = m .before in
+    let l = l c in
+    simp (toZ-ofZ (fits-s c), toZ-ofZ (fits-x c), toZ-ofZ (fits-y c), toZ-ofZ (fits-sy c), toZ-ofZ (fits-v c)) (record {
+      filled = fill-step (pos 0) (inv l .filled) (z-length l) (omega arith) (v-is c);
+      rest = omega (arith, turn m, inv l .rest);
+    })
+
+returns : tie.Need-returns Inv-loop μ-loop
+returns c =
+    let l = c .before in
+    let e = fill-done (inv l .filled) (z-length l) (omega arith) in
+    (e, omega (arith, weight-end (z l) (i l) (omega (arith, z-length l)), ap weight e, inv l .rest))
+
+pub combine-spec : {M : Type 1} → statement M
+combine-spec =
+    tie.close
+    (tie.spec
+    Inv-loop
+    μ-loop
+    loop-holds
+    mul-c
+    element-copy-out-c
+    mul-c-2
+    element-copy-out-c-2
+    mul-c-3
+    add-c
+    mul-coefficients
+    array-set-from-coefficients
+    cast-magnitude
+    magnitude-requires
+    add-weight
+    add-i
+    loop-less
+    loop-again
+    returns)

@@ -1,0 +1,111 @@
+-- `add::combine_models` meets its contract: the tests in the order of the definition's places.
+use borrow.Author.Needs.{needs}
+use borrow.Author.Tests.{not-true, not-false}
+use mathlib.Core.Path.{_≡_, refl, sym, _∙_, ap}
+use mathlib.Core.Logic.{⊎-elim}
+use mathlib.Core.Bool.{true, not}
+use Prim.Native.Nat.{max}
+use native.Mathlib.Omega.{arith}
+use lib.ListN.{length}
+use mir.Facts.{toZ-ofZ}
+use Rattle.chebyshev.specs.Coefficients.{weight}
+use Rattle.model.specs.Models.{good, firstRefusal, outcome}
+use Rattle.model.specs.ModelLaws.{Good, good-is}
+use Rattle.model.specs.Formed.{formedOutcome, formed-is}
+use Rattle.model.specs.Combination.{combinedModel, combination, combination-good}
+use Rattle.model.specs.declared.types.Model.{Model}
+use Rattle.model.proofs.add.combine_models.Statement.{statement}
+use Rattle.model.proofs.add.combine_models.Tie as tie
+
+is-good-requires : tie.Need-is-good-requires
+is-good-requires c κs = search needs
+
+refused-requires : tie.Need-refused-requires
+refused-requires c κs = search needs
+
+returns : tie.Need-returns
+unfolding combination outcome firstRefusal
+returns c =
+    let g = c .before .before .is-good in
+    rw (c .refused .ensures, ← (g .ensures), not-true (g .result) (c .before .if1 .taken))
+
+is-good-requires-2 : tie.Need-is-good-requires-2
+is-good-requires-2 c κs = search needs
+
+refused-requires-2 : tie.Need-refused-requires-2
+refused-requires-2 c κs = search needs
+
+module _ (c : tie.Else1) where
+  abbrev s : tie.Start
+  s = c .before .before
+
+  abbrev a : Model
+  a = s .args .t1
+
+  abbrev b : Model
+  b = s .args .t2
+
+  good-a : good a ≡ true
+  good-a = sym (c .before .is-good .ensures) ∙ not-false (c .before .is-good .result) (c .if1 .left)
+
+returns-2 : tie.Need-returns-2
+unfolding combination outcome firstRefusal
+returns-2 c =
+    let g = c .before .before .is-good2 in
+    rw (c .refused2 .ensures, good-a (c .before .before .before), ← (g .ensures), not-true (g .result) (c .before .if2 .taken))
+
+good-b : (c : tie.Else2) → good (b (c .before .before)) ≡ true
+good-b c = let g = c .before .is-good2 in sym (g .ensures) ∙ not-false (g .result) (c .if2 .left)
+
+combine-requires : tie.Need-combine-requires
+combine-requires c κs =
+    let d = c .before .before .before .before in
+    let e = d .before .before in
+    let la : length (a e .coefficients) ≡ 33 = search needs in
+    let lb : length (b e .coefficients) ≡ 33 = search needs in
+    simp (toZ-ofZ (s e .fits .sign)) ((la, lb), (good-is (a e) (good-a e) .weight-fits, good-is (b e) (good-b d) .weight-fits, s e .pre))
+
+cast-radius : tie.Need-cast-radius
+cast-radius c = search needs
+
+cast-radius-2 : tie.Need-cast-radius-2
+cast-radius-2 c = search needs
+
+add-radius : tie.Need-add-radius
+add-radius c = search needs
+
+formed-requires : tie.Need-formed-requires
+formed-requires c κs = search needs
+
+returns-3 : tie.Need-returns-3
+unfolding combinedModel
+returns-3 c =
+    let j = c .before in
+    let k = j .before .before in
+    let d = k .before .before .before .before .before in
+    let e = d .before .before in
+    let m = combinedModel (s e .args .sign) (a e) (b e) in
+    let n : j .if3 .degree ≡ m .degree = ⊎-elim (λ w. omega (arith, w .0, w .1)) (λ w. omega (arith, w .0, w .1)) (j .if3 .came) in
+    let cs : k .combine .result .coefficients ≡ m .coefficients = rw (toZ-ofZ (s e .fits .sign)) at (k .combine .ensures .0) in
+    let w : k .combine .result .weight ≡ weight (m .coefficients) = k .combine .ensures .1 ∙ ap weight cs in
+    c .formed .ensures
+    ∙ (λ t. formedOutcome (n t) (cs t) (w t) (m .radius))
+    ∙ formed-is m (m .coefficients) (λ h. refl)
+    ∙ combination-good (s e .args .sign) (a e) (b e) (good-a e) (good-b d)
+
+pub combine-models-spec : {M : Type 1} → statement M
+combine-models-spec =
+    tie.close
+    (tie.spec
+    is-good-requires
+    refused-requires
+    returns
+    is-good-requires-2
+    refused-requires-2
+    returns-2
+    combine-requires
+    cast-radius
+    cast-radius-2
+    add-radius
+    formed-requires
+    returns-3)

@@ -1,0 +1,26 @@
+-- `measure::measure` meets its contract: a model is good where it is good with radius 0 and its radius is within the limit.
+use borrow.Author.Needs.{needs}
+use borrow.Author.Tests.{le-leb, lt-leb}
+use mathlib.Core.Path.{refl}
+use mathlib.Core.Bool.{and-false}
+use native.Mathlib.Omega.{arith}
+use Rattle.model.specs.Models.{good}
+use Rattle.model.proofs.measure.measure.Statement.{statement}
+use Rattle.model.proofs.measure.measure.Tie as tie
+
+measure-parts-requires : tie.Need-measure-parts-requires
+measure-parts-requires c κs = search needs
+
+cast-if1 : tie.Need-cast-if1
+cast-if1 c = search needs
+
+returns : tie.Need-returns
+unfolding good
+returns c = rw (le-leb (c .before .before .before .before .args .t1 .radius) 268435456 (omega arith)) (c .before .measure-parts .ensures)
+
+returns-2 : tie.Need-returns-2
+unfolding good
+returns-2 c = simp (lt-leb (c .before .before .before .before .args .t1 .radius) 268435456 (omega arith), and-false) (refl, c .before .measure-parts .ensures .1)
+
+pub measure-spec : {M : Type 1} → statement M
+measure-spec = tie.close (tie.spec measure-parts-requires cast-if1 returns returns-2)

@@ -1,0 +1,122 @@
+-- `products::add_products` meets its contract. The loop's invariant in rest form, as for a row: the rows that are left,
+-- added to the list as it is, give all rows added to the list as it came.
+use mathlib.Core.Path.{_≡_, refl, sym, _∙_, ap}
+use mathlib.Core.List.{List}
+use Prim.Native.Nat.{ℕ, _+_, _-_, _*_, _<_, _≤_}
+use native.Mathlib.Omega.{arith}
+use lib.IntN.{ℤ, pos, natAbs}
+use lib.ListN.{length, getD, drop}
+use mir.Syntax.{w32}
+use mir.Val.{SFits}
+use mir.Facts.{toZ-ofZ}
+use Rattle.integer.specs.Integer.{ℤ-ring}
+use Rattle.integer.specs.Machine.{signed-needs, fits-widens}
+use Rattle.chebyshev.specs.Coefficients.{weight}
+use Rattle.chebyshev.specs.Weight.{weight-step}
+use Rattle.chebyshev.specs.Product.{addRow, addRows}
+use Rattle.chebyshev.specs.ProductLaws.{length-addRow, rows-step, rows-end}
+use Rattle.chebyshev.specs.ProductWeight.{weight-addRow}
+use Rattle.model.proofs.products.add_products.Statement.{statement}
+use Rattle.model.proofs.products.add_products.Tie as tie
+
+record Walked (c₀ a b c : List ℤ) (i : ℕ) : Type 0 where
+  within : i ≤ length a
+  size : length c ≡ length c₀
+  rest : addRows ℤ-ring c i (drop i a) b ≡ addRows ℤ-ring c₀ 0 a b
+  bound : weight c + 2 * weight (drop i a) * weight b ≤ weight c₀ + 2 * weight a * weight b
+
+part : (a b : List ℤ) (i : ℕ) → i < length a → weight (drop i a) * weight b ≡ natAbs (getD a i (pos 0)) * weight b + weight (drop (i + 1) a) * weight b
+part a b i h = omega (arith, ap (λ (n : ℕ). n * weight b) (weight-step a i h))
+
+walk : (c₀ a b c : List ℤ) (i : ℕ) → Walked c₀ a b c i → i < length a → Walked c₀ a b (addRow ℤ-ring c (getD a i (pos 0)) i 0 b) (i + 1)
+walk c₀ a b c i w h =
+    let x = getD a i (pos 0) in record {
+      within = omega arith;
+      size = length-addRow ℤ-ring c x i 0 b ∙ w .size;
+      rest = sym (rows-step ℤ-ring c i a b h) ∙ w .rest;
+      bound = omega (arith, w .bound, weight-addRow c x i 0 b, part a b i h);
+    }
+
+abbrev Inv-loop : tie.InvT-loop
+Inv-loop c₀ a b i₀ c i = Walked c₀ a b c i
+
+abbrev μ-loop : tie.MeasureT-loop
+μ-loop c₀ a b i₀ c i = length a - i
+
+loop-holds : tie.Need-loop-holds Inv-loop μ-loop
+loop-holds c = record { within = omega arith; size = refl; rest = refl; bound = omega arith }
+
+mul-add-row : tie.Need-mul-add-row Inv-loop μ-loop
+mul-add-row c = search signed-needs
+
+shared-slice-copy-out-add-row : tie.Need-shared-slice-copy-out-add-row Inv-loop μ-loop
+shared-slice-copy-out-add-row c = search signed-needs
+
+cast-add-row : tie.Need-cast-add-row Inv-loop μ-loop
+cast-add-row c = search signed-needs
+
+-- at the loop's head
+module _ (l : tie.At-loop Inv-loop μ-loop) where
+  abbrev s : tie.Start Inv-loop μ-loop
+  s = l .before
+
+  abbrev a : List ℤ
+  a = s .args .a .now
+
+  abbrev b : List ℤ
+  b = s .args .b .now
+
+  abbrev i : ℕ
+  i = l .loop .i
+
+-- in a turn
+module _ (c : tie.After-add-row-arg2 Inv-loop μ-loop) where
+  abbrev l : tie.At-loop Inv-loop μ-loop
+  l = c .before .before .before
+
+  fits-x : SFits w32 (getD (a l) (i l) (pos 0))
+  fits-x = record { sfits = c .add-row-arg2 .given }
+
+add-row-requires : tie.Need-add-row-requires Inv-loop μ-loop
+add-row-requires c κs =
+    let k = l c in
+    simp (toZ-ofZ (fits-x c), toZ-ofZ (fits-widens (fits-x c)))
+    (omega (arith, k .loop .inv, part (a k) (b k) (i k) (omega arith), s k .pre))
+
+add-i : tie.Need-add-i Inv-loop μ-loop
+add-i c = omega arith
+
+loop-less : tie.Need-loop-less Inv-loop μ-loop
+loop-less c = omega arith
+
+loop-again : tie.Need-loop-again Inv-loop μ-loop
+loop-again m =
+    let c = m .before .before in
+    let k = l c in
+    let e = simp (toZ-ofZ (fits-x c), toZ-ofZ (fits-widens (fits-x c))) at (m .before .add-row .ensures) in
+    rw e (walk (s k .args .c .now) (a k) (b k) (k .loop .c) (i k) (k .loop .inv) (omega arith))
+
+same-length : tie.Need-same-length Inv-loop μ-loop
+same-length c = c .before .loop .inv .size
+
+returns : tie.Need-returns Inv-loop μ-loop
+returns c =
+    let k = c .before in
+    sym (rows-end ℤ-ring (k .loop .c) (i k) (a k) (b k) (omega arith)) ∙ k .loop .inv .rest
+
+pub add-products-spec : {M : Type 1} → statement M
+add-products-spec =
+    tie.close
+    (tie.spec
+    Inv-loop
+    μ-loop
+    loop-holds
+    mul-add-row
+    shared-slice-copy-out-add-row
+    cast-add-row
+    add-row-requires
+    add-i
+    loop-less
+    loop-again
+    same-length
+    returns)

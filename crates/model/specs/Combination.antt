@@ -1,0 +1,36 @@
+-- Add and subtract as one operation, a + s·b with s = 1 or s = −1, as the code has it.
+use mathlib.Core.Path.{_≡_, refl, ap₂}
+use mathlib.Core.Bool.{true, not}
+use mathlib.Core.List.{List, [], _∷_}
+use Prim.Native.Nat.{_+_, max}
+use lib.IntN.{ℤ, pos, negsuc}
+use Rattle.integer.specs.Integer.{ℤ-ring, one-*}
+use Rattle.chebyshev.specs.Coefficients.{addLists, scaleList, subtractLists}
+use Rattle.chebyshev.specs.CoefficientLaws.{opposite-scale}
+use Rattle.model.specs.Models.{modelOf, good, tooLarge, firstRefusal, Outcome, outcome}
+use Rattle.model.specs.Operations.{sumModel, differenceModel, addition, subtraction}
+use Rattle.model.specs.declared.types.Model.{Model}
+
+unfoldable pub combinedModel : ℤ → Model → Model → Model
+combinedModel s a b = modelOf (max (a .degree) (b .degree)) (addLists ℤ-ring (a .coefficients) (scaleList ℤ-ring s (b .coefficients))) (a .radius + b .radius)
+
+unfoldable pub combination : ℤ → Model → Model → Outcome
+combination s a b = outcome ((not (good a), 2) ∷ (not (good b), 2) ∷ (tooLarge (combinedModel s a b), 3) ∷ []) (combinedModel s a b)
+
+-- of two good models only the result is tested
+pub combination-good : (s : ℤ) (a b : Model) → good a ≡ true → good b ≡ true → outcome ((tooLarge (combinedModel s a b), 3) ∷ []) (combinedModel s a b) ≡ combination s a b
+unfolding combination outcome firstRefusal
+combination-good s a b p q = rw (p, q)
+
+scale-one : (b : List ℤ) → scaleList ℤ-ring (pos 1) b ≡ b
+unfolding scaleList
+scale-one [] = refl
+scale-one (x ∷ b) = ap₂ _∷_ (one-* x) (scale-one b)
+
+pub addition-is : (a b : Model) → combination (pos 1) a b ≡ addition a b
+unfolding combination combinedModel addition sumModel
+addition-is a b = rw scale-one
+
+pub subtraction-is : (a b : Model) → combination (negsuc 0) a b ≡ subtraction a b
+unfolding combination combinedModel subtraction differenceModel subtractLists
+subtraction-is a b = rw (opposite-scale ℤ-ring (b .coefficients))

@@ -1,0 +1,70 @@
+-- Of a good model the coefficients beyond the degree are zero, so that its value, its weight and its products may be taken of
+-- its terms or of all its coefficients.
+use mathlib.Core.Path.{_≡_, refl, sym, _∙_, ap, ap₂, subst}
+use mathlib.Core.Logic.{_↔_}
+use mathlib.Core.Bool.{Bool, true, false}
+use mathlib.Core.List.{List, [], _∷_, _++_}
+use Prim.Native.Nat.{suc, _≤_}
+use native.Mathlib.Omega.{arith}
+use lib.Dec.{T}
+use lib.IntN.{ℤ, pos}
+use lib.ListN.{length, replicate, length-take, take-append-drop}
+use Rattle.integer.specs.Parts.{abs, same}
+use Rattle.integer.specs.Integer.{ℤ-ring}
+use Rattle.integer.specs.Fraction.{ℚ, whole, _*ℚ_, ℚ-ring}
+use Rattle.chebyshev.specs.Coefficients.{weight}
+use Rattle.chebyshev.specs.Weight.{weight-split}
+use Rattle.chebyshev.specs.Product.{product}
+use Rattle.chebyshev.specs.ProductSums.{product-zeros-left, product-zeros-right}
+use Rattle.chebyshev.specs.ProductLaws.{value-product-whole}
+use Rattle.model.specs.Models.{places, productPlaces, terms, beyond, good}
+use Rattle.model.specs.ModelLaws.{good-is}
+use Rattle.model.specs.ValueLaws.{valueAt, valueAt-append-zeros}
+use Rattle.model.specs.Operations.{productList}
+use Rattle.model.specs.declared.types.Model.{Model}
+
+-- a list of weight 0 holds zeros alone
+weight-zero : (a : List ℤ) → weight a ≡ 0 → a ≡ replicate (length a) (pos 0)
+unfolding weight
+weight-zero [] e = refl
+weight-zero (c ∷ a) e = ap₂ _∷_ (same c (pos 0) (omega (arith, abs c))) (weight-zero a (omega arith))
+
+-- `good m` as a type and as an equation
+pub good-truth : (m : Model) → T (good m) ↔ (good m ≡ true)
+good-truth m = truth (good m)
+  where
+    truth : (t : Bool) → T t ↔ (t ≡ true)
+    truth true = (λ h. refl, λ e. tt)
+    truth false = (λ h. absurd h, λ e. subst T (sym e) tt)
+
+module _ (m : Model) (h : good m ≡ true) where
+  pub coefficients-terms : m .coefficients ≡ terms m ++ replicate (length (beyond m)) (pos 0)
+  coefficients-terms =
+      sym (take-append-drop (suc (m .degree)) (m .coefficients))
+      ∙ ap (λ l. terms m ++ l) (weight-zero (beyond m) (good-is m h .beyond-zero))
+
+  pub weight-terms : weight (terms m) ≡ weight (m .coefficients)
+  weight-terms = omega (arith, weight-split (suc (m .degree)) (m .coefficients), good-is m h .beyond-zero)
+
+  pub length-terms : length (terms m) ≤ places
+  length-terms = omega (arith, length-take (suc (m .degree)) (m .coefficients), good-is m h .degree-fits)
+
+  pub value-terms : (x : ℚ) → valueAt x (terms m) ≡ valueAt x (m .coefficients)
+  value-terms x =
+      sym (ap (valueAt x) coefficients-terms ∙ valueAt-append-zeros x (terms m) (length (beyond m)))
+
+module _ (a b : Model) (ha : good a ≡ true) (hb : good b ≡ true) where
+  -- the list C of two good models is that of all their coefficients
+  pub product-coefficients : productList a b ≡ product ℤ-ring productPlaces (a .coefficients) (b .coefficients)
+  unfolding productList
+  product-coefficients =
+      sym (ap₂ (product ℤ-ring productPlaces) (coefficients-terms a ha) (coefficients-terms b hb)
+      ∙ product-zeros-left ℤ-ring productPlaces (terms a) (length (beyond a)) (terms b ++ replicate (length (beyond b)) (pos 0))
+      ∙ product-zeros-right ℤ-ring productPlaces (terms a) (terms b) (length (beyond b)))
+
+  -- 2·value a·value b = value C
+  pub value-productList : (x : ℚ) → whole (pos 2) *ℚ valueAt x (a .coefficients) *ℚ valueAt x (b .coefficients) ≡ valueAt x (productList a b)
+  unfolding productList
+  value-productList x =
+      ap₂ (λ u v. whole (pos 2) *ℚ u *ℚ v) (sym (value-terms a ha x)) (sym (value-terms b hb x))
+      ∙ value-product-whole ℚ-ring x productPlaces (terms a) (terms b) (omega (arith, length-terms a ha, length-terms b hb))

@@ -1,0 +1,8 @@
+// Models and their plain operations: add, subtract, multiply, integrate, evaluate.
+pub mod add;
+pub mod evaluate;
+pub mod integrate;
+pub mod measure;
+pub mod multiply;
+pub mod products;
+pub mod types;

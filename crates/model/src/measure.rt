@@ -1,0 +1,86 @@
+// The test for a good model, and the weight, in one pass over the coefficients.
+ghost use mathlib.Core.Path.{_≡_};
+ghost use Prim.Native.Nat.{_<_, _^_};
+ghost use lib.ListN.{length};
+ghost use Rattle.chebyshev.specs.Coefficients.{weight};
+ghost use Rattle.model.specs.Models.{places, modelOf, candidateModel, good};
+use crate::types::Candidate;
+use crate::types::Model;
+use crate::types::PLACES;
+
+pub struct Measured {
+    pub good: bool,
+    pub weight: u64,
+}
+
+// A model with radius 0, given by its parts.
+fn measure_parts(degree: u32, coefficients: &[i32; PLACES]) -> Measured
+    requires { ⌜ length (now coefficients) ≡ places ⌝ }
+    ensures { λ (r : Measured). ⌜ (r .good ≡ good (modelOf degree (now (coefficients .entry)) 0)) × (r .weight ≡ weight (now (coefficients .entry))) ⌝ }
+{
+    let n = degree as usize;
+    let mut total: u64 = 0;
+    let mut beyond: u64 = 0;
+    let mut i = 0;
+    while i < PLACES {
+        let size = integer::absolute::magnitude(coefficients[i] as i64);
+        total += size;
+        if n < i {
+            beyond += size;
+        }
+        i += 1;
+    }
+    if degree <= Model::MAX_DEGREE {
+        if total <= Model::MAX_WEIGHT {
+            return Measured {
+                good: beyond == 0,
+                weight: total,
+            };
+        }
+    }
+    Measured {
+        good: false,
+        weight: total,
+    }
+}
+
+pub fn measure(m: Model) -> Measured
+    ensures { λ (r : Measured). ⌜ (r .good ≡ good m) × (r .weight ≡ weight (m .coefficients)) ⌝ }
+{
+    let parts = measure_parts(m.degree, &m.coefficients);
+    if m.radius as u64 <= Model::MAX_RADIUS {
+        parts
+    } else {
+        Measured {
+            good: false,
+            weight: parts.weight,
+        }
+    }
+}
+
+pub fn measure_candidate(c: Candidate) -> Measured
+    ensures { λ (r : Measured). ⌜ (r .good ≡ good (candidateModel c)) × (r .weight ≡ weight (c .coefficients)) ⌝ }
+{
+    measure_parts(c.degree, &c.coefficients)
+}
+
+// The test for a good model.
+pub fn is_good(m: Model) -> bool
+    ensures { λ r. ⌜ r ≡ good m ⌝ }
+{
+    measure(m).good
+}
+
+// The sum of the absolute values of a list.
+pub fn weigh(c: &[i64]) -> u64
+    requires { ⌜ weight (now c) < 2 ^ 64 ⌝ }
+    ensures { λ r. ⌜ r ≡ weight (now (c .entry)) ⌝ }
+{
+    let mut total: u64 = 0;
+    let mut i = 0;
+    while i < c.len() {
+        total += integer::absolute::magnitude(c[i]);
+        i += 1;
+    }
+    total
+}

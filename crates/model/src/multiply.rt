@@ -1,0 +1,130 @@
+// Multiply with a kept degree: the list C, rounded, and what the rounding and the dropped coefficients lose.
+ghost use mathlib.Core.Path.{_≡_};
+ghost use mathlib.Core.Bool.{true};
+ghost use mathlib.Core.List.{[], _∷_};
+ghost use Prim.Native.Nat.{_+_, _*_, _^_, _<_, _≤_};
+ghost use lib.ListN.{length};
+ghost use Rattle.integer.specs.Integer.{ℤ-ring};
+ghost use Rattle.chebyshev.specs.Coefficients.{weight};
+ghost use Rattle.chebyshev.specs.Product.{product};
+ghost use Rattle.model.specs.Models.{places, productPlaces, maxDegree, maxWeight, maxRadius, good, tooLarge, outcome, outcomeOf};
+ghost use Rattle.model.specs.RoundingPass.{RoundedFrom};
+ghost use Rattle.model.specs.Operations.{productModel, multiplication};
+use crate::measure::measure;
+use crate::measure::weigh;
+use crate::products::add_products;
+use crate::types::Answer;
+use crate::types::Model;
+use crate::types::PLACES;
+use crate::types::PRODUCT_PLACES;
+use crate::types::Verdict;
+use integer::absolute::magnitude;
+use integer::rounding::near;
+use integer::rounding::up_unsigned;
+
+// One unit of a coefficient, in units of C.
+const UNIT: i64 = 2 * Model::SCALE;
+
+// A kept degree that means MAX_DEGREE.
+const KEEP_ALL: u32 = 255;
+
+// The rounded coefficients, which count only where their weight is within its limit, their weight, and what the rounding
+// and the dropped coefficients lose, in units of C.
+struct Rounded {
+    coefficients: [i32; PLACES],
+    weight: u64,
+    loss: u64,
+}
+
+// The first `kept` numbers of the list c rounded, the others dropped.
+fn round(c: &[i64], kept: usize) -> Rounded
+    requires { ⌜ (kept ≤ places) × (kept ≤ length (now c)) × (weight (now c) < 2 ^ 62) ⌝ }
+    ensures { λ (r : Rounded). ⌜ RoundedFrom (now (c .entry)) kept r ⌝ }
+{
+    let mut coefficients = [0i32; PLACES];
+    let mut weight: u64 = 0;
+    let mut loss: u64 = weigh(&c[kept..]);
+    let mut k = 0;
+    while k < kept {
+        let exact = c[k];
+        let q = near(exact, UNIT);
+        loss += magnitude(exact - UNIT * q);
+        weight += magnitude(q);
+        if weight <= Model::MAX_WEIGHT {
+            coefficients[k] = q as i32;
+        }
+        k += 1;
+    }
+    Rounded {
+        coefficients,
+        weight,
+        loss,
+    }
+}
+
+// What the radii lose: 2(A·e_b + B·e_a + e_a·e_b) of weights A, B and radii e_a, e_b.
+fn radius_loss(a: u64, ea: u64, b: u64, eb: u64) -> u64
+    requires { ⌜ (a ≤ maxWeight) × (ea ≤ maxRadius) × (b ≤ maxWeight) × (eb ≤ maxRadius) ⌝ }
+    ensures { λ r. ⌜ (r ≡ 2 * (a * eb + b * ea + ea * eb)) × (r < 2 ^ 62) ⌝ }
+{
+    2 * (a * eb + b * ea + ea * eb)
+}
+
+// The list C of two lists of coefficients, rounded. It ends at the sum of the degrees.
+fn round_product(a: &[i32], b: &[i32], kept: usize) -> Rounded
+    requires { ⌜ (length (now a) ≤ places) × (length (now b) ≤ places) × (weight (now a) ≤ maxWeight) × (weight (now b) ≤ maxWeight) ⌝ }
+    requires { ⌜ (kept ≤ places) × (kept < length (now a) + length (now b)) ⌝ }
+    ensures { λ (r : Rounded). ⌜ RoundedFrom (product ℤ-ring productPlaces (now (a .entry)) (now (b .entry))) kept r ⌝ }
+{
+    let mut c = [0i64; PRODUCT_PLACES];
+    add_products(&mut c, a, b);
+    let end = a.len() + b.len() - 1;
+    round(&c[..end], kept)
+}
+
+// Of two good models, with their weights, to a kept degree within its limit.
+fn multiply_good(a: Model, b: Model, weight_a: u64, weight_b: u64, kept: u32) -> Answer
+    requires { ⌜ (good a ≡ true) × (good b ≡ true) × (kept ≤ maxDegree) ⌝ }
+    requires { ⌜ («weight_a» ≡ weight (a .coefficients)) × («weight_b» ≡ weight (b .coefficients)) ⌝ }
+    ensures { λ (r : Answer). ⌜ outcomeOf r ≡ outcome ((tooLarge (productModel kept a b), 3) ∷ []) (productModel kept a b) ⌝ }
+{
+    let top = a.degree + b.degree;
+    let degree = if kept < top { kept } else { top };
+    let first = a.coefficients;
+    let second = b.coefficients;
+    let sum = round_product(
+        &first[..a.degree as usize + 1],
+        &second[..b.degree as usize + 1],
+        degree as usize + 1,
+    );
+    let coefficients = sum.coefficients;
+    let loss = sum.loss + radius_loss(weight_a, a.radius as u64, weight_b, b.radius as u64);
+    Answer::formed(
+        degree,
+        coefficients,
+        sum.weight,
+        up_unsigned(loss, UNIT as u64),
+    )
+}
+
+pub fn multiply(a: Model, b: Model, kept: u32) -> Answer
+    ensures { λ (r : Answer). ⌜ outcomeOf r ≡ multiplication kept a b ⌝ }
+{
+    let first = measure(a);
+    if !first.good {
+        return Answer::refused(Verdict::BadModel);
+    }
+    let second = measure(b);
+    if !second.good {
+        return Answer::refused(Verdict::BadModel);
+    }
+    let degree = if kept == KEEP_ALL {
+        Model::MAX_DEGREE
+    } else {
+        kept
+    };
+    if Model::MAX_DEGREE < degree {
+        return Answer::refused(Verdict::BadValue);
+    }
+    multiply_good(a, b, first.weight, second.weight, degree)
+}

@@ -1,0 +1,56 @@
+// The list C of two lists of coefficients, added to a list: one walk over all pairs.
+ghost use mathlib.Core.Path.{_≡_};
+ghost use Prim.Native.Nat.{suc, _+_, _*_, _^_, _<_, _≤_};
+ghost use lib.IntN.{natAbs};
+ghost use lib.ListN.{length};
+ghost use Rattle.integer.specs.Integer.{ℤ-ring};
+ghost use Rattle.chebyshev.specs.Coefficients.{weight};
+ghost use Rattle.chebyshev.specs.Product.{distance as distanceOf, addAt, addPair, addRow, addRows};
+
+// |i - j|
+fn distance(i: usize, j: usize) -> usize
+    ensures { λ r. ⌜ r ≡ distanceOf i j ⌝ }
+{
+    if i < j { j - i } else { i - j }
+}
+
+// v at place k.
+fn add_at(c: &mut [i64], k: usize, v: i64)
+    requires { ⌜ (k < length (now c)) × (weight (now c) + natAbs v < 2 ^ 63) ⌝ }
+    ensures { λ _. ⌜ now (c .exit) ≡ addAt ℤ-ring (now (c .entry)) k v ⌝ }
+{
+    c[k] = c[k] + v;
+}
+
+// The pair (i, j) with the product v: a pair with i + j = |i - j| counts twice.
+fn add_pair(c: &mut [i64], i: usize, j: usize, v: i64)
+    requires { ⌜ (i + j < length (now c)) × (weight (now c) + 2 * natAbs v < 2 ^ 63) ⌝ }
+    ensures { λ _. ⌜ now (c .exit) ≡ addPair ℤ-ring (now (c .entry)) i j v ⌝ }
+{
+    add_at(c, i + j, v);
+    add_at(c, distance(i, j), v);
+}
+
+// The pairs of x, at place i, with each element of b.
+fn add_row(c: &mut [i64], x: i64, i: usize, b: &[i32])
+    requires { ⌜ (i + length (now b) ≤ length (now c)) × (weight (now c) + 2 * natAbs x * weight (now b) < 2 ^ 63) ⌝ }
+    ensures { λ _. ⌜ now (c .exit) ≡ addRow ℤ-ring (now (c .entry)) x i 0 (now (b .entry)) ⌝ }
+{
+    let mut j = 0;
+    while j < b.len() {
+        add_pair(c, i, j, x * (b[j] as i64));
+        j += 1;
+    }
+}
+
+// C(a, b), which c has room for.
+pub fn add_products(c: &mut [i64], a: &[i32], b: &[i32])
+    requires { ⌜ (length (now a) + length (now b) ≤ suc (length (now c))) × (weight (now c) + 2 * weight (now a) * weight (now b) < 2 ^ 63) ⌝ }
+    ensures { λ _. ⌜ now (c .exit) ≡ addRows ℤ-ring (now (c .entry)) 0 (now (a .entry)) (now (b .entry)) ⌝ }
+{
+    let mut i = 0;
+    while i < a.len() {
+        add_row(c, a[i] as i64, i, b);
+        i += 1;
+    }
+}

@@ -1,0 +1,68 @@
+"""The examples P1 to P11 and the other stated numbers of document 01, asserted
+against the oracle.  compare.py runs them before every comparison."""
+
+import oracle as o
+from oracle import S, constant, model
+
+
+def check_tables():
+    """The two conversions of the power basis undo each other for every T_k."""
+    for k in range(o.TOP + 1):
+        unit = [0] * k + [1]
+        assert o.chebyshev_form(o.power_form(unit)) == [0] * k + [1 << o.SCALE]
+
+
+def check_examples():
+    check_tables()
+    t1, t2 = model([0, S]), model([0, 0, S])
+    assert o.multiply(t1, t1, 2) == (0, model([524288, 0, 524288]))            # P1
+    assert o.multiply(t1, t1, 1) == (0, model([524288, 0], 524288))            # P2
+    half = constant(524288)
+    assert o.multiply(constant(1), half, 32) == (0, constant(1, 1))            # P3
+    assert o.multiply(constant(-1), half, 32) == (0, constant(0, 1))           # P4
+    assert o.integrate(constant(S)) == (0, model([S, S], 1))                   # P5
+    assert o.evaluate(t2, 524288) == (0, -524289, -524287)                     # P6
+    third = constant(349525)
+    assert o.quotient(65, constant(S), constant(3 * S), third, third) == (
+        0, constant(349525, 2), 1, 1, 1)                                       # P7
+    h, w = constant(2 * S), constant(S // 4)
+    number, result = o.root(65, constant(2097152), h, w)[:2]
+    assert (number, result) == (0, constant(2 * S, S))                         # P8
+    refused_8 = (8, o.ZERO_MODEL, 0, 0, 0)
+    assert o.root(65, constant(2097151), h, w) == refused_8                    # P9
+    assert o.root(65, constant(S), h, w) == refused_8                          # P10
+    assert o.check_job(b'') == ('refused', 10, 0)                              # P11
+
+    # The other borders that document 01 states.
+    assert o.integrate(model([0] * 31 + [32]))[0] == 0
+    assert o.integrate(model([0] * 32 + [32])) == (3, o.ZERO_MODEL)
+    assert o.add(constant(1 << 28), constant(0))[0] == 0
+    assert o.add(constant((1 << 28) + 1), constant(0))[0] == 2
+    for sign in (1, -1):
+        assert o.evaluate(t1, sign * S)[0] == 0
+        assert o.evaluate(t1, sign * (S + 1)) == (4, 0, 0)
+
+    # The first slip: the negative pair for the root of 4S.
+    assert o.root(65, constant(4 * S), constant(-2 * S), constant(-S // 4))[0] == 7
+    # 8 b M past 64 bits (blueprint B8.1), signed and unsigned.
+    for radius in (0, 4):
+        assert o.root(65, constant(1 << 28, radius), constant(1 << 11),
+                      constant(1 << 28))[0] == 8
+    # f longer than C(g, h) (blueprint A-7).
+    one = constant(S)
+    number, result, m, n, b = o.quotient(65, model([S, 0, 0, 0, 0, S]), one, one, one)
+    assert (number, m, n, b, result.radius) == (0, 0, S, S, S)
+    # The example job and its text.
+    job = example_job()
+    assert o.check_job(job) == ('accepted', 2, [constant(4 * S), constant(2 * S)])
+    assert o.report_text(job) == '0 0 0\n1 0 0\naccepted 2\n'
+    assert o.report_text(b'') == 'refused 10 0\n'
+    assert o.report_text(bytes(65537)) == 'too long\n'
+
+
+def example_job():
+    """Edition 1, load of 4S, root with h = 2S and w = S/4, end; by hand."""
+    def block(value):
+        return bytes([0]) + value.to_bytes(4, 'little') + bytes(128)
+    return (b'\x01\x01' + b'\x10' + block(4 * S) + bytes(4)
+            + b'\x21\x00' + block(2 * S) + block(S // 4) + b'\x00')

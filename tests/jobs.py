@@ -1,0 +1,141 @@
+"""Writing jobs: bytes of single commands, and a builder that keeps the models
+of the results so far, so that fitting candidates can be found for the next."""
+
+import oracle as o
+from candidates import quotient_candidates, root_candidates
+from cases import random_degree, random_model, signed, spread
+from oracle import LIMIT, PLACES, S, model
+
+
+def block(m):
+    """A degree byte and 33 signed 32-bit coefficients."""
+    return bytes([m.degree & 255]) + b''.join(
+        c.to_bytes(4, 'little', signed=True) for c in m.coefficients)
+
+
+EDITION_1 = bytes([o.EDITION, 1])
+END = bytes([o.END])
+
+
+def load(m):
+    return bytes([o.LOAD]) + block(m) + (m.radius & 0xFFFFFFFF).to_bytes(4, 'little')
+
+
+def add(i, j):
+    return bytes([o.ADD, i, j])
+
+
+def subtract(i, j):
+    return bytes([o.SUBTRACT, i, j])
+
+
+def multiply(i, j, kept):
+    return bytes([o.MULTIPLY, i, j, kept])
+
+
+def quotient(i, j, h, w):
+    return bytes([o.QUOTIENT, i, j]) + block(h) + block(w)
+
+
+def root(i, h, w):
+    return bytes([o.ROOT, i]) + block(h) + block(w)
+
+
+class Builder:
+    """A job so far: its commands as separate bytes, and the results' models."""
+
+    def __init__(self):
+        self.commands = [EDITION_1]
+        self.results = []
+
+    def _keep(self, command, number, result):
+        """Keeps a command only if it is not refused; says whether it was kept."""
+        if number or len(self.results) == o.MAX_RESULTS:
+            return False
+        self.commands.append(command)
+        self.results.append(result)
+        return True
+
+    def load(self, m):
+        return self._keep(load(m), 0 if o.good(m) else 2, m)
+
+    def add(self, i, j):
+        return self._keep(add(i, j), *o.add(self.results[i], self.results[j]))
+
+    def subtract(self, i, j):
+        return self._keep(subtract(i, j), *o.subtract(self.results[i], self.results[j]))
+
+    def multiply(self, i, j, kept=255):
+        return self._keep(multiply(i, j, kept),
+                          *o.multiply(self.results[i], self.results[j], kept))
+
+    def quotient(self, i, j, degree=32, found=None):
+        f, g = self.results[i], self.results[j]
+        found = found or quotient_candidates(f, g, degree)
+        if found is None:
+            return False
+        return self._keep(quotient(i, j, *found), *o.quotient(65, f, g, *found)[:2])
+
+    def root(self, i, degree=32, found=None):
+        f = self.results[i]
+        found = found or root_candidates(f, degree)
+        if found is None:
+            return False
+        return self._keep(root(i, *found), *o.root(65, f, *found)[:2])
+
+    def job(self):
+        return b''.join(self.commands) + END
+
+    def prefix(self):
+        """All commands so far, without an end."""
+        return b''.join(self.commands)
+
+
+def curve_model(rng):
+    """A curve away from zero, as stretches have, with a small radius."""
+    degree = random_degree(rng)
+    base = int(S * 2 ** rng.uniform(-2, 4))
+    row = spread(rng, degree, int(base * rng.choice((0.1, 0.5, 1.5))))
+    row[0] += signed(rng, base) if rng.random() < 0.3 else base
+    return model(row, rng.choice((0, 0, 1, rng.randint(0, 200))))
+
+
+def grow(rng, builder, wanted):
+    """Adds commands, a random mix, until the builder has the wanted results."""
+    while len(builder.results) < wanted:
+        count = len(builder.results)
+        kind = rng.random()
+        if count == 0 or kind < 0.25:
+            builder.load(curve_model(rng) if rng.random() < 0.9 else random_model(rng))
+            continue
+        i, j = rng.randrange(count), rng.randrange(count)
+        if kind < 0.4:
+            builder.add(i, j)
+        elif kind < 0.55:
+            builder.subtract(i, j)
+        elif kind < 0.75:
+            builder.multiply(i, j, rng.choice((255, 32, rng.randint(0, 32))))
+        elif kind < 0.88:
+            builder.quotient(i, j, rng.choice((32, 24, random_degree(rng))))
+        else:
+            builder.root(i, rng.choice((32, 24, random_degree(rng))))
+
+
+def random_builder(rng, wanted=None):
+    builder = Builder()
+    if wanted is None:
+        wanted = rng.choice((0, 1, 2, 3, 4, 5, 6, 8, 10, 14))
+    grow(rng, builder, wanted)
+    return builder
+
+
+def full_builder(rng):
+    """A cheap job with 32 results, so that the next one is the 33rd."""
+    builder = Builder()
+    builder.load(model([S, S // 3], 1))
+    builder.load(model([signed(rng, S // 5)] * PLACES))
+    while len(builder.results) < o.MAX_RESULTS:
+        i = len(builder.results) - 1
+        if o.weight(builder.results[i].coefficients) > LIMIT // 4 or not builder.subtract(i, 1):
+            builder.subtract(0, 1)
+    return builder

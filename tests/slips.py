@@ -1,0 +1,132 @@
+"""Are the cases sharp?  Puts one slip at a time into a copy of plain.c and
+demands that compare.py finds a difference.  Slow; for people, not for the gate.
+
+  slips.py [part of a slip's name]
+"""
+
+import subprocess
+import sys
+import tempfile
+from pathlib import Path
+
+HERE = Path(__file__).resolve().parent
+PLAIN = HERE.parent / 'bench' / 'plain.c'
+TESTS = 'quotient,root'
+M_LINE = 'int64_t m = up(weight(c, LIST) + 2 * m_weight'
+N_LINE = 'int64_t n = up(weight(c, LIST) + 2 * (int64_t)UNIT * f[RADIUS],'
+B_LINE = '    if (b > (UNIT - m) * (UNIT - m) / (8 * m_weight))'
+
+# Name, entries that must show it, old text (its first place), new text.
+SLIPS = [
+    ('helper sign left out', 'root', 'if (sum <= 0)', 'if (sum == 0)'),
+    ('helper sum zero passes', 'root', 'if (sum <= 0)', 'if (sum < 0)'),
+    ('helper sign after m', 'root', 'if (sum <= 0)', 'if (sum <= 0 && sum > -1000)'),
+    ('pair 0,0 once', 'multiply', 'c[i > j ? i - j : j - i] += p;',
+     'if (i + j) c[i > j ? i - j : j - i] += p;'),
+    ('equal pairs once', 'multiply', 'c[i > j ? i - j : j - i] += p;',
+     'if (i != j || !i) c[i > j ? i - j : j - i] += p;'),
+    ('m downwards', TESTS, M_LINE, M_LINE.replace('up(', 'down(')),
+    ('m to the nearest', TESTS, M_LINE, M_LINE.replace('up(', 'near(')),
+    ('root m downwards', 'root', 'int64_t m = up(weight(c, LIST), UNIT)',
+     'int64_t m = down(weight(c, LIST), UNIT)'),
+    ('N downwards', 'root', N_LINE, N_LINE.replace('up(', 'down(')),
+    ('N to the nearest', 'root', N_LINE, N_LINE.replace('up(', 'near(')),
+    ('b downwards', TESTS, 'int64_t b = up(', 'int64_t b = down('),
+    ('radius downwards', 'quotient', 'radius = up(b * UNIT', 'radius = down(b * UNIT'),
+    ('root radius not doubled', 'root', 'up(2 * b * UNIT', 'up(b * UNIT'),
+    ('near cuts towards zero', 'multiply', 'return down(2 * n + d, 2 * d);',
+     'return (2 * n + d) / (2 * d);'),
+    ('near cuts, integrate', 'integrate', 'return down(2 * n + d, 2 * d);',
+     'return (2 * n + d) / (2 * d);'),
+    ('near cuts, evaluate', 'evaluate', 'return down(2 * n + d, 2 * d);',
+     'return (2 * n + d) / (2 * d);'),
+    ('ties downwards', 'multiply', 'return down(2 * n + d, 2 * d);',
+     'return -down(d - 2 * n, 2 * d);'),
+    ('ties downwards, integrate', 'integrate', 'return down(2 * n + d, 2 * d);',
+     'return -down(d - 2 * n, 2 * d);'),
+    ('ties downwards, evaluate', 'evaluate', 'return down(2 * n + d, 2 * d);',
+     'return -down(d - 2 * n, 2 * d);'),
+    ('dropped not paid', 'multiply', 'error += weight(c + degree + 1, LIST - degree - 1);', ''),
+    ('radii product left out', 'multiply', ' + e_a * e_b);', ');'),
+    ('8bM wraps signed', 'root', B_LINE,
+     '    if ((UNIT - m) * (UNIT - m) < (int64_t)(8 * (uint64_t)b * (uint64_t)m_weight))'),
+    ('8bM wraps unsigned', 'root', B_LINE,
+     '    if ((uint64_t)((UNIT - m) * (UNIT - m)) < 8 * (uint64_t)b * (uint64_t)m_weight)'),
+    ('8bM equality refused', 'root', B_LINE, B_LINE.replace('b >', 'b >=')),
+    ('8bM one too many', 'root', B_LINE, B_LINE.replace('b >', 'b - 1 >')),
+    ('8bM with 4', 'root', B_LINE, B_LINE.replace('8 *', '4 *')),
+    ('f longer than C', 'quotient',
+     '    int64_t n = up(weight(c, LIST) + 2 * (int64_t)UNIT * f[RADIUS] + 2 * h',
+     '    int64_t n = up(weight(c, g[0] + h[0] + 1) + 2 * (int64_t)UNIT * f[RADIUS] + 2 * h'),
+    ('f longer than C, root', 'root', N_LINE, N_LINE.replace('LIST', '2 * h[0] + 1')),
+    ('f radius left out', 'root', '+ 2 * (int64_t)UNIT * f[RADIUS], 2', '+ 0 * f[RADIUS], 2'),
+    ('m = S passes', TESTS, 'if (m >= UNIT)', 'if (m > UNIT)'),
+    ('m = S - 1 refused', TESTS, 'if (m >= UNIT)', 'if (m >= UNIT - 1)'),
+    ('N = 2^28 refused', 'quotient', 'if (n > LIMIT)', 'if (n >= LIMIT)'),
+    ('N one more passes', 'quotient', 'if (n > LIMIT)', 'if (n > LIMIT + 1)'),
+    ('N narrowed', 'quotient', 'if (n > LIMIT)', 'if ((int32_t)n > LIMIT)'),
+    ('m narrowed', 'quotient', 'if (m >= UNIT)', 'if ((int32_t)m >= UNIT)'),
+    ('quotient radius narrowed', 'quotient', '    if (radius > LIMIT)\n        return BAD_RESULT;\n    accept',
+     '    if ((int32_t)radius > LIMIT)\n        return BAD_RESULT;\n    accept'),
+    ('weight in 32 bits', 'add', '    int64_t sum = 0;\n    for (int k = 1;', '    int32_t sum = 0;\n    for (int k = 1;'),
+    ('result weight at the limit', 'add', 'weight(row, degree + 1) > LIMIT', 'weight(row, degree + 1) >= LIMIT'),
+    ('result radius one more', 'multiply', 'radius > LIMIT || weight', 'radius > LIMIT + 1 || weight'),
+    ('top zeros cut', 'subtract', '    out[0] = degree;',
+     '    while (degree > 0 && row[degree] == 0) degree--;\n    out[0] = degree;'),
+    ('kept 255 unknown', 'multiply', 'if (kept == 255)', 'if (kept == 254)'),
+    ('kept as a byte', 'multiply', 'if (kept == 255)', 'kept &= 255;\n    if (kept == 255)'),
+    ('integral radius', 'integrate', '(int64_t)a[RADIUS] + degree', '(int64_t)a[RADIUS] + a[0]'),
+    ('integral a_0 once', 'integrate', 'k == 1 ? 2 * (int64_t)a[1]', 'k == 1 ? (int64_t)a[1]'),
+    ('W left out', 'evaluate', 'down(4 * v - w,', 'down(4 * v,'),
+    ('low cut towards zero', 'evaluate', 'down(4 * v - w, (int64_t)1 << 32)', '(4 * v - w) / ((int64_t)1 << 32)'),
+    ('p = S refused', 'evaluate', 'p > UNIT', 'p >= UNIT'),
+    ('p = -S refused', 'evaluate', 'p < -UNIT', 'p <= -UNIT'),
+    ('p by its absolute value', 'evaluate', 'p < -UNIT || p > UNIT', '(p < 0 ? (int32_t)(0u - (uint32_t)p) : p) > UNIT'),
+    ('scratch left', TESTS, '    memset(scratch, 0, LIST * sizeof *scratch);', ''),
+    ('report left', TESTS, '    memset(report, 0, 3 * sizeof *report);', ''),
+    ('job: scratch left', 'check', '    memset(scratch, 0, LIST * sizeof *scratch);\n    if', '    if'),
+    ('job: work left on refusal', 'check', '        memset(work, 0, WORK * sizeof *work);\n', ''),
+    ('job: work not cleared', 'check', '    memset(work, 0, WORK * sizeof *work);\n    uint32_t', '    uint32_t'),
+    ('job: count before name', 'check', '        for (size_t i = 0; i < names; i++)',
+     '        if (*count == RESULTS)\n            return TOO_MANY;\n        for (size_t i = 0; i < names; i++)'),
+    ('job: 32nd result refused', 'check', 'if (*count == RESULTS)', 'if (*count == RESULTS - 1)'),
+    ('job: name of itself', 'check', 'operands[i] >= *count', 'operands[i] > *count'),
+    ('job: name before d', 'check', "operands[2] != 255)", "operands[2] != 255 && operands[0] < *count)"),
+    ('job: edition again', 'check', '(byte == 0x01) != (*command == 0)', '(byte != 0x01 && *command == 0)'),
+    ('job: edition 2', 'check', 'if (operands[0] != 1)', 'if (operands[0] == 0 || operands[0] > 2)'),
+    ('job: after end ignored', 'check', 'position < job_len ? AFTER_END : 0', '0'),
+    ('job: radius as signed', 'check', '|| radius > LIMIT)', '|| (int32_t)radius > LIMIT)'),
+    ('job: d 254', 'check', 'operands[2] != 255)', 'operands[2] < 254)'),
+    ('job: later tests waved through', 'check', '    if (byte == 0x20)\n',
+     '    if (out != work && work + 10 * MODEL < out) {\n        memcpy(out, h, sizeof h);\n'
+     '        return 0;\n    }\n    if (byte == 0x20)\n'),
+]
+
+
+def found(slip, folder):
+    name, entries, old, new = slip
+    text = PLAIN.read_text()
+    assert old in text, f'{name}: the text to alter is gone'
+    spoiled = Path(folder) / 'plain.c'
+    spoiled.write_text(text.replace(old, new, 1))
+    (Path(folder) / 'plain.h').write_text((PLAIN.parent / 'plain.h').read_text())
+    run = subprocess.run([sys.executable, str(HERE / 'compare.py'), '--plain', str(spoiled),
+                          '--entries', entries, '--cases', '5000'],
+                         stdout=subprocess.PIPE, stderr=subprocess.STDOUT, text=True)
+    last = run.stdout.strip().splitlines()[-1]
+    # A harness that dies (a division by zero, say) is a find as well.
+    sharp = run.returncode == 1 or 'the harness ended with -' in last
+    print(f'{"found " if sharp else "MISSED"} {name}: {last}', flush=True)
+    return sharp
+
+
+def main():
+    part = sys.argv[1] if len(sys.argv) > 1 else ''
+    with tempfile.TemporaryDirectory() as folder:
+        missed = [slip[0] for slip in SLIPS if part in slip[0] and not found(slip, folder)]
+    print(f'{len(missed)} missed', *missed)
+    sys.exit(1 if missed else 0)
+
+
+if __name__ == '__main__':
+    main()

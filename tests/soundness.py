@@ -1,0 +1,195 @@
+"""Does what was accepted hold?  Exact checks at random fractions x = p/q.
+
+Each soundness_*() takes what was handed in and what came out, draws a fraction
+and allowed values there, and raises AssertionError when a value that the
+result should cover is not covered.  compare.py calls check() on a sample.
+"""
+
+from fractions import Fraction
+from math import isqrt
+
+import oracle as o
+from oracle import LIMIT, S
+
+FINE = 1 << 96              # boxes that may be wider are rounded out to 1/FINE
+
+
+def random_point(rng):
+    """p and q with q >= 1 and |p| <= q; the ends and the middle too."""
+    q = rng.choice((1, 2, 3, rng.randint(1, 50), 1 << rng.randint(1, 10)))
+    return rng.randint(-q, q), q
+
+
+def value(m, point):
+    """The model's middle value at the point, as a fraction."""
+    p, q = point
+    return Fraction(o.value_numerator(m.coefficients, p, q), q ** o.MAX_DEGREE * S)
+
+
+def radius(m):
+    return Fraction(m.radius, S)
+
+
+def allows(m, point, v):
+    return abs(v - value(m, point)) <= radius(m)
+
+
+def allowed_value(rng, m, point):
+    """Some value the model allows there: often an end."""
+    share = rng.choice((Fraction(1), Fraction(-1), Fraction(rng.randint(-99, 99), 99)))
+    return value(m, point) + share * radius(m)
+
+
+def soundness_add(rng, a, b, result, sign=1):
+    x = random_point(rng)
+    u, v = allowed_value(rng, a, x), allowed_value(rng, b, x)
+    assert allows(result, x, u + sign * v), 'sum not covered'
+
+
+def soundness_multiply(rng, a, b, result):
+    x = random_point(rng)
+    u, v = allowed_value(rng, a, x), allowed_value(rng, b, x)
+    assert allows(result, x, u * v), 'product not covered'
+
+
+def soundness_integrate(rng, a, result):
+    """A list of fractions that differs by at most e units in total: its exact
+    primitive from -1 differs from the result by at most the radius in total."""
+    changes = [Fraction(0)] * (a.degree + 1)
+    left = Fraction(a.radius)
+    for k in rng.sample(range(a.degree + 1), min(3, a.degree + 1)):
+        part = left * Fraction(rng.randint(0, 9), 9)
+        changes[k] = rng.choice((part, -part))
+        left -= part
+    changes[rng.randint(0, a.degree)] += 0 if any(changes) else left
+    # The primitive of the change alone, scaled to whole numbers.
+    scale = 9 ** 3
+    row = [int(c * scale) for c in changes]
+    assert sum(map(abs, row)) <= a.radius * scale
+    whole = [c * scale for c in a.coefficients[:a.degree + 1]]
+    moved = [c + d for c, d in zip(whole, row)]
+    exact = o.primitive_numerators(moved)
+    unit = o.PRIMITIVE_DENOMINATOR * scale
+    exact += [0] * (a.degree + 2 - len(exact))
+    exact[0] = -sum(c if k % 2 == 0 else -c for k, c in enumerate(exact) if k)
+    far = sum(abs(c - r * unit) for c, r in zip(exact, result.coefficients))
+    assert far <= result.radius * unit, 'primitive not covered'
+
+
+def soundness_quotient(rng, f, g, result):
+    x = random_point(rng)
+    assert abs(value(g, x)) > radius(g), 'the divisor allows zero'
+    u, v = allowed_value(rng, f, x), allowed_value(rng, g, x)
+    assert allows(result, x, u / v), 'quotient not covered'
+
+
+def soundness_root(rng, f, result):
+    x = random_point(rng)
+    assert value(f, x) >= radius(f), 'a negative value is allowed under the root'
+    v = allowed_value(rng, f, x)
+    low = value(result, x) - radius(result)
+    high = value(result, x) + radius(result)
+    assert high >= 0 and high * high >= v, 'root above the model'
+    assert low <= 0 or low * low <= v, 'root below the model'
+
+
+# ---- Whole jobs: boxes -----------------------------------------------------------------
+
+def rounded_out(low, high):
+    """A box on the grid of 1/FINE that contains the given one."""
+    return (Fraction(low.numerator * FINE // low.denominator, FINE),
+            Fraction(o.up(high.numerator * FINE, high.denominator), FINE))
+
+
+def root_box(rng, box):
+    """low = 0 or low^2 <= the old low; high^2 >= the old high."""
+    low, high = box
+    if low <= 0 or rng.random() < 0.1:
+        new_low = Fraction(0)
+    else:
+        new_low = Fraction(isqrt(low.numerator * FINE ** 2 // low.denominator), FINE)
+    new_high = Fraction(0)
+    if high > 0:
+        new_high = Fraction(isqrt(o.up(high.numerator * FINE ** 2, high.denominator) - 1) + 1, FINE)
+    return new_low, max(new_high, new_low)
+
+
+def commands_of(job):
+    """Command byte and operands of each command of an accepted job that makes
+    a result."""
+    position = 2
+    while job[position] != o.END:
+        width = o.OPERAND_WIDTH[job[position]]
+        yield job[position], job[position + 1:position + 1 + width]
+        position += 1 + width
+
+
+def next_box(rng, byte, operands, boxes, x):
+    """A permitted box for one more result, or None where none is permitted."""
+    if byte == o.LOAD:
+        loaded = o.read_block(operands, 0, int.from_bytes(operands[o.BLOCK:], 'little'))
+        v = allowed_value(rng, loaded, x)
+        return v, v
+    named = [boxes[name] for name in operands[:o.RESULT_BYTES[byte]]]
+    if None in named:
+        return None
+    if byte == o.ROOT:
+        return root_box(rng, named[0])
+    (low, high), (low2, high2) = named
+    if byte == o.ADD:
+        return low + low2, high + high2
+    if byte == o.SUBTRACT:
+        return low - high2, high - low2
+    if byte == o.QUOTIENT:
+        if low2 <= 0 <= high2:
+            return None
+        ends = [a / b for a in (low, high) for b in (low2, high2)]
+    else:
+        ends = [a * b for a in (low, high) for b in (low2, high2)]
+    return rounded_out(min(ends), max(ends))
+
+
+def soundness_job(rng, job, results):
+    """Requirement 3 at one fraction, for one choice of permitted boxes.
+    Returns how many results had a box."""
+    x = random_point(rng)
+    boxes = []
+    for (byte, operands), result in zip(commands_of(job), results, strict=True):
+        if byte == o.QUOTIENT:
+            g = results[operands[1]]
+            assert abs(value(g, x)) > radius(g), 'the divisor allows zero'
+        if byte == o.ROOT:
+            f = results[operands[0]]
+            assert value(f, x) >= radius(f), 'a negative value is allowed under the root'
+        box = next_box(rng, byte, operands, boxes, x)
+        boxes.append(box)
+        if box is not None:
+            middle = value(result, x)
+            assert max(box[0], middle - radius(result)) <= min(box[1], middle + radius(result)), \
+                'box and model do not overlap'
+        assert 0 <= result.radius <= LIMIT
+    return sum(box is not None for box in boxes)
+
+
+# ---- By entry ----------------------------------------------------------------------------
+
+def check(rng, case):
+    """Checks one accepted case of compare.py."""
+    entry, inputs = case.entry, case.inputs
+    if entry == 'add':
+        soundness_add(rng, *inputs, o.add(*inputs)[1])
+    elif entry == 'subtract':
+        soundness_add(rng, *inputs, o.subtract(*inputs)[1], -1)
+    elif entry == 'multiply':
+        soundness_multiply(rng, *inputs, o.multiply(*inputs, case.scalar)[1])
+    elif entry == 'integrate':
+        soundness_integrate(rng, *inputs, o.integrate(*inputs)[1])
+    elif entry == 'quotient':
+        f, g, h, w = inputs
+        soundness_quotient(rng, f, g, o.quotient(65, f, g, h, w)[1])
+    elif entry == 'root':
+        f, h, w = inputs
+        soundness_root(rng, f, o.root(65, f, h, w)[1])
+    elif entry == 'check':
+        soundness_job(rng, inputs[0], o.check_job(inputs[0])[2])
+    # evaluate asserts its bounds on every call.
