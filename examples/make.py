@@ -16,7 +16,7 @@ sys.path.insert(0, str(HERE.parent / 'tests'))
 
 import jobs                                                             # noqa: E402
 import oracle as o                                                      # noqa: E402
-from candidates import NODE_POINTS, from_samples, root_candidates       # noqa: E402
+from candidates import NODE_POINTS, from_samples, root_candidates, samples  # noqa: E402
 from examples_of_01 import example_job                                  # noqa: E402
 from jobs import Builder                                                # noqa: E402
 from oracle import S, constant, model                                   # noqa: E402
@@ -104,8 +104,19 @@ def refused():
             + jobs.root(0, constant(-2 * S), constant(-S // 4)) + jobs.END)
 
 
+def between_instants():
+    """The owner's accident: g = 227 x^2 + 50 units, f = g + 2 units, h = 1. Of 500 equidistant
+    instants the two nearest to 0 see f/g deviate from h by 2,085 units (2 micrometres); at 0
+    it deviates by 41,943 (40 micrometres). No helper can have it accepted with less."""
+    half = 227 * S // 2
+    f, g = model([half + 52, 0, half]), model([half + 50, 0, half])
+    w = from_samples([1 / v for v in samples(g.coefficients)], TEST_DEGREE)
+    return (jobs.EDITION_1 + jobs.load(f) + jobs.load(g)
+            + jobs.quotient(0, 1, constant(S), w) + jobs.END)
+
+
 EXAMPLES = {'root_of_4': example_job, 'stretch': stretch, 'stretch32': stretch32,
-            'most_work': most_work, 'refused': refused}
+            'most_work': most_work, 'refused': refused, 'between_instants': between_instants}
 
 
 def main():

@@ -29,14 +29,8 @@ module _ {A : Type 0} {n : ℕ} {z out : List A} where
 -- ---- a list of n places that holds z as far as k, and d beyond: `take k z ++ replicate (n - k) d`
 
 module _ {A : Type 0} (d : A) (z : List A) (n : ℕ) where
-  pub pad-none : replicate n d ≡ take 0 z ++ replicate (n - 0) d
-  pad-none = let e : n - 0 ≡ n = omega arith in rw e
-
   pub pad-step : (k : ℕ) → k < length z → k < n → set (take k z ++ replicate (n - k) d) k (getD z k d) ≡ take (k + 1) z ++ replicate (n - (k + 1)) d
   pad-step k l h =
       let r = replicate (n - suc k) d in
       let e : n - k ≡ suc (n - suc k) = omega arith in
       rw (e, add-one k, take-suc z k d l) (set-at (take k z) d r (getD z k d) k (length-take-le k z (omega arith)) ∙ sym (append-snoc (take k z) (getD z k d) r))
-
-  pub pad-done : (k : ℕ) → length z ≤ k → take k z ++ replicate (n - k) d ≡ z ++ replicate (n - k) d
-  pad-done k l = rw (take-all k z l)

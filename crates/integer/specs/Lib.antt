@@ -17,4 +17,6 @@ pub mod FractionRounding
 pub mod Archimedean
 pub mod Machine
 pub mod Fill
+pub mod Filling
+pub mod Clearing
 pub mod Examples

@@ -1,6 +1,6 @@
 -- The answer of an operation that has formed its result, from what code has of it: the degree n, the weight w, the radius
 -- e, and the coefficients cs, which count only where w is within its limit.
-use mathlib.Core.Path.{_≡_, refl, ap}
+use mathlib.Core.Path.{_≡_, refl}
 use mathlib.Core.Bool.{Bool, true, false, _||_}
 use mathlib.Core.List.{List, [], _∷_}
 use Prim.Native.Nat.{ℕ, _≤_}

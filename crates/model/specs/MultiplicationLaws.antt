@@ -1,16 +1,15 @@
 -- Laws of multiplication (Operations.antt) for code that forms the product.
-use mathlib.Core.Path.{_≡_, refl, sym, _∙_, ap}
+use mathlib.Core.Path.{_≡_, sym, _∙_, ap}
 use mathlib.Core.Bool.{true}
 use mathlib.Core.List.{[], _∷_}
 use Prim.Native.Nat.{ℕ, suc, _+_, _-_, _*_, _≤_}
 use native.Mathlib.Omega.{arith}
-use lib.Dec.{leb}
 use lib.ListN.{take}
 use borrow.Author.Tests.{le-leb, ne-eqb}
 use Rattle.integer.specs.Rounding.{upℕ}
 use Rattle.chebyshev.specs.Coefficients.{weight}
 use Rattle.chebyshev.specs.Weight.{weight-append-zeros}
-use Rattle.model.specs.Models.{scale, places, maxDegree, good, tooLarge, firstRefusal, Outcome, outcome}
+use Rattle.model.specs.Models.{scale, places, maxDegree, good, tooLarge, firstRefusal, outcome}
 use Rattle.model.specs.Operations.{keptDegree, productDegree, productList, productLoss, productModel, rounded, multiplication}
 use Rattle.model.specs.Formed.{formedOutcome, formed-is}
 use Rattle.model.specs.RoundingPass.{RoundedFrom}

@@ -92,17 +92,17 @@ fn multiply_good(a: Model, b: Model, weight_a: u64, weight_b: u64, kept: u32) ->
     let degree = if kept < top { kept } else { top };
     let first = a.coefficients;
     let second = b.coefficients;
-    let sum = round_product(
+    let product = round_product(
         &first[..a.degree as usize + 1],
         &second[..b.degree as usize + 1],
         degree as usize + 1,
     );
-    let coefficients = sum.coefficients;
-    let loss = sum.loss + radius_loss(weight_a, a.radius as u64, weight_b, b.radius as u64);
+    let coefficients = product.coefficients;
+    let loss = product.loss + radius_loss(weight_a, a.radius as u64, weight_b, b.radius as u64);
     Answer::formed(
         degree,
         coefficients,
-        sum.weight,
+        product.weight,
         up_unsigned(loss, UNIT as u64),
     )
 }

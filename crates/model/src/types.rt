@@ -1,6 +1,6 @@
 // A model: degree, coefficients of T_0 .. T_32 in units of 1/SCALE, radius in units.
 ghost use mathlib.Core.Path.{_≡_};
-ghost use Rattle.model.specs.Models.{modelOf, zeroModel, constantModel, answerOf, outcomeOf};
+ghost use Rattle.model.specs.Models.{modelOf, zeroModel, constantModel, numberOf, answerOf, outcomeOf};
 ghost use Rattle.model.specs.Formed.{formedOutcome};
 
 pub const PLACES: usize = 33;
@@ -20,7 +20,7 @@ pub struct Candidate {
     pub coefficients: [i32; PLACES],
 }
 
-// How an operation ends; `numberOf` of specs/ gives document 01's number of each.
+// How an operation ends; `number_of` gives document 01's number of each.
 pub enum Verdict {
     Accepted,
     ShortArea,
@@ -49,6 +49,27 @@ pub struct Bounds {
     pub verdict: Verdict,
     pub low: i64,
     pub high: i64,
+}
+
+pub fn number_of(verdict: Verdict) -> u32
+    ensures { λ r. ⌜ r ≡ numberOf verdict ⌝ }
+{
+    match verdict {
+        Verdict::Accepted => 0,
+        Verdict::ShortArea => 1,
+        Verdict::BadModel => 2,
+        Verdict::LargeResult => 3,
+        Verdict::PointOutside => 4,
+        Verdict::NotContracting => 5,
+        Verdict::LargeResidual => 6,
+        Verdict::HelperNotPositive => 7,
+        Verdict::NegativeDiscriminant => 8,
+        Verdict::BadValue => 9,
+        Verdict::JobEnds => 10,
+        Verdict::BytesAfterEnd => 11,
+        Verdict::NotAResult => 12,
+        Verdict::TooManyResults => 13,
+    }
 }
 
 impl Model {

@@ -1,14 +1,13 @@
 -- `add::combine` meets its contract. The loop fills the list a + sign·b from the front and sums its weight.
-use mathlib.Core.Path.{_≡_, refl, ap}
+use mathlib.Core.Path.{_≡_, ap}
 use mathlib.Core.List.{List}
-use Prim.Native.Nat.{ℕ, _+_, _-_, _*_, _^_, _<_, _≤_}
+use Prim.Native.Nat.{ℕ, _+_, _-_, _*_, _^_, _≤_}
 use native.Mathlib.Omega.{arith}
 use lib.IntN.{ℤ, pos, natAbs, _+ℤ_, _*ℤ_}
 use lib.ListN.{length, getD, drop, length-replicate}
 use mir.Syntax.{w32}
 use mir.Val.{SFits, toZ}
 use mir.Facts.{toZ-ofZ}
-use Rattle.integer.specs.Parts.{abs-mul}
 use Rattle.integer.specs.Integer.{ℤ-ring}
 use Rattle.integer.specs.Machine.{signed-needs, abs-fits, fits-widens}
 use Rattle.integer.specs.Fill.{Filled, fill-none, fill-step, fill-done}

@@ -3,14 +3,13 @@ use borrow.Author.Needs.{needs}
 use borrow.Author.Tests.{not-true, not-false}
 use mathlib.Core.Path.{_≡_, refl, sym, _∙_, ap}
 use mathlib.Core.Logic.{⊎-elim}
-use mathlib.Core.Bool.{true, not}
-use Prim.Native.Nat.{max}
+use mathlib.Core.Bool.{true}
 use native.Mathlib.Omega.{arith}
 use lib.ListN.{length}
 use mir.Facts.{toZ-ofZ}
 use Rattle.chebyshev.specs.Coefficients.{weight}
 use Rattle.model.specs.Models.{good, firstRefusal, outcome}
-use Rattle.model.specs.ModelLaws.{Good, good-is}
+use Rattle.model.specs.ModelLaws.{good-is}
 use Rattle.model.specs.Formed.{formedOutcome, formed-is}
 use Rattle.model.specs.Combination.{combinedModel, combination, combination-good}
 use Rattle.model.specs.declared.types.Model.{Model}

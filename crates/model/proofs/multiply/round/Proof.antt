@@ -14,12 +14,12 @@ use mir.Val.{SFits}
 use mir.Facts.{toZ-ofZ}
 use Rattle.integer.specs.Parts.{abs, apart, difference}
 use Rattle.integer.specs.Machine.{signed-needs, abs-fits}
-use Rattle.integer.specs.Fill.{pad-none, pad-step}
+use Rattle.integer.specs.Fill.{pad-step}
 use Rattle.chebyshev.specs.Coefficients.{weight}
 use Rattle.chebyshev.specs.Weight.{weight-step, weight-end, weight-at, weight-drop, weight-split}
 use Rattle.model.specs.Models.{places, maxWeight, scale}
 use Rattle.model.specs.Operations.{rounded, roundingLoss}
-use Rattle.model.specs.RoundingPass.{roundedAt, lossAt, loss-small, rounded-small, rounded-length, rounded-at, rounded-weight, loss-step, loss-end, loss-weight}
+use Rattle.model.specs.RoundingPass.{roundedAt, lossAt, loss-small, rounded-length, rounded-at, rounded-weight, loss-step, loss-end, loss-weight}
 use Rattle.model.proofs.multiply.round.Statement.{statement}
 use Rattle.model.proofs.multiply.round.Tie as tie
 

@@ -1,12 +1,12 @@
 -- `multiply::round_product` meets its contract: C ends where it is cut off.
 use borrow.Author.Needs.{needs}
-use mathlib.Core.Path.{_≡_, refl, sym, _∙_, ap}
+use mathlib.Core.Path.{_≡_, sym}
 use mathlib.Core.List.{List}
 use Prim.Native.Nat.{ℕ, _+_, _-_, _*_, _^_, _≤_}
 use native.Mathlib.Omega.{arith}
 use native.Mathlib.Nat.{mul-le-mul}
 use lib.IntN.{ℤ}
-use lib.ListN.{length, take, drop}
+use lib.ListN.{length, take}
 use lib.Seq.{length-take-le}
 use Rattle.integer.specs.Integer.{ℤ-ring}
 use Rattle.chebyshev.specs.Coefficients.{weight}
@@ -16,7 +16,7 @@ use Rattle.chebyshev.specs.ProductLaws.{length-product}
 use Rattle.chebyshev.specs.ProductWeight.{weight-product}
 use Rattle.chebyshev.specs.ProductEnd.{product-end}
 use Rattle.model.specs.Models.{productPlaces}
-use Rattle.model.specs.RoundingPass.{RoundedFrom, rounded-prefix}
+use Rattle.model.specs.RoundingPass.{rounded-prefix}
 use Rattle.model.proofs.multiply.round_product.Statement.{statement}
 use Rattle.model.proofs.multiply.round_product.Tie as tie
 

@@ -1,0 +1,403 @@
+/* Measures the library (ferruntzo_) beside the plain C version at -O2 (plain2_) and
+   at -O3 (plain3_) and the former check (former_), in one program.  bench/run builds
+   it, runs it and prints tables.
+
+     bench count JOB..          calls each case with each version and writes down each
+                                call (entry, case, version); for callgrind
+     bench time MILLISECONDS JOB..   best time of a call, versions taken in turn
+     bench stack JOB..          bytes of stack that a call writes to
+     bench former JOB..         the largest deviation that the former check finds
+
+   Every mode first compares all answers and areas of the three versions.  The last
+   JOB must hold a load and 31 roots; its first 1, 4 and 16 results are cases too. */
+#define _POSIX_C_SOURCE 200809L
+#include "ferruntzo.h"
+#include "former.h"
+
+#include <math.h>
+#include <stdio.h>
+#include <stdlib.h>
+#include <string.h>
+#include <time.h>
+#include <ucontext.h>
+
+typedef uint32_t multiply_entry(const int32_t *, size_t, const int32_t *, size_t, uint32_t,
+                                int32_t *, size_t);
+typedef uint32_t quotient_entry(const int32_t *, size_t, const int32_t *, size_t,
+                                const int32_t *, size_t, const int32_t *, size_t,
+                                int64_t *, size_t, int32_t *, size_t, uint64_t *, size_t);
+typedef uint32_t root_entry(const int32_t *, size_t, const int32_t *, size_t,
+                            const int32_t *, size_t,
+                            int64_t *, size_t, int32_t *, size_t, uint64_t *, size_t);
+typedef uint32_t check_entry(const uint8_t *, size_t, int32_t *, size_t, int64_t *, size_t,
+                             uint32_t *, size_t);
+multiply_entry plain2_multiply, plain3_multiply;
+quotient_entry plain2_quotient, plain3_quotient;
+root_entry plain2_root, plain3_root;
+check_entry plain2_check, plain3_check;
+
+struct version {
+    const char *name;
+    multiply_entry *multiply;
+    quotient_entry *quotient;
+    root_entry *root;
+    check_entry *check;
+};
+
+enum { LIBRARY, PLAIN_O2, PLAIN_O3, FORMER, VERSIONS };
+
+static const struct version versions[VERSIONS] = {
+    {"library", ferruntzo_multiply, ferruntzo_quotient, ferruntzo_root, ferruntzo_check},
+    {"O2", plain2_multiply, plain2_quotient, plain2_root, plain2_check},
+    {"O3", plain3_multiply, plain3_quotient, plain3_root, plain3_check},
+    {"former", NULL, NULL, NULL, NULL},
+};
+
+enum kind { MULTIPLY, QUOTIENT, ROOT, CHECK };
+
+static const char *const kind_names[] = {"multiply", "quotient", "root", "check"};
+
+struct bench_case {
+    enum kind kind;
+    char name[48];
+    int32_t f[FERRUNTZO_MODEL_SIZE], g[FERRUNTZO_MODEL_SIZE];
+    int32_t h[FERRUNTZO_CANDIDATE_SIZE], w[FERRUNTZO_CANDIDATE_SIZE];
+    const uint8_t *job;
+    size_t job_len;
+    int with_former;
+};
+
+#define MAX_CASES 64
+static struct bench_case cases[MAX_CASES];
+static int case_count;
+
+static void fail(const char *what, const char *name)
+{
+    fprintf(stderr, "bench: %s: %s\n", name, what);
+    exit(1);
+}
+
+static struct bench_case *new_case(enum kind kind, const char *name, int number)
+{
+    struct bench_case *one = &cases[case_count++];
+    if (case_count == MAX_CASES)
+        fail("too many cases", name);
+    one->kind = kind;
+    snprintf(one->name, sizeof one->name, number < 0 ? "%s" : "%s %d", name, number);
+    return one;
+}
+
+/* ---- Inputs ---- */
+
+#define NODES 64
+
+static double node_value(const int32_t *area, int node)
+{
+    double sum = 0, pi = acos(-1.0);
+    for (int k = 0; k <= area[0]; k++)
+        sum += area[1 + k] * cos(k * pi * (node + 0.5) / NODES);
+    return sum / FERRUNTZO_S;
+}
+
+/* The candidate of this degree through values at the nodes, no coefficient zero. */
+static void project(const double *values, int degree, int32_t *candidate)
+{
+    double pi = acos(-1.0);
+    candidate[0] = degree;
+    for (int k = 0; k <= degree; k++) {
+        double sum = 0;
+        for (int i = 0; i < NODES; i++)
+            sum += values[i] * cos(k * pi * (i + 0.5) / NODES);
+        long c = lround(sum * FERRUNTZO_S * (k == 0 ? 1.0 : 2.0) / NODES);
+        candidate[1 + k] = (int32_t)(c == 0 ? 1 : c);
+    }
+}
+
+/* first, then ratio times the one before from the first term on. */
+static void geometric(int32_t *model, int degree, double first, double term, double ratio)
+{
+    model[0] = degree;
+    model[1] = (int32_t)lround(first * FERRUNTZO_S);
+    for (int k = 1; k <= degree; k++)
+        model[1 + k] = (int32_t)lround(term * FERRUNTZO_S * pow(ratio, k));
+}
+
+/* Multiply, quotient and root with every polynomial of one degree. */
+static void add_degree(int degree)
+{
+    struct bench_case *product = new_case(MULTIPLY, "multiply", degree);
+    geometric(product->f, degree, 2.0, 0.5, 0.8);
+    geometric(product->g, degree, 4.0, 0.8, -0.7);
+
+    struct bench_case *quotient = new_case(QUOTIENT, "quotient", degree);
+    double values[NODES], inverse[NODES];
+    memcpy(quotient->f, product->f, sizeof quotient->f);
+    memcpy(quotient->g, product->g, sizeof quotient->g);
+    for (int i = 0; i < NODES; i++) {
+        inverse[i] = 1 / node_value(quotient->g, i);
+        values[i] = node_value(quotient->f, i) * inverse[i];
+    }
+    project(values, degree, quotient->h);
+    project(inverse, degree, quotient->w);
+    quotient->with_former = degree == FERRUNTZO_MAX_DEGREE;
+
+    struct bench_case *root = new_case(ROOT, "root", degree);
+    memcpy(root->f, product->g, sizeof root->f);
+    for (int i = 0; i < NODES; i++) {
+        values[i] = sqrt(node_value(root->f, i));
+        inverse[i] = 0.5 / values[i];
+    }
+    project(values, degree, root->h);
+    project(inverse, degree, root->w);
+    root->with_former = degree == FERRUNTZO_MAX_DEGREE;
+}
+
+static struct bench_case *add_job(const char *path)
+{
+    FILE *file = fopen(path, "rb");
+    uint8_t *bytes = malloc(FERRUNTZO_PROGRAM_JOB_BYTES);
+    if (file == NULL || bytes == NULL)
+        fail("cannot be read", path);
+    const char *base = strrchr(path, '/');
+    struct bench_case *job = new_case(CHECK, base != NULL ? base + 1 : path, -1);
+    job->job_len = fread(bytes, 1, FERRUNTZO_PROGRAM_JOB_BYTES, file);
+    job->job = bytes;
+    job->with_former = 1;
+    fclose(file);
+    return job;
+}
+
+/* The first results of a job of a load and roots, and an end. */
+static void add_prefix(const struct bench_case *job, int results)
+{
+    size_t length = 2 + 138 + (size_t)(results - 1) * 268;
+    uint8_t *bytes = calloc(length + 1, 1);
+    if (bytes == NULL || length >= job->job_len)
+        fail("not a load and 31 roots", job->name);
+    memcpy(bytes, job->job, length);
+    struct bench_case *prefix = new_case(CHECK, "results", results);
+    prefix->job = bytes;
+    prefix->job_len = length + 1;
+}
+
+/* ---- Calls ---- */
+
+/* All that a call writes. */
+static struct areas {
+    uint32_t number;
+    int32_t out[FERRUNTZO_MODEL_SIZE];
+    int64_t scratch[FERRUNTZO_SCRATCH_SIZE];
+    uint64_t report[FERRUNTZO_REPORT_SIZE];
+    int32_t work[FERRUNTZO_WORK_SIZE];
+    uint32_t answer[FERRUNTZO_ANSWER_SIZE];
+} lent;
+static volatile double deviation;
+static int logged;              /* whether each call is written down, for mode count */
+
+static void call(int v, const struct bench_case *c)
+{
+    const struct version *version = &versions[v];
+    if (logged)
+        printf("%s|%s|%s\n", kind_names[c->kind], c->name, version->name);
+    if (v == FORMER) {
+        deviation = c->kind == QUOTIENT ? former_quotient(c->f, c->g, c->h)
+                    : c->kind == ROOT   ? former_root(c->f, c->h)
+                                        : former_job(c->job, c->job_len);
+        return;
+    }
+    switch (c->kind) {
+    case MULTIPLY:
+        lent.number = version->multiply(c->f, 35, c->g, 35, FERRUNTZO_DEFAULT_KEPT, lent.out, 35);
+        break;
+    case QUOTIENT:
+        lent.number = version->quotient(c->f, 35, c->g, 35, c->h, 34, c->w, 34, lent.scratch, 65,
+                                        lent.out, 35, lent.report, 3);
+        break;
+    case ROOT:
+        lent.number = version->root(c->f, 35, c->h, 34, c->w, 34, lent.scratch, 65,
+                                    lent.out, 35, lent.report, 3);
+        break;
+    case CHECK:
+        lent.number = version->check(c->job, c->job_len, lent.work, FERRUNTZO_WORK_SIZE,
+                                     lent.scratch, 65, lent.answer, 2);
+        break;
+    }
+}
+
+static int has_version(int v, const struct bench_case *c) { return v != FORMER || c->with_former; }
+
+/* Every case must be accepted, and all versions must leave the same in every area. */
+static void compare_versions(void)
+{
+    for (int i = 0; i < case_count; i++) {
+        struct areas first;
+        for (int v = LIBRARY; v <= PLAIN_O3; v++) {
+            memset(&lent, 0x55, sizeof lent);
+            call(v, &cases[i]);
+            if (lent.number != 0)
+                fail("refused", cases[i].name);
+            if (v == LIBRARY)
+                first = lent;
+            else if (memcmp(&first, &lent, sizeof lent) != 0)
+                fail("the versions differ", cases[i].name);
+        }
+    }
+}
+
+/* ---- Modes ---- */
+
+static void count(void)
+{
+    for (int i = 0; i < case_count; i++)
+        for (int v = 0; v < VERSIONS; v++)
+            if (has_version(v, &cases[i]))
+                for (int turn = 0; turn < 2; turn++)
+                    call(v, &cases[i]);
+}
+
+static double now(void)
+{
+    struct timespec t;
+    clock_gettime(CLOCK_MONOTONIC, &t);
+    return (double)t.tv_sec * 1e9 + (double)t.tv_nsec;
+}
+
+/* Nanoseconds of one call in a row of them. */
+static double time_row(int v, const struct bench_case *c, int calls)
+{
+    double began = now();
+    for (int i = 0; i < calls; i++)
+        call(v, c);
+    return (now() - began) / calls;
+}
+
+/* The best of many rows of about 30 microseconds, the versions taken in turn. */
+static void measure(double milliseconds)
+{
+    for (int i = 0; i < case_count; i++) {
+        double best[VERSIONS];
+        int calls[VERSIONS];
+        for (int v = 0; v < VERSIONS; v++) {
+            if (!has_version(v, &cases[i]))
+                continue;
+            best[v] = time_row(v, &cases[i], 3);
+            calls[v] = best[v] < 30000 ? (int)(30000 / best[v]) + 1 : 1;
+        }
+        double until = now() + milliseconds * 1e6;
+        for (int rounds = 0; now() < until || rounds < 30; rounds++) {
+            for (int v = 0; v < VERSIONS; v++) {
+                if (!has_version(v, &cases[i]))
+                    continue;
+                double t = time_row(v, &cases[i], calls[v]);
+                if (t < best[v])
+                    best[v] = t;
+            }
+        }
+        for (int v = 0; v < VERSIONS; v++)
+            if (has_version(v, &cases[i]))
+                printf("%s|%s|%.1f\n", cases[i].name, versions[v].name, best[v]);
+    }
+}
+
+#define STACK_BYTES 262144
+#define PAINT 0xA5
+
+static union {
+    unsigned char bytes[STACK_BYTES];
+    long double aligned;
+} painted;
+static ucontext_t caller, callee;
+static int stack_version;
+static const struct bench_case *stack_case;
+
+static void on_painted_stack(void)
+{
+    if (stack_case != NULL)
+        call(stack_version, stack_case);
+}
+
+/* Bytes from the top of the stack down to the lowest one that was written. */
+static size_t stack_of(int v, const struct bench_case *c)
+{
+    memset(painted.bytes, PAINT, sizeof painted.bytes);
+    stack_version = v;
+    stack_case = c;
+    if (getcontext(&callee) != 0)
+        fail("no context", "stack");
+    callee.uc_stack.ss_sp = painted.bytes;
+    callee.uc_stack.ss_size = sizeof painted.bytes;
+    callee.uc_link = &caller;
+    makecontext(&callee, on_painted_stack, 0);
+    if (swapcontext(&caller, &callee) != 0)
+        fail("no context", "stack");
+    size_t lowest = 0;
+    while (lowest < sizeof painted.bytes && painted.bytes[lowest] == PAINT)
+        lowest++;
+    return sizeof painted.bytes - lowest;
+}
+
+static void stack(void)
+{
+    size_t empty = stack_of(0, NULL);
+    for (int i = 0; i < case_count; i++)
+        for (int v = LIBRARY; v <= PLAIN_O3; v++)
+            printf("%s|%s|%zu\n", cases[i].name, versions[v].name,
+                   stack_of(v, &cases[i]) - empty);
+}
+
+static void former(void)
+{
+    for (int i = 0; i < case_count; i++) {
+        if (!cases[i].with_former)
+            continue;
+        int32_t radius = 0;
+        call(LIBRARY, &cases[i]);
+        if (cases[i].kind == CHECK) {
+            for (uint32_t r = 0; r < lent.answer[0]; r++)
+                if (lent.work[35 * r + FERRUNTZO_PLACE_RADIUS] > radius)
+                    radius = lent.work[35 * r + FERRUNTZO_PLACE_RADIUS];
+        } else {
+            radius = lent.out[FERRUNTZO_PLACE_RADIUS];
+        }
+        call(FORMER, &cases[i]);
+        printf("%s|%.1f|%u|%d\n", cases[i].name, deviation, (unsigned)lent.number, (int)radius);
+    }
+}
+
+int main(int argc, char **argv)
+{
+    int first = 2;
+    const char *mode = argc > 1 ? argv[1] : "";
+    double milliseconds = 0;
+    if (strcmp(mode, "time") == 0 && argc > 2)
+        milliseconds = atof(argv[first++]);
+    if (first >= argc) {
+        fprintf(stderr, "usage: bench count|time MILLISECONDS|stack|former JOB..\n");
+        return 2;
+    }
+    if (strcmp(mode, "former") == 0) {
+        add_degree(FERRUNTZO_MAX_DEGREE);
+        for (int i = first; i < argc; i++)
+            add_job(argv[i]);
+        former();
+        return 0;
+    }
+    for (int degree = 4; degree <= FERRUNTZO_MAX_DEGREE; degree *= 2)
+        add_degree(degree);
+    const struct bench_case *last = NULL;
+    for (int i = first; i < argc; i++)
+        last = add_job(argv[i]);
+    for (int results = 1; results <= 16; results *= 4)
+        add_prefix(last, results);
+    logged = strcmp(mode, "count") == 0;
+    compare_versions();
+    if (logged)
+        count();
+    else if (strcmp(mode, "time") == 0)
+        measure(milliseconds);
+    else if (strcmp(mode, "stack") == 0)
+        stack();
+    else
+        fail("unknown mode", mode);
+    return 0;
+}

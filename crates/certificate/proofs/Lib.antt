@@ -1,0 +1,4 @@
+pub mod Draining
+pub mod Formed
+pub mod Ranges
+pub mod TwoParts

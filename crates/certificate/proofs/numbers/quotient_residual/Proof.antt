@@ -1,0 +1,111 @@
+-- `numbers::quotient_residual` meets its contract.
+use borrow.Author.Needs.{needs}
+use mathlib.Core.Path.{_≡_, _∙_, ap}
+use Prim.Native.Nat.{ℕ, _+_, _*_, _^_, _≤_}
+use native.Mathlib.Omega.{arith}
+use Rattle.integer.specs.Rounding.{upℕ}
+use Rattle.chebyshev.specs.Coefficients.{weight}
+use Rattle.model.specs.Models.{candidateModel}
+use Rattle.model.specs.ModelLaws.{good-is}
+use Rattle.model.specs.Operations.{productList}
+use Rattle.model.specs.declared.types.Model.{Model}
+use Rattle.certificate.specs.Tests.{quotientResidual}
+use Rattle.certificate.specs.Residuals.{residualList}
+use Rattle.certificate.proofs.Ranges.{weights-range, residual-range, error-range}
+use Rattle.certificate.proofs.numbers.quotient_residual.Statement.{statement}
+use Rattle.certificate.proofs.numbers.quotient_residual.Tie as tie
+
+module _ (s : tie.Start) where
+  abbrev f : Model
+  f = s .args .t2
+
+  abbrev g : Model
+  g = s .args .t3
+
+  abbrev h : Model
+  h = candidateModel (s .args .t4)
+
+  error-is : s .args .weight * g .radius ≡ weight (h .coefficients) * g .radius
+  error-is = ap (λ (k : ℕ). k * g .radius) (s .pre .4)
+
+product-residual-requires : tie.Need-product-residual-requires
+product-residual-requires c κs =
+    let s = c .before .before .before .before .before .before .before in
+    let p = s .pre in (
+      (p .0, omega (arith, weights-range (g s) (h s) (p .2) (p .3), good-is (f s) (p .1))),
+      (search needs, search needs, search needs, good-is (g s) (p .2) .degree-fits, good-is (h s) (p .3) .degree-fits),
+    )
+
+module _ (c : tie.After-part) where
+  abbrev s : tie.Start
+  s = c .before .before .before .before .before .before .before .before .before
+
+  distance-is : c .before .product-residual .result ≡ weight (residualList (productList (g s) (h s)) (f s .coefficients))
+  unfolding productList
+  distance-is = c .before .product-residual .ensures .0
+
+  record Small : Type 0 where
+    distance : c .before .product-residual .result ≤ 2 ^ 58
+    radius : f s .radius ≤ 2 ^ 28
+    answer : s .args .weight ≤ 2 ^ 28
+    error : s .args .weight * g s .radius ≤ 2 ^ 56
+
+  small : Small
+  small = record {
+    distance = omega (arith, distance-is, residual-range (g s) (h s) (s .pre .2) (s .pre .3) (f s) (s .pre .1));
+    radius = good-is (f s) (s .pre .1) .radius-fits;
+    answer = omega (arith, s .pre .4, good-is (h s) (s .pre .3) .weight-fits);
+    error = omega (arith, error-is s, error-range (h s) (g s) (s .pre .3) (s .pre .2));
+  }
+
+cast-up-unsigned : tie.Need-cast-up-unsigned
+cast-up-unsigned c = search needs
+
+mul-up-unsigned : tie.Need-mul-up-unsigned
+mul-up-unsigned c = omega (arith, small c)
+
+add-up-unsigned : tie.Need-add-up-unsigned
+add-up-unsigned c = omega (arith, small c)
+
+mul-up-unsigned-2 : tie.Need-mul-up-unsigned-2
+mul-up-unsigned-2 c = omega (arith, small c)
+
+cast-up-unsigned-2 : tie.Need-cast-up-unsigned-2
+cast-up-unsigned-2 c = search needs
+
+mul-up-unsigned-3 : tie.Need-mul-up-unsigned-3
+mul-up-unsigned-3 c = omega (arith, small c)
+
+add-up-unsigned-2 : tie.Need-add-up-unsigned-2
+add-up-unsigned-2 c = omega (arith, small c)
+
+up-unsigned-requires : tie.Need-up-unsigned-requires
+up-unsigned-requires c κs = search needs
+
+same-length : tie.Need-same-length
+same-length c = search needs
+
+returns : tie.Need-returns
+unfolding quotientResidual
+returns c =
+    let d = c .before in
+    let p = s d in
+    let numerator : d .before .product-residual .result + 2 ^ 21 * f p .radius + 2 * p .args .weight * g p .radius
+    ≡ weight (residualList (productList (g p) (h p)) (f p .coefficients)) + 2 ^ 21 * f p .radius + 2 * weight (h p .coefficients) * g p .radius = omega (arith, distance-is d, error-is p) in
+    (c .up-unsigned .ensures ∙ ap (λ (n : ℕ). upℕ n (2 ^ 21)) numerator, d .before .product-residual .ensures .1)
+
+pub quotient-residual-spec : {M : Type 1} → statement M
+quotient-residual-spec =
+    tie.close
+    (tie.spec
+    product-residual-requires
+    cast-up-unsigned
+    mul-up-unsigned
+    add-up-unsigned
+    mul-up-unsigned-2
+    cast-up-unsigned-2
+    mul-up-unsigned-3
+    add-up-unsigned-2
+    up-unsigned-requires
+    same-length
+    returns)

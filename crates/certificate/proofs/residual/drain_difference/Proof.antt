@@ -1,0 +1,157 @@
+-- `residual::drain_difference` meets its contract.
+use borrow.Author.Needs.{needs}
+use mathlib.Core.Path.{_≡_, _∙_, sym, ap}
+use mathlib.Core.List.{List}
+use Prim.Native.Nat.{_-_, _<_}
+use native.Mathlib.Omega.{arith}
+use lib.IntN.{ℤ, pos, natAbs, _-ℤ_, _*ℤ_}
+use lib.ListN.{length, getD}
+use mir.Syntax.{w32, w64}
+use mir.Val.{SFits}
+use mir.Facts.{toZ-ofZ}
+use Rattle.integer.specs.Parts.{abs-sub, abs-mul}
+use Rattle.integer.specs.Machine.{signed-needs, abs-fits, fits-widens}
+use Rattle.integer.specs.Clearing.{clearing-next}
+use Rattle.chebyshev.specs.Weight.{weight-at}
+use Rattle.certificate.specs.Residuals.{residualList, length-residual, at-residual, weight-residual}
+use Rattle.certificate.proofs.Draining.{Draining, draining-begins, draining-fits, draining-turn, draining-ends}
+use Rattle.certificate.proofs.residual.drain_difference.Statement.{statement}
+use Rattle.certificate.proofs.residual.drain_difference.Tie as tie
+
+abbrev Inv-loop : tie.InvT-loop
+Inv-loop part₀ f sum₀ k₀ part sum k = Draining (residualList part₀ f) part₀ part sum k
+
+abbrev μ-loop : tie.MeasureT-loop
+μ-loop part₀ f sum₀ k₀ part sum k = length part₀ - k
+
+loop-holds : tie.Need-loop-holds Inv-loop μ-loop
+loop-holds c = draining-begins (omega (arith, length-residual (c .args .part .now) (c .args .f .now), c .pre))
+
+mul-magnitude : tie.Need-mul-magnitude Inv-loop μ-loop
+mul-magnitude c = search needs
+
+slice-copy-out-magnitude : tie.Need-slice-copy-out-magnitude Inv-loop μ-loop
+slice-copy-out-magnitude c = search needs
+
+mul-magnitude-2 : tie.Need-mul-magnitude-2 Inv-loop μ-loop
+mul-magnitude-2 c = search signed-needs
+
+mul-magnitude-3 : tie.Need-mul-magnitude-3 Inv-loop μ-loop
+mul-magnitude-3 c = search needs
+
+shared-slice-copy-out-magnitude : tie.Need-shared-slice-copy-out-magnitude Inv-loop μ-loop
+shared-slice-copy-out-magnitude c = search needs
+
+module _ (l : tie.At-loop Inv-loop μ-loop) where
+  abbrev c₀ : List ℤ
+  c₀ = l .before .args .part .now
+
+  abbrev f₀ : List ℤ
+  f₀ = l .before .args .f .now
+
+  abbrev x : ℤ
+  x = getD (l .loop .part) (l .loop .k) (pos 0)
+
+  abbrev y : ℤ
+  y = getD f₀ (l .loop .k) (pos 0)
+
+  abbrev p : ℤ
+  p = pos 2097152 *ℤ y
+
+  is-first : x ≡ getD c₀ (l .loop .k) (pos 0)
+  is-first = clearing-next (l .loop .inv .cleared)
+
+  fits-p : SFits w64 p
+  fits-p = abs-fits w64 p (omega (arith, abs-mul (pos 2097152) y, weight-at f₀ (l .loop .k), l .before .pre))
+
+  fits-d : SFits w64 (x -ℤ p)
+  fits-d =
+      abs-fits w64 (x -ℤ p)
+      (omega (arith, abs-sub x p, abs-mul (pos 2097152) y, weight-at f₀ (l .loop .k), weight-at c₀ (l .loop .k), ap natAbs is-first, l .before .pre))
+
+module _ (c : tie.After-magnitude-arg2 Inv-loop μ-loop) where
+  abbrev l2 : tie.At-loop Inv-loop μ-loop
+  l2 = c .before .before .before
+
+  fits-x : SFits w64 (x l2)
+  fits-x = record { sfits = c .before .magnitude-arg .given }
+
+  fits-y : SFits w32 (y l2)
+  fits-y = record { sfits = c .magnitude-arg2 .given }
+
+cast-magnitude : tie.Need-cast-magnitude Inv-loop μ-loop
+cast-magnitude c = search signed-needs
+
+mul-magnitude-4 : tie.Need-mul-magnitude-4 Inv-loop μ-loop
+mul-magnitude-4 c = simp (toZ-ofZ (fits-y c), toZ-ofZ (fits-widens (fits-y c))) (fits-p (l2 c))
+
+sub-magnitude : tie.Need-sub-magnitude Inv-loop μ-loop
+sub-magnitude c = simp (toZ-ofZ (fits-y c), toZ-ofZ (fits-widens (fits-y c)), toZ-ofZ (fits-p (l2 c)), toZ-ofZ (fits-x c)) (fits-d (l2 c))
+
+magnitude-requires : tie.Need-magnitude-requires Inv-loop μ-loop
+magnitude-requires c κs = tt
+
+module _ (c : tie.After-magnitude Inv-loop μ-loop) where
+  abbrev b : tie.After-magnitude-arg2 Inv-loop μ-loop
+  b = c .before
+
+  abbrev l : tie.At-loop Inv-loop μ-loop
+  l = l2 b
+
+  inside : l .loop .k < length (c₀ l)
+  inside = omega arith
+
+  size-is : c .magnitude .result ≡ natAbs (getD (residualList (c₀ l) (f₀ l)) (l .loop .k) (pos 0))
+  size-is =
+      (simp (toZ-ofZ (fits-y b), toZ-ofZ (fits-widens (fits-y b)), toZ-ofZ (fits-p l), toZ-ofZ (fits-x b), toZ-ofZ (fits-d l)) at (c .magnitude .ensures))
+      ∙ ap (λ z. natAbs (z -ℤ p l)) (is-first l)
+      ∙ ap natAbs (sym (at-residual (c₀ l) (f₀ l) (l .loop .k)))
+
+add-sum : tie.Need-add-sum Inv-loop μ-loop
+add-sum c = omega (arith, draining-fits (l c .loop .inv) _ (inside c) (size-is c), weight-residual (c₀ (l c)) (f₀ (l c)), l c .before .pre)
+
+mul-part : tie.Need-mul-part Inv-loop μ-loop
+mul-part c = search needs
+
+slice-set-of-part : tie.Need-slice-set-of-part Inv-loop μ-loop
+slice-set-of-part c = search needs
+
+add-k : tie.Need-add-k Inv-loop μ-loop
+add-k c = search needs
+
+loop-less : tie.Need-loop-less Inv-loop μ-loop
+loop-less c = search needs
+
+loop-again : tie.Need-loop-again Inv-loop μ-loop
+loop-again c = draining-turn (l c .loop .inv) _ (inside c) (size-is c)
+
+same-length : tie.Need-same-length Inv-loop μ-loop
+same-length c = c .before .loop .inv .cleared .same
+
+returns : tie.Need-returns Inv-loop μ-loop
+returns c = draining-ends (c .before .loop .inv) (omega arith)
+
+pub drain-difference-spec : {M : Type 1} → statement M
+drain-difference-spec =
+    tie.close
+    (tie.spec
+    Inv-loop
+    μ-loop
+    loop-holds
+    mul-magnitude
+    slice-copy-out-magnitude
+    mul-magnitude-2
+    mul-magnitude-3
+    shared-slice-copy-out-magnitude
+    cast-magnitude
+    mul-magnitude-4
+    sub-magnitude
+    magnitude-requires
+    add-sum
+    mul-part
+    slice-set-of-part
+    add-k
+    loop-less
+    loop-again
+    same-length
+    returns)

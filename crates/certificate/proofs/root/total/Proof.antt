@@ -1,0 +1,116 @@
+-- `root::total` meets its contract. The loop's invariant in rest form: what is summed and the total of what is left is the
+-- whole total; k coefficients sum to at most k·2^31.
+use mathlib.Core.Path.{_≡_, sym, _∙_, ap}
+use mathlib.Core.List.{List}
+use Prim.Native.Nat.{ℕ, _+_, _*_, _-_, _^_, _≤_, _<_}
+use native.Mathlib.Omega.{arith}
+use native.Mathlib.Numerals.{add-one}
+use lib.IntN.{ℤ, pos, natAbs, _+ℤ_}
+use lib.ListN.{length, getD, drop, drop-of-length-le}
+use lib.Seq.{drop-cons}
+use mir.Syntax.{w32, w64}
+use mir.Val.{SFits, toZ}
+use mir.Facts.{toZ-ofZ}
+use Rattle.integer.specs.Parts.{abs, apart, abs-add}
+use Rattle.integer.specs.Difference.{all1, all3, differences}
+use Rattle.integer.specs.Machine.{signed-needs, within, abs-fits, fits-widens}
+use Rattle.certificate.specs.Tests.{total}
+use Rattle.certificate.proofs.root.total.Statement.{statement}
+use Rattle.certificate.proofs.root.total.Tie as tie
+
+total-step : (a : List ℤ) (k : ℕ) → k < length a → total (drop k a) ≡ getD a k (pos 0) +ℤ total (drop (k + 1) a)
+unfolding total
+total-step a k h = rw (drop-cons a k (pos 0) h, add-one)
+
+total-end : (a : List ℤ) (k : ℕ) → length a ≤ k → total (drop k a) ≡ pos 0
+unfolding total
+total-end a k h = rw drop-of-length-le
+
+assoc : (x y z : ℤ) → (x +ℤ y) +ℤ z ≡ x +ℤ (y +ℤ z)
+assoc = all3 _ (simp differences (omega arith))
+
+add-zero : (x : ℤ) → x +ℤ pos 0 ≡ x
+add-zero = all1 _ (simp differences (omega arith))
+
+zero-add : (x : ℤ) → pos 0 +ℤ x ≡ x
+zero-add = all1 _ (simp differences (omega arith))
+
+abbrev Inv-loop : tie.InvT-loop
+Inv-loop cs sum₀ k₀ sum k = (k ≤ 33) × (toZ w64 sum +ℤ total (drop k cs) ≡ total cs) × (natAbs (toZ w64 sum) ≤ k * 2 ^ 31)
+
+abbrev μ-loop : tie.MeasureT-loop
+μ-loop cs sum₀ k₀ sum k = 33 - k
+
+loop-holds : tie.Need-loop-holds Inv-loop μ-loop
+loop-holds c = (omega arith, zero-add (total (c .args .coefficients .now)), omega arith)
+
+mul-sum : tie.Need-mul-sum Inv-loop μ-loop
+mul-sum c = search signed-needs
+
+element-copy-out-sum : tie.Need-element-copy-out-sum Inv-loop μ-loop
+element-copy-out-sum c = search signed-needs
+
+cast-sum : tie.Need-cast-sum Inv-loop μ-loop
+cast-sum c = search signed-needs
+
+module _ (c : tie.After-sum Inv-loop μ-loop) where
+  abbrev l : tie.At-loop Inv-loop μ-loop
+  l = c .before .before
+
+  abbrev cs : List ℤ
+  cs = l .before .args .coefficients .now
+
+  abbrev s : ℤ
+  s = toZ w64 (l .loop .sum)
+
+  abbrev x : ℤ
+  x = getD cs (l .loop .k) (pos 0)
+
+  fits-x : SFits w32 x
+  fits-x = record { sfits = c .sum .given }
+
+  small : natAbs (s +ℤ x) ≤ (l .loop .k + 1) * 2 ^ 31
+  small = omega (arith, abs-add s x, abs x, apart x, within w32 x fits-x, l .loop .inv)
+
+  fits-s : SFits w64 (s +ℤ x)
+  fits-s = abs-fits w64 (s +ℤ x) (omega (arith, small))
+
+add-sum : tie.Need-add-sum Inv-loop μ-loop
+add-sum c = simp (toZ-ofZ (fits-x c), toZ-ofZ (fits-widens (fits-x c))) (fits-s c)
+
+add-k : tie.Need-add-k Inv-loop μ-loop
+add-k c = omega arith
+
+loop-less : tie.Need-loop-less Inv-loop μ-loop
+loop-less c = omega arith
+
+loop-again : tie.Need-loop-again Inv-loop μ-loop
+loop-again c =
+    let k = l c .loop .k in
+    simp (toZ-ofZ (fits-x c), toZ-ofZ (fits-widens (fits-x c)), toZ-ofZ (fits-s c)) (
+      omega arith,
+      assoc (s c) (x c) (total (drop (k + 1) (cs c))) ∙ ap (λ z. s c +ℤ z) (sym (total-step (cs c) k (omega (arith, l c .before .pre)))) ∙ l c .loop .inv .1,
+      small c,
+    )
+
+returns : tie.Need-returns Inv-loop μ-loop
+returns c =
+    let l = c .before in
+    let z = toZ w64 (l .loop .sum) in
+    sym (add-zero z) ∙ ap (λ t. z +ℤ t) (sym (total-end (l .before .args .coefficients .now) (l .loop .k) (omega (arith, l .before .pre)))) ∙ l .loop .inv .1
+
+pub total-spec : {M : Type 1} → statement M
+total-spec =
+    tie.close
+    (tie.spec
+    Inv-loop
+    μ-loop
+    loop-holds
+    mul-sum
+    element-copy-out-sum
+    cast-sum
+    add-sum
+    add-k
+    loop-less
+    loop-again
+    returns)

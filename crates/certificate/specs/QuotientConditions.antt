@@ -1,0 +1,73 @@
+-- The places of the quotient test as facts, and the result of a test that passes.
+use mathlib.Core.Path.{_≡_, ap}
+use mathlib.Core.Logic.{_↔_}
+use mathlib.Core.Bool.{Bool, true, false, not}
+use mathlib.Core.List.{List, [], _∷_, _++_}
+use Prim.Native.Nat.{ℕ, _≤_, _<_}
+use native.Mathlib.Omega.{arith}
+use lib.Dec.{ltb}
+use borrow.Author.Tests.{ltb-false, leb-false, not-false, le-ltb, lt-leb}
+use Rattle.model.specs.Models.{scale, maxRadius, good, tooLarge, firstRefusal}
+use Rattle.model.specs.RefusalLaws.{Passed, first-refusal-zero}
+use Rattle.model.specs.declared.types.Model.{Model}
+use Rattle.certificate.specs.Tests.{scratchPlaces, testPlaces, quotientOf, quotientModel, quotientContraction, quotientResidual, displacement, tested}
+use Rattle.certificate.specs.TestLaws.{tested-zero}
+
+-- b and the result of the test
+abbrev pub quotientDisplacement : Model → Model → Model → Model → ℕ
+quotientDisplacement f g h w = displacement w (quotientResidual f g h)
+
+abbrev pub quotientResult : Model → Model → Model → Model → Model
+quotientResult f g h w = quotientModel h (quotientContraction g w) (quotientDisplacement f g h w)
+
+pub record QuotientConditions (len : ℕ) (f g h w : Model) : Type 0 where
+  pub scratch : scratchPlaces ≤ len
+  pub good-f : good f ≡ true
+  pub good-g : good g ≡ true
+  pub good-h : good h ≡ true
+  pub good-w : good w ≡ true
+  pub contraction : quotientContraction g w < scale
+  pub residual : quotientResidual f g h ≤ maxRadius
+  pub result : tooLarge (quotientResult f g h w) ≡ false
+
+module _ (len : ℕ) (f g h w : Model) where
+  abbrev quotientPlaces : List (Bool × ℕ)
+  quotientPlaces =
+      (ltb len scratchPlaces, 1) ∷ (not (good f), 2) ∷ (not (good g), 2) ∷ (not (good h), 2) ∷ (not (good w), 2)
+      ∷ (testPlaces (quotientContraction g w) (quotientResidual f g h) ++ ((tooLarge (quotientResult f g h w), 3) ∷ []))
+
+  pub quotient-passes : ((quotientOf len f g h w) .number ≡ 0) ↔ QuotientConditions len f g h w
+  unfolding quotientOf tested
+  quotient-passes = (λ e. facts (passes .0 e), λ c. passes .1 (tests c))
+    where
+      passes : (firstRefusal quotientPlaces ≡ 0) ↔ Passed quotientPlaces
+      passes = first-refusal-zero quotientPlaces (omega arith)
+
+      facts : Passed quotientPlaces → QuotientConditions len f g h w
+      facts p = record {
+        scratch = ltb-false len scratchPlaces (p .0);
+        good-f = not-false (good f) (p .1 .0);
+        good-g = not-false (good g) (p .1 .1 .0);
+        good-h = not-false (good h) (p .1 .1 .1 .0);
+        good-w = not-false (good w) (p .1 .1 .1 .1 .0);
+        contraction = leb-false scale (quotientContraction g w) (p .1 .1 .1 .1 .1 .0);
+        residual = ltb-false maxRadius (quotientResidual f g h) (p .1 .1 .1 .1 .1 .1 .0);
+        result = p .1 .1 .1 .1 .1 .1 .1 .0;
+      }
+
+      tests : QuotientConditions len f g h w → Passed quotientPlaces
+      tests c =
+          let enough = le-ltb len scratchPlaces (c .scratch) in
+          let good-f = ap not (c .good-f) in
+          let good-g = ap not (c .good-g) in
+          let good-h = ap not (c .good-h) in
+          let good-w = ap not (c .good-w) in
+          let contraction = lt-leb scale (quotientContraction g w) (c .contraction) in
+          let residual = le-ltb maxRadius (quotientResidual f g h) (c .residual) in
+          search depth 12
+
+  -- number, model, m, N and b of a test that passes
+  pub quotient-result : (quotientOf len f g h w) .number ≡ 0
+      → quotientOf len f g h w ≡ record { number = 0; model = quotientResult f g h w; m = quotientContraction g w; N = quotientResidual f g h; b = quotientDisplacement f g h w }
+  unfolding quotientOf tested
+  quotient-result e = tested-zero quotientPlaces (quotientResult f g h w) (quotientContraction g w) (quotientResidual f g h) (quotientDisplacement f g h w) e

@@ -1,0 +1,92 @@
+-- 01, of the root's radius: "which these limits keep at or below 2^27". So the place of the result never refuses a root.
+use mathlib.Core.Path.{_≡_, refl, ap}
+use mathlib.Core.Logic.{_≢_}
+use mathlib.Core.Bool.{Bool, true, false, cond}
+use mathlib.Core.List.{List, [], _∷_, _++_}
+use Prim.Native.Nat.{ℕ, suc, _+_, _*_, _-_, _^_, _≤_, _<_}
+use native.Mathlib.Omega.{arith}
+use native.Mathlib.Nat.{mul-le-mul, mul-le-mul-left, le-of-mul-le-mul-left}
+use lib.IntN.{pos, natAbs, _-ℤ_}
+use lib.ListN.{getD}
+use Rattle.integer.specs.Parts.{abs, difference}
+use Rattle.integer.specs.Integer.{ℤ-ring}
+use Rattle.integer.specs.RoundingLaws.{le-upℕ, upℕ-least}
+use Rattle.chebyshev.specs.Coefficients.{weight, subtractLists}
+use Rattle.chebyshev.specs.CoefficientLaws.{getD-subtract}
+use Rattle.chebyshev.specs.Weight.{weight-at, weight-take}
+use Rattle.chebyshev.specs.ProductWeight.{weight-product}
+use Rattle.model.specs.Models.{scale, productPlaces, terms, tooLarge, firstRefusal}
+use Rattle.model.specs.ModelLaws.{good-is}
+use Rattle.model.specs.RefusalLaws.{Passed}
+use Rattle.model.specs.Operations.{productList}
+use Rattle.model.specs.declared.types.Model.{Model}
+use Rattle.certificate.specs.Tests.{rootOf, rootPlaces, rootModel, rootContraction, tested}
+use Rattle.certificate.specs.TestLaws.{radius-fits}
+use Rattle.certificate.specs.RootConditions.{RootConditions, rootDisplacement, rootResult, negativeDiscriminant, root-conditions, root-passes, root-result}
+
+-- S² ≤ m·S + 2·M·H: the place 0 of S² − C(w,h)
+pub square-bound : (h w : Model) → scale * scale ≤ rootContraction h w * scale + 2 * weight (w .coefficients) * weight (h .coefficients)
+unfolding rootContraction productList
+square-bound h w =
+    let s = pos (scale * scale) in
+    let c = productList w h in
+    let d = getD c 0 (pos 0) in
+    let l = subtractLists ℤ-ring (s ∷ []) c in
+    omega (
+      arith,
+      le-upℕ (weight l) scale (omega arith),
+      weight-at l 0,
+      ap natAbs (getD-subtract ℤ-ring (s ∷ []) c 0),
+      abs (s -ℤ d),
+      difference s d,
+      abs d,
+      weight-at c 0,
+      weight-product productPlaces (terms w) (terms h),
+      mul-le-mul (weight-take (suc (w .degree)) (w .coefficients)) (weight-take (suc (h .degree)) (h .coefficients)),
+    )
+
+-- 8·b·p·S ≤ 2^29·8·b·M ≤ 2^29·p²
+pub quotient-bound : (p b M : ℕ) → 0 < p → p * scale ≤ 2 ^ 29 * M → 8 * b * M ≤ p * p → 2 * b * scale ≤ 2 ^ 27 * p
+quotient-bound p b M h k d = le-of-mul-le-mul-left {m = 2 * b * scale} {n = 2 ^ 27 * p} {k = p} (omega (arith, mul-le-mul-left (8 * b) k)) h
+
+-- ---- a last place that is never used
+
+-- n is none of the numbers of the list
+abbrev Without : ℕ → List (Bool × ℕ) → Type 0
+Without n [] = Unit {0}
+Without n (p ∷ ps) = (p .1 ≢ n) × Without n ps
+
+-- a last place whose condition fails wherever those before it do never refuses
+last-unused : (ps : List (Bool × ℕ)) (c : Bool) (n : ℕ) → Without n ps → 0 ≢ n → (Passed ps → c ≡ false) → firstRefusal (ps ++ ((c, n) ∷ [])) ≢ n
+unfolding firstRefusal
+last-unused [] c n others k unused = rw (unused tt) k
+last-unused (p ∷ ps) c n others k unused = pick (p .0) refl (λ e. last-unused ps c n (others .1) k (λ q. unused (e, q)))
+  where
+    pick : (t : Bool) → p .0 ≡ t → (p .0 ≡ false → firstRefusal (ps ++ ((c, n) ∷ [])) ≢ n) → cond t (p .1) (firstRefusal (ps ++ ((c, n) ∷ []))) ≢ n
+    pick true e rest = others .0
+    pick false e rest = rest e
+
+module _ (len : ℕ) (f h w : Model) where
+  pub root-radius-bound : RootConditions len f h w → (rootResult f h w) .radius ≤ 2 ^ 27
+  unfolding rootModel
+  root-radius-bound c =
+      let p = scale - rootContraction h w in
+      upℕ-least (2 * rootDisplacement f h w * scale) p (2 ^ 27) (omega (arith, c .contraction))
+      (quotient-bound p (rootDisplacement f h w) (weight (w .coefficients)) (omega (arith, c .contraction))
+      (omega (arith, square-bound h w, mul-le-mul-left (2 * weight (w .coefficients)) (good-is h (c .good-h) .weight-fits), c .contraction))
+      (c .discriminant))
+
+  -- the result of a test whose other places pass is not too large
+  pub root-fits : RootConditions len f h w → tooLarge (rootResult f h w) ≡ false
+  unfolding rootModel
+  root-fits c = radius-fits h ((rootResult f h w) .radius) (c .good-h) .1 (omega (arith, root-radius-bound c))
+
+  pub root-radius : (rootOf len f h w) .number ≡ 0 → (rootOf len f h w) .model .radius ≤ 2 ^ 27
+  root-radius e = rw (root-result len f h w e) (root-radius-bound (root-passes len f h w .0 e .0))
+
+  -- refusal 3 is never answered
+  pub root-never-large : (rootOf len f h w) .number ≢ 3
+  unfolding rootOf tested rootPlaces
+  root-never-large =
+      last-unused (rootPlaces len f h w ++ ((negativeDiscriminant f h w, 8) ∷ [])) (tooLarge (rootResult f h w)) 3 (omega arith) (omega arith)
+      (λ p. root-fits (root-conditions len f h w .0 p))

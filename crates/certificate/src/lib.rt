@@ -1,0 +1,6 @@
+// The quotient test and the root test: a posteriori validation of proposed candidates over a lent scratch.
+mod numbers;
+pub mod quotient;
+mod residual;
+pub mod root;
+pub mod types;

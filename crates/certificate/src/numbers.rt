@@ -1,0 +1,116 @@
+// Document 01's numbers of the two tests, m, N and b, and the radii. The scratch's part is zero before and after.
+ghost use mathlib.Core.Path.{_≡_};
+ghost use mathlib.Core.Bool.{true};
+ghost use Prim.Native.Nat.{_+_, _*_, _-_, _≤_, _<_, _^_};
+ghost use Rattle.integer.specs.Rounding.{upℕ};
+ghost use Rattle.integer.specs.Clearing.{zeros};
+ghost use Rattle.chebyshev.specs.Coefficients.{weight as weightOf};
+ghost use Rattle.model.specs.Models.{scale, maxWeight, maxRadius, good, candidateModel};
+ghost use Rattle.certificate.specs.Tests.{scratchPlaces, quotientContraction, quotientResidual, rootContraction, rootResidual};
+use crate::residual::constant_residual;
+use crate::residual::product_residual;
+use integer::rounding::up_unsigned;
+use model::types::Candidate;
+use model::types::Model;
+
+// S, 2S and S²
+pub(crate) const SCALE: u64 = Model::SCALE as u64;
+
+const UNIT: u64 = 2 * SCALE;
+
+const SQUARE: i64 = Model::SCALE * Model::SCALE;
+
+// m of the quotient; `weight` is M.
+pub(crate) fn quotient_contraction(part: &mut [i64], g: Model, w: Candidate, weight: u64) -> u64
+    requires { ⌜ (now part ≡ zeros scratchPlaces) × (good g ≡ true) × (good (candidateModel w) ≡ true) × (weight ≡ weightOf (w .coefficients)) ⌝ }
+    ensures { λ r. ⌜ (r ≡ quotientContraction g (candidateModel w)) × (now (part .exit) ≡ zeros scratchPlaces) ⌝ }
+{
+    let distance = constant_residual(
+        part,
+        &w.coefficients,
+        w.degree,
+        &g.coefficients,
+        g.degree,
+        2 * SQUARE,
+    );
+    up_unsigned(distance + 2 * weight * (g.radius as u64), UNIT)
+}
+
+// N of the quotient; `weight` is H.
+pub(crate) fn quotient_residual(
+    part: &mut [i64],
+    f: Model,
+    g: Model,
+    h: Candidate,
+    weight: u64,
+) -> u64
+    requires { ⌜ (now part ≡ zeros scratchPlaces) × (good f ≡ true) × (good g ≡ true) × (good (candidateModel h) ≡ true) × (weight ≡ weightOf (h .coefficients)) ⌝ }
+    ensures { λ r. ⌜ (r ≡ quotientResidual f g (candidateModel h)) × (now (part .exit) ≡ zeros scratchPlaces) ⌝ }
+{
+    let distance = product_residual(
+        part,
+        &g.coefficients,
+        g.degree,
+        &h.coefficients,
+        h.degree,
+        &f.coefficients,
+    );
+    up_unsigned(
+        distance + UNIT * (f.radius as u64) + 2 * weight * (g.radius as u64),
+        UNIT,
+    )
+}
+
+// m of the root.
+pub(crate) fn root_contraction(part: &mut [i64], h: Candidate, w: Candidate) -> u64
+    requires { ⌜ (now part ≡ zeros scratchPlaces) × (good (candidateModel h) ≡ true) × (good (candidateModel w) ≡ true) ⌝ }
+    ensures { λ r. ⌜ (r ≡ rootContraction (candidateModel h) (candidateModel w)) × (now (part .exit) ≡ zeros scratchPlaces) ⌝ }
+{
+    let distance = constant_residual(
+        part,
+        &w.coefficients,
+        w.degree,
+        &h.coefficients,
+        h.degree,
+        SQUARE,
+    );
+    up_unsigned(distance, SCALE)
+}
+
+// N of the root.
+pub(crate) fn root_residual(part: &mut [i64], f: Model, h: Candidate) -> u64
+    requires { ⌜ (now part ≡ zeros scratchPlaces) × (good f ≡ true) × (good (candidateModel h) ≡ true) ⌝ }
+    ensures { λ r. ⌜ (r ≡ rootResidual f (candidateModel h)) × (now (part .exit) ≡ zeros scratchPlaces) ⌝ }
+{
+    let distance = product_residual(
+        part,
+        &h.coefficients,
+        h.degree,
+        &h.coefficients,
+        h.degree,
+        &f.coefficients,
+    );
+    up_unsigned(distance + UNIT * (f.radius as u64), UNIT)
+}
+
+// b; `weight` is M.
+pub(crate) fn displacement(weight: u64, n: u64) -> u64
+    requires { ⌜ (weight ≤ maxWeight) × (n ≤ maxRadius) ⌝ }
+    ensures { λ r. ⌜ r ≡ upℕ (weight * n) scale ⌝ }
+{
+    up_unsigned(weight * n, SCALE)
+}
+
+pub(crate) fn quotient_radius(b: u64, m: u64) -> u64
+    requires { ⌜ (b ≤ 2 ^ 36) × (m < scale) ⌝ }
+    ensures { λ r. ⌜ r ≡ upℕ (b * scale) (scale - m) ⌝ }
+{
+    up_unsigned(b * SCALE, SCALE - m)
+}
+
+pub(crate) fn root_radius(b: u64, m: u64) -> u64
+    requires { ⌜ (b ≤ 2 ^ 36) × (m < scale) ⌝ }
+    ensures { λ r. ⌜ r ≡ upℕ (2 * b * scale) (scale - m) ⌝ }
+{
+    up_unsigned(2 * b * SCALE, SCALE - m)
+}

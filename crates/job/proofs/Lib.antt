@@ -1,0 +1,11 @@
+pub mod ByteLaws
+pub mod Stretches
+pub mod Results
+pub mod Loop
+pub mod OperationFits
+pub mod OperationLaws
+pub mod StepLaws
+pub mod Entry
+pub mod KindLaws
+pub mod ReadingLaws
+pub mod Requirement

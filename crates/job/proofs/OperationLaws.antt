@@ -1,0 +1,79 @@
+-- The operations of commands on the results that a work area holds.
+use mathlib.Core.Path.{_≡_, refl, ap, ap₂, subst⁻¹, _∙_}
+use mathlib.Core.Bool.{Bool, true, false, not, _||_}
+use mathlib.Core.List.{List, [], _∷_}
+use Prim.Native.Nat.{ℕ, _+_, _≤_, _<_}
+use borrow.Author.Tests.{leb-false, eqb-true, le-ltb}
+use native.Mathlib.Omega.{arith}
+use lib.Dec.{eqb, leb}
+use lib.IntN.{ℤ}
+use lib.ListN.{length}
+use Rattle.model.specs.Models.{good, zeroModel, firstRefusal, Outcome, outcome}
+use Rattle.model.specs.Operations.{multiplication, productModel}
+use Rattle.certificate.specs.Tests.{scratchPlaces, quotientOf, rootPlaces, rootOf}
+use Rattle.model.specs.declared.types.Model.{Model}
+use Rattle.job.specs.Booleans.{or-false}
+use Rattle.job.specs.Bytes.{byteAt}
+use Rattle.job.specs.Commands.{Command, maxResults, keptByte, badNames}
+use Rattle.job.specs.Jobs.{resultAt, operation}
+use Rattle.job.specs.Work.{workPlaces, stretch, Storable}
+use Rattle.job.specs.Steps.{Holds, Performs}
+use Rattle.job.proofs.Results.{result-held}
+
+-- an outcome that is p
+pub performs : {c : Command} {w : List ℤ} {o p : Outcome} → o ≡ p → Storable (p .model)
+    → ((count : ℕ) (rs : List Model) (t : List ℤ) → Holds w count rs t → badNames c count ≡ false → p ≡ operation c rs)
+    → Performs c w o
+performs e s g = record {
+  storable = subst⁻¹ (λ (o : Outcome). Storable (o .model)) e s;
+  gives = λ count rs t h n. e ∙ g count rs t h n;
+}
+
+-- ---- load
+
+-- the places and the answer of a load
+abbrev pub loaded : Model → Outcome
+loaded m = outcome ((not (good m), 2) ∷ []) m
+
+pub loaded-good : (m : Model) → good m ≡ true → record { number = 0; model = m } ≡ loaded m
+unfolding outcome firstRefusal
+loaded-good m e = rw e
+
+pub loaded-bad : (m : Model) → good m ≡ false → record { number = 2; model = zeroModel } ≡ loaded m
+unfolding outcome firstRefusal
+loaded-bad m e = rw e
+
+-- ---- the results that a command names
+
+pub both-below : (count i j : ℕ) → (leb count i || leb count j) ≡ false → (i < count) × (j < count)
+both-below count i j h = let o = or-false (leb count i) (leb count j) h in (leb-false count i (o .0), leb-false count j (o .1))
+
+-- the bytes after a command name two results: what reading them asks
+pub pair-named : (job : List ℕ) (at : ℕ) (work : List ℤ) → (leb maxResults (byteAt job (at + 1)) || leb maxResults (byteAt job (at + 2))) ≡ false
+    → at + 1 + 2 ≤ length job → workPlaces ≤ length work
+    → ((at + 1 < length job) × ((byteAt job (at + 1) < maxResults) × (workPlaces ≤ length work)))
+    × ((at + 2 < length job) × ((byteAt job (at + 2) < maxResults) × (workPlaces ≤ length work)))
+pair-named job at work n room long =
+    let b = both-below maxResults (byteAt job (at + 1)) (byteAt job (at + 2)) n in
+    omega (arith, b)
+
+module _ {w : List ℤ} {count : ℕ} {rs : List Model} {t : List ℤ} (h : Holds w count rs t) where
+  pub held-one : (f : Model → Outcome) (m : Model) (i : ℕ) → m ≡ stretch w i → leb count i ≡ false → f m ≡ f (resultAt rs i)
+  held-one f m i e n = ap f (e ∙ result-held h i (leb-false count i n))
+
+  pub held-two : (f : Model → Model → Outcome) (m₁ m₂ : Model) (i j : ℕ) → m₁ ≡ stretch w i → m₂ ≡ stretch w j
+      → (leb count i || leb count j) ≡ false → f m₁ m₂ ≡ f (resultAt rs i) (resultAt rs j)
+  held-two f m₁ m₂ i j e₁ e₂ n =
+      let b = both-below count i j n in
+      ap₂ f (e₁ ∙ result-held h i (b .0)) (e₂ ∙ result-held h j (b .1))
+
+-- ---- the kept degree, and the length of the scratch
+
+module _ (len : ℕ) (h : scratchPlaces ≤ len) where
+  pub quotient-long : (f g c w : Model) → quotientOf len f g c w ≡ quotientOf scratchPlaces f g c w
+  unfolding quotientOf
+  quotient-long f g c w = rw (le-ltb len scratchPlaces h)
+
+  pub root-long : (f c w : Model) → rootOf len f c w ≡ rootOf scratchPlaces f c w
+  unfolding rootOf rootPlaces
+  root-long f c w = rw (le-ltb len scratchPlaces h)

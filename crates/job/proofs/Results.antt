@@ -1,0 +1,115 @@
+-- The work area: the results that it holds, read back and added to.
+use mathlib.Core.Path.{_≡_, refl, ap, sym, _∙_}
+use mathlib.Core.List.{List, [], _∷_, _++_, append-assoc, append-nil}
+use Prim.Native.Nat.{ℕ, zero, suc, _+_, _*_, _-_, _≤_, _<_}
+use native.Mathlib.Omega.{arith}
+use lib.IntN.{ℤ, pos}
+use lib.ListN.{length, take, drop, replicate, length-append, length-replicate, replicate-append-replicate}
+use lib.Seq.{take-at, drop-at, drop-append-add, drop-drop}
+use Rattle.model.specs.Models.{places}
+use Rattle.integer.specs.Clearing.{zeros, length-zeros}
+use Rattle.model.specs.declared.types.Model.{Model}
+use Rattle.job.specs.Commands.{maxResults}
+use Rattle.job.specs.Jobs.{resultAt}
+use Rattle.job.specs.Work.{stretchPlaces, workPlaces, words, modelIn, stretch, stretches, workOf, storedAt}
+use Rattle.job.specs.Steps.{Sized, Holds}
+use Rattle.job.proofs.Stretches.{length-words, modelIn-words}
+
+length-stretches : (rs : List Model) → Sized rs → length (stretches rs) ≡ stretchPlaces * length rs
+unfolding stretches
+length-stretches [] s = refl
+length-stretches (m ∷ rs) s =
+    length-append (words m) (stretches rs) ∙ omega (arith, length-words m (s .0), length-stretches rs (s .1))
+
+-- the stretch of result i
+stretch-result : (rs : List Model) (t : List ℤ) (i : ℕ) → Sized rs → i < length rs → stretch (stretches rs ++ t) i ≡ resultAt rs i
+unfolding stretches
+stretch-result [] t i s h = absurd (omega arith)
+stretch-result (m ∷ rs) t zero s h =
+    ap (λ (l : List ℤ). modelIn (take stretchPlaces l)) (append-assoc (words m) (stretches rs) t)
+    ∙ ap modelIn (take-at (words m) (stretches rs ++ t) stretchPlaces (length-words m (s .0)))
+    ∙ modelIn-words m (s .0)
+stretch-result (m ∷ rs) t (suc i) s h =
+    let e : stretchPlaces * suc i ≡ length (words m) + stretchPlaces * i = omega (arith, length-words m (s .0)) in
+    ap (λ (k : ℕ). modelIn (take stretchPlaces (drop k ((words m ++ stretches rs) ++ t)))) e
+    ∙ ap (λ (l : List ℤ). modelIn (take stretchPlaces (drop (length (words m) + stretchPlaces * i) l)))
+    (append-assoc (words m) (stretches rs) t)
+    ∙ ap (λ (l : List ℤ). modelIn (take stretchPlaces l)) (drop-append-add (words m) (stretches rs ++ t) (stretchPlaces * i))
+    ∙ stretch-result rs t i (s .1) (omega arith)
+
+stretches-snoc : (rs : List Model) (m : Model) → stretches (rs ++ (m ∷ [])) ≡ stretches rs ++ words m
+unfolding stretches
+stretches-snoc [] m = append-nil (words m)
+stretches-snoc (r ∷ rs) m =
+    ap (λ (l : List ℤ). words r ++ l) (stretches-snoc rs m) ∙ sym (append-assoc (words r) (stretches rs) (words m))
+
+sized-snoc : (rs : List Model) (m : Model) → Sized rs → length (m .coefficients) ≡ places → Sized (rs ++ (m ∷ []))
+sized-snoc [] m s h = (h, tt)
+sized-snoc (r ∷ rs) m s h = (s .0, sized-snoc rs m (s .1) h)
+
+drop-zeros : (n k : ℕ) (t : List ℤ) → k ≤ n → drop k (zeros n ++ t) ≡ zeros (n - k) ++ t
+unfolding zeros
+drop-zeros n k t h =
+    let e : n ≡ k + (n - k) = omega arith in
+    ap (λ (j : ℕ). drop k (replicate j (pos 0) ++ t)) e
+    ∙ ap (λ (l : List ℤ). drop k (l ++ t)) (sym (replicate-append-replicate k (n - k) (pos 0)))
+    ∙ ap (λ (l : List ℤ). drop k l) (append-assoc (replicate k (pos 0)) (replicate (n - k) (pos 0)) t)
+    ∙ drop-at (replicate k (pos 0)) (replicate (n - k) (pos 0) ++ t) k (length-replicate k (pos 0))
+
+pub length-workOf : (rs : List Model) → Sized rs → length rs ≤ maxResults → length (workOf rs) ≡ workPlaces
+unfolding workOf
+length-workOf rs s few =
+    length-append (stretches rs) (zeros (workPlaces - stretchPlaces * length rs))
+    ∙ omega (arith, length-stretches rs s, length-zeros (workPlaces - stretchPlaces * length rs))
+
+-- ---- a work area that holds results
+
+module _ {w : List ℤ} {count : ℕ} {rs : List Model} {t : List ℤ} (h : Holds w count rs t) where
+  abbrev z : List ℤ
+  z = zeros (workPlaces - stretchPlaces * length rs)
+
+  front-is : w ≡ stretches rs ++ (z ++ t)
+  unfolding workOf
+  front-is = h .work-is ∙ append-assoc (stretches rs) z t
+
+  -- the count is the number of results
+  pub counted : Holds w (length rs) rs t
+  counted = record { work-is = h .work-is; count-is = refl; sized = h .sized }
+
+  -- the model read at result i
+  pub result-held : (i : ℕ) → i < count → stretch w i ≡ resultAt rs i
+  result-held i lt =
+      ap (λ (l : List ℤ). stretch l i) front-is ∙ stretch-result rs (z ++ t) i (h .sized) (omega (arith, h .count-is))
+
+  -- the numbers behind
+  pub behind : length rs ≤ maxResults → drop workPlaces w ≡ t
+  behind few =
+      ap (λ (l : List ℤ). drop workPlaces l) (h .work-is) ∙ drop-at (workOf rs) t workPlaces (length-workOf rs (h .sized) few)
+
+  -- a model stored as the next result
+  pub stored-holds : (m : Model) → count < maxResults → length (m .coefficients) ≡ places
+      → Holds (storedAt w count m) (length (rs ++ (m ∷ []))) (rs ++ (m ∷ [])) t
+  unfolding workOf
+  stored-holds m few h33 =
+      let rs′ : List Model = rs ++ (m ∷ []) in
+      let a : ℕ = stretchPlaces * count in
+      let z′ : List ℤ = zeros (workPlaces - stretchPlaces * length rs′) in
+      let ce : count ≡ length rs = h .count-is in
+      let la : length (stretches rs) ≡ a = omega (arith, length-stretches rs (h .sized)) in
+      let lr : length rs′ ≡ length rs + 1 = length-append rs (m ∷ []) in
+      let front : take a w ≡ stretches rs = ap (λ (l : List ℤ). take a l) front-is ∙ take-at (stretches rs) (z ++ t) a la in
+      let back : drop (a + stretchPlaces) w ≡ z′ ++ t =
+      ap (λ (l : List ℤ). drop (a + stretchPlaces) l) front-is
+      ∙ sym (drop-drop stretchPlaces a (stretches rs ++ (z ++ t)))
+      ∙ ap (λ (l : List ℤ). drop stretchPlaces l) (drop-at (stretches rs) (z ++ t) a la)
+      ∙ drop-zeros (workPlaces - stretchPlaces * length rs) stretchPlaces t (omega arith)
+      ∙ ap (λ (k : ℕ). zeros k ++ t) (omega arith) in record {
+        work-is =
+            ap (λ (l : List ℤ). l ++ (words m ++ drop (a + stretchPlaces) w)) front
+            ∙ ap (λ (l : List ℤ). stretches rs ++ (words m ++ l)) back
+            ∙ sym (append-assoc (stretches rs) (words m) (z′ ++ t))
+            ∙ ap (λ (l : List ℤ). l ++ (z′ ++ t)) (sym (stretches-snoc rs m))
+            ∙ sym (append-assoc (stretches rs′) z′ t);
+        count-is = refl;
+        sized = sized-snoc rs m (h .sized) h33;
+      }

@@ -1,0 +1,72 @@
+-- `operations::load` meets its contract.
+use borrow.Author.Needs.{needs}
+use mathlib.Core.Path.{_≡_, ap, sym, _∙_}
+use mathlib.Core.List.{List}
+use denote.Ref.{now}
+use Rattle.model.specs.Models.{outcomeOf}
+use Rattle.model.specs.declared.types.Model.{Model}
+use Rattle.job.specs.Bytes.{blockAt}
+use Rattle.job.specs.Commands.{commandAt}
+use Rattle.job.specs.Jobs.{operation}
+use Rattle.job.specs.declared.types.Kind.the-variants.{Load}
+use Rattle.job.proofs.OperationFits.{load-storable}
+use Rattle.job.proofs.OperationLaws.{performs, loaded, loaded-good, loaded-bad}
+use Rattle.job.proofs.operations.load.Statement.{statement}
+use Rattle.job.proofs.operations.load.Tie as tie
+
+-- the model that was read is the one that the command loads
+module _ (c : tie.After-read-model) where
+  abbrev m : Model
+  m = c .read-model .result
+
+  loads : (rs : List Model)
+      → loaded m ≡ operation (commandAt Load (now (c .before .before .before .args .job)) (c .before .before .before .args .at)) rs
+  unfolding commandAt operation
+  loads rs = ap loaded (c .read-model .ensures ∙ ap (blockAt _ _) (c .before .read-unsigned .ensures))
+
+add-read-model : tie.Need-add-read-model
+add-read-model c = search needs
+
+add-read-unsigned : tie.Need-add-read-unsigned
+add-read-unsigned c = search needs
+
+read-unsigned-requires : tie.Need-read-unsigned-requires
+read-unsigned-requires c κs = search needs
+
+read-model-requires : tie.Need-read-model-requires
+read-model-requires c κs = search needs
+
+is-good-requires : tie.Need-is-good-requires
+is-good-requires c κs = search needs
+
+refused-requires : tie.Need-refused-requires
+refused-requires c κs = search needs
+
+returns : tie.Need-returns
+returns c =
+    let d = c .before .before in
+    λ w. performs
+    (loaded-good (m d) (sym (c .before .is-good .ensures) ∙ c .if1 .taken))
+    (load-storable (m d))
+    (λ count rs t h n. loads d rs)
+
+returns-2 : tie.Need-returns-2
+returns-2 c =
+    let d = c .before .before .before in
+    λ w. performs
+    (ap outcomeOf (c .refused .ensures) ∙ loaded-bad (m d) (sym (c .before .before .is-good .ensures) ∙ c .before .if1 .left))
+    (load-storable (m d))
+    (λ count rs t h n. loads d rs)
+
+pub load-spec : {M : Type 1} → statement M
+load-spec =
+    tie.close
+    (tie.spec
+    add-read-model
+    add-read-unsigned
+    read-unsigned-requires
+    read-model-requires
+    is-good-requires
+    refused-requires
+    returns
+    returns-2)

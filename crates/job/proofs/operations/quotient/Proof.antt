@@ -1,0 +1,98 @@
+-- `operations::quotient` meets its contract.
+use mathlib.Core.Path.{ap, ap₂, _∙_}
+use Prim.Native.Nat.{_+_}
+use native.Mathlib.Omega.{arith}
+use lib.ListN.{length}
+use denote.Ref.{now}
+use Rattle.certificate.specs.Tests.{scratchPlaces, quotientOf}
+use Rattle.job.specs.Bytes.{byteAt, blockAt}
+use Rattle.job.specs.Commands.{commandAt}
+use Rattle.job.specs.Jobs.{fromTest, operation}
+use Rattle.job.proofs.OperationLaws.{performs, pair-named, held-two, quotient-long}
+use Rattle.job.proofs.OperationFits.{quotient-storable}
+use borrow.Author.Needs.{needs}
+use Rattle.job.proofs.operations.quotient.Statement.{statement}
+use Rattle.job.proofs.operations.quotient.Tie as tie
+
+add-named : tie.Need-add-named
+add-named c = search needs
+
+named-requires : tie.Need-named-requires
+unfolding commandAt
+named-requires c κs =
+    let s = c .before in
+    pair-named (now (s .args .job)) (s .args .at) (now (s .args .work)) (s .pre .0 .names) (omega (arith, s .pre .0 .room)) (s .pre .0 .long) .0
+
+add-named-2 : tie.Need-add-named-2
+add-named-2 c = search needs
+
+named-requires-2 : tie.Need-named-requires-2
+unfolding commandAt
+named-requires-2 c κs =
+    let s = c .before .before in
+    pair-named (now (s .args .job)) (s .args .at) (now (s .args .work)) (s .pre .0 .names) (omega (arith, s .pre .0 .room)) (s .pre .0 .long) .1
+
+add-read-candidate : tie.Need-add-read-candidate
+add-read-candidate c = search needs
+
+read-candidate-requires : tie.Need-read-candidate-requires
+read-candidate-requires c κs = search needs
+
+add-read-candidate-2 : tie.Need-add-read-candidate-2
+add-read-candidate-2 c = search needs
+
+read-candidate-requires-2 : tie.Need-read-candidate-requires-2
+read-candidate-requires-2 c κs = search needs
+
+quotient-requires : tie.Need-quotient-requires
+quotient-requires c κs = search needs
+
+outcome-requires : tie.Need-outcome-requires
+outcome-requires c κs = search needs
+
+same-length : tie.Need-same-length
+same-length c = search needs
+
+returns : tie.Need-returns
+unfolding commandAt operation
+returns c =
+    let q = c .before .before in
+    let d = q .before .before in
+    let e = d .before .before in
+    let s = e .before .before .before in
+    let job = now (s .args .job) in
+    let at = s .args .at in
+    let len = length (now (s .args .scratch)) in
+    let f = e .before .named .result in
+    let g = e .named2 .result in
+    let h = blockAt job (at + 3) 0 in
+    let w = blockAt job (at + 136) 0 in (
+      performs
+          (c .outcome .ensures
+          ∙ ap fromTest
+          (q .quotient .ensures .0
+          ∙ ap₂ (quotientOf len f g) (d .before .read-candidate .ensures) (d .read-candidate2 .ensures)
+          ∙ quotient-long len (s .pre .1 .long) f g h w))
+          (quotient-storable scratchPlaces f g h w)
+          (λ count rs t z n.
+          held-two z (λ f g. fromTest (quotientOf scratchPlaces f g h w)) f g (byteAt job (at + 1)) (byteAt job (at + 2))
+          (e .before .named .ensures) (e .named2 .ensures) n),
+      q .quotient .ensures .1 ∙ s .pre .1 .clear,
+    )
+
+pub quotient-spec : {M : Type 1} → statement M
+quotient-spec =
+    tie.close
+    (tie.spec
+    add-named
+    named-requires
+    add-named-2
+    named-requires-2
+    add-read-candidate
+    read-candidate-requires
+    add-read-candidate-2
+    read-candidate-requires-2
+    quotient-requires
+    outcome-requires
+    same-length
+    returns)

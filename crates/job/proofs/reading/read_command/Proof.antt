@@ -1,0 +1,207 @@
+-- `reading::read_command` meets its contract: its tests are the places of reading, in their order.
+use borrow.Author.Needs.{needs}
+use borrow.Author.Tests.{le-leb, lt-leb, lt-ltb, le-ltb}
+use mathlib.Core.Path.{_≡_, sym, _∙_}
+use mathlib.Core.Bool.{false, _&&_}
+use mathlib.Core.List.{List}
+use Prim.Native.Nat.{ℕ, _+_, _≤_}
+use native.Mathlib.Omega.{arith}
+use lib.Dec.{leb, ltb}
+use lib.ListN.{length}
+use denote.Ref.{now}
+use Rattle.model.specs.Models.{firstRefusal}
+use Rattle.job.specs.Bytes.{byteAt}
+use Rattle.job.specs.Commands.{widthOf, commandAt, maxResults, badKind, badValues, badNames, makesResult, readOutcome, readingNumber, readingPlaces}
+use Rattle.job.specs.declared.types.Shape.{Shape}
+use Rattle.job.proofs.ReadingLaws.{width-is, read-with, placesWith, outcomeWith}
+use Rattle.job.proofs.reading.read_command.Statement.{statement}
+use Rattle.job.proofs.reading.read_command.Tie as tie
+
+-- ---- the parameters, and the shape
+
+module _ (a : tie.After-shape-of) where
+  abbrev job : List ℕ
+  job = now (a .before .before .before .before .args .job)
+
+  abbrev k : ℕ
+  k = a .before .before .before .before .args .k
+
+  abbrev count : ℕ
+  count = a .before .before .before .before .args .count
+
+  abbrev at : ℕ
+  at = a .before .before .before .before .args .at
+
+  abbrev s : Shape
+  s = a .shape-of .result
+
+  reads : readOutcome job k count at ≡ outcomeWith job k count at s (firstRefusal (placesWith job k count at s))
+  reads = read-with job k count at s (a .shape-of .ensures)
+
+  width : s .width ≡ widthOf (s .kind)
+  width = rw (a .shape-of .ensures) (width-is (byteAt job at))
+
+  test1 : leb (length job) at ≡ false
+  test1 = lt-leb _ _ (a .before .before .if1 .left)
+
+-- ---- the tests that failed
+
+test2 : (c : tie.Else2) → badKind (k (c .before .before)) (s (c .before .before) .kind) ≡ false
+test2 c = sym (c .before .is-bad-kind .ensures) ∙ c .if2 .left
+
+module _ (c : tie.Else3) where
+  abbrev a3 : tie.After-shape-of
+  a3 = c .before .before .before .before
+
+  room : at a3 + 1 + s a3 .width ≤ length (job a3)
+  room = omega (arith, c .if3 .left, a3 .before .before .if1 .left)
+
+  fits : at a3 + 1 + widthOf (s a3 .kind) ≤ length (job a3)
+  fits = omega (arith, room, width a3)
+
+  test3 : ltb (length (job a3)) (at a3 + 1 + s a3 .width) ≡ false
+  test3 = le-ltb _ _ room
+
+module _ (c : tie.Else4) where
+  abbrev a4 : tie.After-shape-of
+  a4 = a3 (c .before .before)
+
+  test4 : badValues (s a4 .kind) (job a4) (at a4) ≡ false
+  test4 = sym (c .before .has-bad-values .ensures) ∙ c .if4 .left
+
+module _ (c : tie.Else5) where
+  abbrev a5 : tie.After-shape-of
+  a5 = a4 (c .before .before)
+
+  test5 : badNames (commandAt (s a5 .kind) (job a5) (at a5)) (count a5) ≡ false
+  test5 = sym (c .before .has-bad-names .ensures) ∙ c .if5 .left
+
+module _ (c : tie.Else6) where
+  abbrev a6 : tie.After-shape-of
+  a6 = a5 (c .before .before)
+
+  test6 : (makesResult (commandAt (s a6 .kind) (job a6) (at a6)) && leb maxResults (count a6)) ≡ false
+  test6 = sym (c .before .is-full .ensures (job a6) (at a6)) ∙ c .if6 .left
+
+-- ---- the needs
+
+returns : tie.Need-returns
+unfolding readOutcome readingNumber readingPlaces firstRefusal
+returns c = simp (le-leb _ _ (c .if1 .taken))
+
+shared-slice-read-shape-of : tie.Need-shared-slice-read-shape-of
+shared-slice-read-shape-of c = search needs
+
+shape-of-requires : tie.Need-shape-of-requires
+shape-of-requires c κs = search needs
+
+is-bad-kind-requires : tie.Need-is-bad-kind-requires
+is-bad-kind-requires c κs = search needs
+
+returns-2 : tie.Need-returns-2
+unfolding firstRefusal
+returns-2 c =
+    let a = c .before .before in
+    rw (reads a)
+    (simp (test1 a, sym (c .before .is-bad-kind .ensures) ∙ c .if2 .taken))
+
+sub-if3 : tie.Need-sub-if3
+sub-if3 c = search needs
+
+returns-3 : tie.Need-returns-3
+unfolding firstRefusal
+returns-3 c =
+    let d = c .before .before in
+    let a = d .before .before in
+    rw (reads a)
+    (simp (test1 a, test2 d, lt-ltb (length (job a)) (at a + 1 + s a .width) (omega (arith, c .if3 .taken, a .before .before .if1 .left))))
+
+has-bad-values-requires : tie.Need-has-bad-values-requires
+has-bad-values-requires c κs = fits c
+
+returns-4 : tie.Need-returns-4
+unfolding firstRefusal
+returns-4 c =
+    let d = c .before .before in
+    let a = a3 d in
+    rw (reads a)
+    (simp (test1 a, test2 (d .before .before), test3 d, sym (c .before .has-bad-values .ensures) ∙ c .if4 .taken))
+
+has-bad-names-requires : tie.Need-has-bad-names-requires
+has-bad-names-requires c κs = fits (c .before .before)
+
+returns-5 : tie.Need-returns-5
+unfolding firstRefusal
+returns-5 c =
+    let e = c .before .before in
+    let d = e .before .before in
+    let a = a4 e in
+    rw (reads a)
+    (simp (test1 a, test2 (d .before .before), test3 d, test4 e, sym (c .before .has-bad-names .ensures) ∙ c .if5 .taken))
+
+is-full-requires : tie.Need-is-full-requires
+is-full-requires c κs = search needs
+
+returns-6 : tie.Need-returns-6
+unfolding firstRefusal
+returns-6 c =
+    let f = c .before .before in
+    let e = f .before .before in
+    let d = e .before .before in
+    let a = a5 f in
+    rw (reads a)
+    (simp (test1 a, test2 (d .before .before), test3 d, test4 e, test5 f, sym (c .before .is-full .ensures (job a) (at a)) ∙ c .if6 .taken))
+
+add-next : tie.Need-add-next
+add-next c = search needs
+
+add-next-2 : tie.Need-add-next-2
+add-next-2 c = search needs
+
+is-too-long-requires : tie.Need-is-too-long-requires
+is-too-long-requires c κs = search needs
+
+returns-7 : tie.Need-returns-7
+unfolding firstRefusal
+returns-7 c =
+    let g = c .before .before .before in
+    let f = g .before .before in
+    let e = f .before .before in
+    let d = e .before .before in
+    let a = a6 g in
+    rw (reads a)
+    (simp (test1 a, test2 (d .before .before), test3 d, test4 e, test5 f, test6 g, sym (c .before .is-too-long .ensures) ∙ c .if7 .taken))
+
+returns-8 : tie.Need-returns-8
+unfolding firstRefusal
+returns-8 c =
+    let g = c .before .before .before in
+    let f = g .before .before in
+    let e = f .before .before in
+    let d = e .before .before in
+    let a = a6 g in
+    rw (reads a)
+    (simp (test1 a, test2 (d .before .before), test3 d, test4 e, test5 f, test6 g, sym (c .before .is-too-long .ensures) ∙ c .if7 .left))
+
+pub read-command-spec : {M : Type 1} → statement M
+read-command-spec =
+    tie.close
+    (tie.spec
+    returns
+    shared-slice-read-shape-of
+    shape-of-requires
+    is-bad-kind-requires
+    returns-2
+    sub-if3
+    returns-3
+    has-bad-values-requires
+    returns-4
+    has-bad-names-requires
+    returns-5
+    is-full-requires
+    returns-6
+    add-next
+    add-next-2
+    is-too-long-requires
+    returns-7
+    returns-8)

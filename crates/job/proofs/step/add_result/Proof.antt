@@ -1,0 +1,57 @@
+-- `step::add_result` meets its contract.
+use mathlib.Core.Path.{_≡_, refl, ap, subst⁻¹}
+use mathlib.Core.List.{List, [], _∷_, _++_}
+use Prim.Native.Nat.{_+_}
+use native.Mathlib.Omega.{arith}
+use lib.IntN.{ℤ}
+use lib.ListN.{length, length-append}
+use denote.Ref.{now}
+use Rattle.model.specs.Models.{numberOf, outcomeOf}
+use Rattle.job.specs.CommandLaws.{resulting-refuses, resulting-takes}
+use Rattle.job.specs.Steps.{Holds, onward, Stepped}
+use Rattle.job.specs.declared.types.Done.the-variants.{More, Refused}
+use Rattle.job.proofs.Results.{counted, stored-holds}
+use Rattle.job.proofs.StepLaws.{refusal-positive}
+use borrow.Author.Needs.{needs}
+use Rattle.job.proofs.step.add_result.Statement.{statement}
+use Rattle.job.proofs.step.add_result.Tie as tie
+
+enum-told : tie.Need-enum-told
+enum-told c = search needs
+
+store-requires : tie.Need-store-requires
+store-requires c κs = search needs
+
+add-t11 : tie.Need-add-t11
+add-t11 c = search needs
+
+same-length : tie.Need-same-length
+same-length c = search needs
+
+returns : tie.Need-returns
+returns c = λ rs t h.
+    let s = c .before .before .before .before .before .before in
+    let a = s .args in
+    let m = a .a .model in
+    let z : numberOf (a .a .verdict) ≡ 0 = ap numberOf (c .before .before .before .before .enum-told .given .1) in
+    let l : length (rs ++ (m ∷ [])) ≡ length rs + 1 = length-append rs (m ∷ []) in
+    subst⁻¹ (Stepped (More (a .next) (a .count + 1)) (c .before .store .last .0) rs t)
+    (resulting-takes rs (a .next) (outcomeOf (a .a)) z)
+    (record {
+      answer = ap (onward (a .next)) (omega (arith, h .count-is));
+      holds =
+          subst⁻¹ (λ (w : List ℤ). Holds w (length (rs ++ (m ∷ []))) (rs ++ (m ∷ [])) t) (c .before .store .ensures)
+          (stored-holds h m (s .pre .1 .0) (search needs));
+    })
+
+returns-2 : tie.Need-returns-2
+returns-2 c = λ rs t h.
+    let a = c .before .args in
+    let v = a .a .verdict in
+    subst⁻¹ (Stepped (Refused v) (now (a .work)) rs t)
+    (resulting-refuses rs (a .next) (numberOf v) (outcomeOf (a .a)) refl (refusal-positive v (c .match .keys2)))
+    (record { answer = refl; holds = counted h })
+
+pub add-result-spec : {M : Type 1} → statement M
+add-result-spec =
+    tie.close (tie.spec enum-told store-requires add-t11 same-length returns returns-2)

@@ -1,0 +1,109 @@
+-- An accepted job reads well, and its results are made by the commands that its bytes hold.
+use mathlib.Core.Path.{_≡_, refl, ap, sym, _∙_}
+use mathlib.Core.Bool.{Bool, true, false, true≢false, cond}
+use mathlib.Core.List.{List, [], _∷_, _++_}
+use Prim.Native.Nat.{ℕ, suc, _+_, _-_}
+use native.Mathlib.Omega.{arith}
+use lib.ListN.{length}
+use Rattle.model.specs.RefusalLaws.{Passed, first-refusal-zero}
+use Rattle.model.specs.declared.types.Model.{Model}
+use Rattle.job.specs.Commands.{Command, commandAt, shapeAt, commandRead, nextAt, badKind, makesResult, isEnd, readingPlaces, readingNumber}
+use Rattle.job.specs.Jobs.{operation, operationPlaces, accepted, jobOf}
+use Rattle.job.specs.Reading.{Reading, well, readOn, readFrom, readingOf, ReadsWell, commandsOf}
+use Rattle.job.specs.Places.{passed-front}
+use Rattle.job.specs.Order.{resultsAfter, placesOf, isLast, Reaches, start, next}
+use Rattle.job.specs.CommandLaws.{isEnd-is, reading-numbered, command-readable, operation-succeeds}
+use Rattle.job.specs.OrderLaws.{reaches-bounds, accepted-exactly}
+use Rattle.job.specs.Made.{Made, nothing, one-more, made-length}
+use Rattle.job.specs.declared.types.Kind.{Kind}
+use Rattle.job.specs.declared.types.Kind.the-variants.{End, Edition, Load, Add, Subtract, Multiply, Quotient, Root, Unknown}
+
+-- the commands of the results after a command
+abbrev commandsAfter : Command → List Command → List Command
+commandsAfter c cs = cond (makesResult c) (cs ++ (c ∷ [])) cs
+
+module _ (on : List Command → Reading) (cs : List Command) (job : List ℕ) (k at : ℕ) where
+  reads-on : (kind : Kind) → isEnd kind ≡ false → badKind k kind ≡ false
+      → readOn on cs (commandAt kind job at) ≡ on (commandsAfter (commandAt kind job at) cs)
+  unfolding commandAt
+  reads-on End e b = absurd (true≢false e)
+  reads-on Edition e b = refl
+  reads-on Load e b = refl
+  reads-on Add e b = refl
+  reads-on Subtract e b = refl
+  reads-on Multiply e b = refl
+  reads-on Quotient e b = refl
+  reads-on Root e b = refl
+  reads-on Unknown e b = absurd (true≢false b)
+
+-- command k, reached with the results rs: reading comes there with their commands cs
+record Reached (job : List ℕ) (k : ℕ) (rs : List Model) (at : ℕ) : Type 0 where
+  cs : List Command
+  made : Made cs rs
+  left : readFrom (length job + 1 - k) job k cs at ≡ readingOf job
+
+module _ {job : List ℕ} {k : ℕ} {rs : List Model} {at : ℕ} (r : Reaches job k rs at) (h : Reached job k rs at)
+    (f : Passed (placesOf job k rs at)) where
+  abbrev c : Command
+  c = commandRead job k (length rs) at
+
+  abbrev kind : Kind
+  kind = shapeAt job k (length rs) at .kind
+
+  abbrev onward : List Command → Reading
+  onward cs = readFrom (length job + 1 - (k + 1)) job (k + 1) cs (nextAt job k (length rs) at)
+
+  abbrev reading : List (Bool × ℕ)
+  reading = readingPlaces job k (length rs) at
+
+  no-refusal : readingNumber job k (length (h .cs)) at ≡ 0
+  unfolding placesOf readingNumber
+  no-refusal = rw (made-length (h .made))
+      (first-refusal-zero reading (reading-numbered job k (length rs) at) .1 (passed-front reading (operationPlaces c rs) f))
+
+  by-reading : readOn onward (h .cs) c ≡ readingOf job
+  unfolding readFrom
+  by-reading =
+      let b = reaches-bounds r in
+      let e : length job + 1 - k ≡ suc (length job + 1 - (k + 1)) = omega (arith, b) in
+      sym (ap (λ (f : ℕ). readFrom f job k (h .cs) at) e ∙ rw no-refusal) ∙ h .left
+
+  made-after : (t : Bool) → makesResult c ≡ t
+      → Made (cond t (h .cs ++ (c ∷ [])) (h .cs)) (cond t (rs ++ (operation c rs .model ∷ [])) rs)
+  made-after true e = one-more (h .made) c (command-readable job k rs at f .names-good) e (operation-succeeds job k rs at f)
+  made-after false e = h .made
+
+  reached-next : isLast job k rs at ≡ false → Reached job (k + 1) (resultsAfter c rs) (nextAt job k (length rs) at)
+  reached-next e = record {
+    cs = commandsAfter c (h .cs);
+    made = made-after (makesResult c) refl;
+    left = sym (reads-on onward (h .cs) job k at kind e (command-readable job k rs at f .kind-good)) ∙ by-reading;
+  }
+
+  reached-end : isLast job k rs at ≡ true → readingOf job ≡ well (h .cs)
+  unfolding commandAt
+  reached-end e = sym by-reading ∙ ap (λ (x : Kind). readOn onward (h .cs) (commandAt x job at)) (isEnd-is kind e)
+
+reached : {job : List ℕ} {k : ℕ} {rs : List Model} {at : ℕ} → Reaches job k rs at → Reached job k rs at
+unfolding readingOf
+reached {job} start = record { cs = []; made = nothing; left = ap (λ (f : ℕ). readFrom f job 0 [] 0) (omega arith) }
+reached (next r f e) = reached-next r (reached r) f e
+
+-- ---- an accepted job
+
+module _ (job : List ℕ) (rs : List Model) (h : jobOf job ≡ accepted rs) where
+  accepted-read : (cs : List Command) × (readingOf job ≡ well cs) × Made cs rs
+  accepted-read =
+      let m = accepted-exactly job rs .0 h in
+      let d = reached (m .2) in
+      (d .cs, reached-end (m .2) d (m .3) (m .4), d .made)
+
+  pub accepted-reads-well : ReadsWell job
+  accepted-reads-well = (accepted-read .0, accepted-read .1)
+
+  -- the results are made by the commands that the bytes hold
+  pub accepted-made : Made (commandsOf job) rs
+  accepted-made = rw (accepted-read .1) (accepted-read .2)
+
+  pub accepted-length : length (commandsOf job) ≡ length rs
+  accepted-length = made-length accepted-made

@@ -1,0 +1,40 @@
+-- The order of 01's table over a whole job: "A job is checked command by command, each passing through the places below in
+-- turn before the next is read."
+use mathlib.Core.Path.{_≡_}
+use mathlib.Core.Bool.{Bool, true, false, cond}
+use mathlib.Core.List.{List, [], _∷_, _++_}
+use Prim.Native.Nat.{ℕ, _+_}
+use lib.ListN.{length}
+use Rattle.model.specs.RefusalLaws.{Passed}
+use Rattle.model.specs.declared.types.Model.{Model}
+use Rattle.job.specs.Commands.{Command, shapeAt, commandRead, nextAt, makesResult, isEnd, readingPlaces}
+use Rattle.job.specs.Jobs.{operation, operationPlaces}
+use Rattle.job.specs.Places.{First}
+
+-- the results after a command
+abbrev pub resultsAfter : Command → List Model → List Model
+resultsAfter c rs = cond (makesResult c) (rs ++ (operation c rs .model ∷ [])) rs
+
+-- command k at a position, after the results rs
+module _ (job : List ℕ) (k : ℕ) (rs : List Model) (at : ℕ) where
+  -- the places that it passes through: those of reading, then those of its operation
+  unfoldable pub placesOf : List (Bool × ℕ)
+  placesOf = readingPlaces job k (length rs) at ++ operationPlaces (commandRead job k (length rs) at) rs
+
+  abbrev pub isLast : Bool
+  isLast = isEnd (shapeAt job k (length rs) at .kind)
+
+-- command k is reached at a position with the results rs: every earlier command passed all its places, and none of them is
+-- the end
+pub data Reaches (job : List ℕ) : ℕ → List Model → ℕ → Type 0 where
+  start : Reaches job 0 [] 0
+  next : {k : ℕ} {rs : List Model} {at : ℕ} → Reaches job k rs at → Passed (placesOf job k rs at) → isLast job k rs at ≡ false
+      → Reaches job (k + 1) (resultsAfter (commandRead job k (length rs) at) rs) (nextAt job k (length rs) at)
+
+-- command k refuses with number n: it is reached, and its first place that holds has this number
+abbrev pub RefusesAt : List ℕ → ℕ → ℕ → Type 0
+RefusesAt job n k = (rs : List Model) × (at : ℕ) × Reaches job k rs at × First (placesOf job k rs at) n
+
+-- an end is reached with the results rs, and passes all its places
+abbrev pub EndsWith : List ℕ → List Model → Type 0
+EndsWith job rs = (k : ℕ) × (at : ℕ) × Reaches job k rs at × Passed (placesOf job k rs at) × (isLast job k rs at ≡ true)

@@ -1,0 +1,86 @@
+-- One command of the code: what it answers, and what the work area holds before and after.
+use mathlib.Core.Path.{_≡_}
+use mathlib.Core.Bool.{true, false, _&&_}
+use mathlib.Core.List.{List, [], _∷_, _++_}
+use Prim.Native.Nat.{ℕ, _+_, _≤_}
+use lib.Dec.{leb}
+use lib.IntN.{ℤ}
+use lib.ListN.{length}
+use Rattle.model.specs.Models.{places, numberOf, Outcome}
+use Rattle.certificate.specs.Tests.{scratchPlaces, scratchAfter}
+use Rattle.model.specs.declared.types.Model.{Model}
+use Rattle.job.specs.Commands.{Command, maxResults, widthOf, commandAt, badNames, makesResult}
+use Rattle.job.specs.Jobs.{Step, more, over, no, operation}
+use Rattle.job.specs.Work.{workPlaces, workOf, Storable}
+use Rattle.job.specs.declared.types.Done.{Done}
+use Rattle.job.specs.declared.types.Done.the-variants.{More, Over, Refused}
+use Rattle.job.specs.declared.types.Kind.{Kind}
+
+-- each result has its 33 coefficients
+abbrev pub Sized : List Model → Type 0
+Sized [] = Unit
+Sized (m ∷ rs) = (length (m .coefficients) ≡ places) × Sized rs
+
+-- a work area holds these results, with t behind its 1,120 numbers
+pub record Holds (w : List ℤ) (count : ℕ) (rs : List Model) (t : List ℤ) : Type 0 where
+  pub work-is : w ≡ workOf rs ++ t
+  pub count-is : count ≡ length rs
+  pub sized : Sized rs
+
+-- a step as the code sees it: with the count of the results
+pub data Seen : Type 0 where
+  onward : ℕ → ℕ → Seen
+  ended : Seen
+  stopped : ℕ → Seen
+
+abbrev pub seenOf : Done → Seen
+seenOf (More next count) = onward next count
+seenOf Over = ended
+seenOf (Refused v) = stopped (numberOf v)
+
+abbrev pub seenBy : Step → Seen
+seenBy (more rs next) = onward next (length rs)
+seenBy over = ended
+seenBy (no n) = stopped n
+
+-- the results after a step
+abbrev pub resultsBy : List Model → Step → List Model
+resultsBy rs (more rs′ next) = rs′
+resultsBy rs over = rs
+resultsBy rs (no n) = rs
+
+-- the code answers r and leaves w, where the definition's step is s and the results before it were rs
+pub record Stepped (r : Done) (w : List ℤ) (rs : List Model) (t : List ℤ) (s : Step) : Type 0 where
+  pub answer : seenOf r ≡ seenBy s
+  pub holds : Holds w (length (resultsBy rs s)) (resultsBy rs s) t
+
+-- whatever results the area holds before, the code does the step that f gives for them
+abbrev pub StepsBy : Done → List ℤ → List ℤ → ℕ → (List Model → Step) → Type 0
+StepsBy r w w′ count f = (rs : List Model) (t : List ℤ) → Holds w count rs t → Stepped r w′ rs t (f rs)
+
+-- ---- the operation of a command
+
+-- an outcome is what the command's operation gives for the results that a work area holds
+pub record Performs (c : Command) (w : List ℤ) (o : Outcome) : Type 0 where
+  pub storable : Storable (o .model)
+  pub gives : (count : ℕ) (rs : List Model) (t : List ℤ) → Holds w count rs t → badNames c count ≡ false → o ≡ operation c rs
+
+-- a command that was read, as its operation needs it
+pub record Operable (kind : Kind) (job : List ℕ) (at : ℕ) (work : List ℤ) : Type 0 where
+  pub makes : makesResult (commandAt kind job at) ≡ true
+  pub names : badNames (commandAt kind job at) maxResults ≡ false
+  pub room : at + 1 + widthOf kind ≤ length job
+  pub long : workPlaces ≤ length work
+
+-- a command that was read, as performing it needs it
+pub record Performable (kind : Kind) (job : List ℕ) (count at : ℕ) (work : List ℤ) : Type 0 where
+  pub names : badNames (commandAt kind job at) count ≡ false
+  pub space : (makesResult (commandAt kind job at) && leb maxResults count) ≡ false
+  pub few : count ≤ maxResults
+  pub room : at + 1 + widthOf kind ≤ length job
+  pub long : workPlaces ≤ length work
+
+-- a scratch whose 65 numbers are zero
+pub record Clear (scratch : List ℤ) : Type 0 where
+  pub long : scratchPlaces ≤ length scratch
+  pub clear : scratchAfter scratch ≡ scratch

@@ -1,0 +1,87 @@
+-- The work area: "Each result is written into its own 35 numbers of the work area (degree, coefficients, radius; 1,120 signed
+-- 32-bit numbers)."
+use mathlib.Core.Bool.{cond, _&&_, Bool}
+use mathlib.Core.List.{List, [], _∷_, _++_}
+use Prim.Native.Nat.{ℕ, _+_, _*_, _-_, _≤_}
+use lib.Dec.{leb}
+use lib.IntN.{ℤ, pos, natAbs}
+use lib.ListN.{length, getD, take, drop, replicate}
+use Rattle.integer.specs.Clearing.{zeros}
+use Rattle.model.specs.Models.{places, maxDegree, maxRadius, modelOf, numberOf}
+use Rattle.certificate.specs.Tests.{scratchPlaces}
+use Rattle.model.specs.declared.types.Model.{Model}
+use Rattle.job.specs.Jobs.{JobOutcome, accepted, refused, jobOf}
+use Rattle.job.specs.declared.types.Report.{Report}
+use Rattle.job.specs.declared.types.Report.the-variants.{Accepted, Refused}
+
+-- the numbers of a stretch, and of the whole area
+abbrev pub stretchPlaces : ℕ
+stretchPlaces = 35
+
+abbrev pub workPlaces : ℕ
+workPlaces = 1120
+
+-- the 35 numbers of a model
+abbrev pub words : Model → List ℤ
+words m = pos (m .degree) ∷ (m .coefficients ++ (pos (m .radius) ∷ []))
+
+-- the model whose 35 numbers these are
+abbrev pub modelIn : List ℤ → Model
+modelIn s = modelOf (natAbs (getD s 0 (pos 0))) (take places (drop 1 s)) (natAbs (getD s (places + 1) (pos 0)))
+
+-- the model in stretch i of a work area
+abbrev pub stretch : List ℤ → ℕ → Model
+stretch w i = modelIn (take stretchPlaces (drop (stretchPlaces * i) w))
+
+-- a model whose degree and radius a stretch can hold
+abbrev pub Storable : Model → Type 0
+Storable m = (m .degree ≤ maxDegree) × (m .radius ≤ maxRadius)
+
+-- the area with a model written into stretch i
+abbrev pub storedAt : List ℤ → ℕ → Model → List ℤ
+storedAt w i m = take (stretchPlaces * i) w ++ (words m ++ drop (stretchPlaces * i + stretchPlaces) w)
+
+unfoldable pub stretches : List Model → List ℤ
+stretches [] = []
+stretches (m ∷ rs) = words m ++ stretches rs
+
+-- the 1,120 numbers: the results, later stretches zero
+unfoldable pub workOf : List Model → List ℤ
+workOf rs = stretches rs ++ zeros (workPlaces - stretchPlaces * length rs)
+
+-- ---- the entry
+
+-- the lent areas are long enough, "work area before scratch"
+abbrev pub areasFit : List ℤ → List ℤ → Bool
+areasFit w s = leb workPlaces (length w) && leb scratchPlaces (length s)
+
+-- "too short; neither is touched"; "refusal 1 goes with command 0"
+unfoldable pub checkOf : List ℕ → List ℤ → List ℤ → JobOutcome
+checkOf job w s = cond (areasFit w s) (jobOf job) (refused 1 0)
+
+abbrev pub resultsOf : JobOutcome → List Model
+resultsOf (accepted rs) = rs
+resultsOf (refused n k) = []
+
+-- "An accepted job leaves later stretches zero; a refused one leaves all 1,120 zero, save that refusal 1 touches nothing.
+-- Numbers behind stay."
+unfoldable pub workAfter : List ℕ → List ℤ → List ℤ → List ℤ
+workAfter job w s = cond (areasFit w s) (workOf (resultsOf (jobOf job)) ++ drop workPlaces w) w
+
+-- the scratch after a job: its 65 numbers are zero unless an area was too short
+unfoldable pub scratchAfterJob : List ℤ → List ℤ → List ℤ
+scratchAfterJob w s = cond (areasFit w s) (zeros scratchPlaces ++ drop scratchPlaces s) s
+
+-- "The answer is the count, or the refusal with its command, counted from 0"; the numbers not in use are zero
+pub record Answer : Type 0 where
+  pub number : ℕ
+  pub command : ℕ
+  pub count : ℕ
+
+abbrev pub answerOf : Report → Answer
+answerOf (Accepted n) = record { number = 0; command = 0; count = n }
+answerOf (Refused v k) = record { number = numberOf v; command = k; count = 0 }
+
+abbrev pub answered : JobOutcome → Answer
+answered (accepted rs) = record { number = 0; command = 0; count = length rs }
+answered (refused n k) = record { number = n; command = k; count = 0 }

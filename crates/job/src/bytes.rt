@@ -1,0 +1,71 @@
+// Numbers and blocks in a job's bytes, little-endian.
+ghost use mathlib.Core.Path.{_≡_};
+ghost use Prim.Native.Nat.{_+_, _≤_, _<_};
+ghost use lib.ListN.{length};
+ghost use Rattle.model.specs.Models.{candidateModel};
+ghost use Rattle.job.specs.Bytes.{unsignedAt, signed as signedOf, signedsAt, blockAt};
+use model::types::Candidate;
+use model::types::Model;
+use model::types::PLACES;
+
+fn widen(b: u8) -> u32
+    ensures { λ r. ⌜ (r ≡ b) × (r < 256) ⌝ }
+{
+    b as u32
+}
+
+// The unsigned 32-bit number of the four bytes from i on.
+pub fn read_unsigned(s: &[u8], i: usize) -> u32
+    requires { ⌜ i + 4 ≤ length (now s) ⌝ }
+    ensures { λ r. ⌜ r ≡ unsignedAt (now (s .entry)) i ⌝ }
+{
+    widen(s[i]) + 256 * widen(s[i + 1]) + 65536 * widen(s[i + 2]) + 16777216 * widen(s[i + 3])
+}
+
+// Two's complement.
+pub fn to_signed(n: u32) -> i32
+    ensures { λ r. ⌜ r ≡ signedOf n ⌝ }
+{
+    if n < 0x8000_0000 {
+        n as i32
+    } else {
+        -1 - ((0xffff_ffff - n) as i32)
+    }
+}
+
+// The coefficients of a block from i on.
+fn read_coefficients(s: &[u8], i: usize) -> [i32; PLACES]
+    requires { ⌜ i + 132 ≤ length (now s) ⌝ }
+    ensures { λ r. ⌜ r ≡ signedsAt (now (s .entry)) i 33 ⌝ }
+{
+    let mut coefficients = [0i32; PLACES];
+    let mut k: usize = 0;
+    while k < PLACES {
+        coefficients[k] = to_signed(read_unsigned(s, i + 4 * k));
+        k += 1;
+    }
+    coefficients
+}
+
+// The block from i on, with a radius.
+pub fn read_model(s: &[u8], i: usize, radius: u32) -> Model
+    requires { ⌜ i + 133 ≤ length (now s) ⌝ }
+    ensures { λ (r : Model). ⌜ r ≡ blockAt (now (s .entry)) i radius ⌝ }
+{
+    let degree = widen(s[i]);
+    let coefficients = read_coefficients(s, i + 1);
+    Model::new(degree, coefficients, radius)
+}
+
+// The block from i on, as a candidate.
+pub fn read_candidate(s: &[u8], i: usize) -> Candidate
+    requires { ⌜ i + 133 ≤ length (now s) ⌝ }
+    ensures { λ (r : Candidate). ⌜ candidateModel r ≡ blockAt (now (s .entry)) i 0 ⌝ }
+{
+    let degree = widen(s[i]);
+    let coefficients = read_coefficients(s, i + 1);
+    Candidate {
+        degree,
+        coefficients,
+    }
+}

@@ -1,0 +1,129 @@
+// The operations of the commands that make a result, on the results and blocks that they name.
+ghost use mathlib.Core.Path.{_≡_};
+ghost use mathlib.Core.List.{List};
+ghost use Prim.Native.Nat.{_+_, _≤_, _<_};
+ghost use lib.IntN.{ℤ};
+ghost use lib.ListN.{length};
+ghost use Rattle.model.specs.Models.{outcomeOf};
+ghost use Rattle.certificate.specs.Tests.{testOf};
+ghost use Rattle.job.specs.Bytes.{byteAt};
+ghost use Rattle.job.specs.Commands.{keptByte, maxResults, commandAt};
+ghost use Rattle.job.specs.Jobs.{fromTest};
+ghost use Rattle.job.specs.Work.{workPlaces, stretch};
+ghost use Rattle.job.specs.Steps.{Performs, Operable, Clear};
+use crate::bytes::read_candidate;
+use crate::bytes::read_model;
+use crate::bytes::read_unsigned;
+use crate::types::Kind;
+use crate::work::stretch_at;
+use certificate::types::Certified;
+use model::types::Answer;
+use model::types::Model;
+use model::types::Verdict;
+
+// The result that byte i of the job names.
+fn named(job: &[u8], i: usize, work: &[i32]) -> Model
+    requires { ⌜ (i < length (now job)) × ((byteAt (now job) i < maxResults) × (workPlaces ≤ length (now work))) ⌝ }
+    ensures { λ (m : Model). ⌜ m ≡ stretch (now (work .entry)) (byteAt (now (job .entry)) i) ⌝ }
+{
+    stretch_at(work, job[i] as usize)
+}
+
+fn load(job: &[u8], at: usize) -> Answer
+    requires { ⌜ at + 138 ≤ length (now job) ⌝ }
+    ensures { λ (r : Answer). ⌜ ((w : List ℤ) → Performs (commandAt Kind.Load (now (job .entry)) at) w (outcomeOf r)) ⌝ }
+{
+    let m = read_model(job, at + 1, read_unsigned(job, at + 134));
+    if model::measure::is_good(m) {
+        Answer {
+            verdict: Verdict::Accepted,
+            model: m,
+        }
+    } else {
+        Answer::refused(Verdict::BadModel)
+    }
+}
+
+fn add(job: &[u8], at: usize, work: &[i32]) -> Answer
+    requires { ⌜ Operable Kind.Add (now job) at (now work) ⌝ }
+    ensures { λ (r : Answer). ⌜ Performs (commandAt Kind.Add (now (job .entry)) at) (now (work .entry)) (outcomeOf r) ⌝ }
+{
+    model::add::add(named(job, at + 1, work), named(job, at + 2, work))
+}
+
+fn subtract(job: &[u8], at: usize, work: &[i32]) -> Answer
+    requires { ⌜ Operable Kind.Subtract (now job) at (now work) ⌝ }
+    ensures { λ (r : Answer). ⌜ Performs (commandAt Kind.Subtract (now (job .entry)) at) (now (work .entry)) (outcomeOf r) ⌝ }
+{
+    model::add::subtract(named(job, at + 1, work), named(job, at + 2, work))
+}
+
+// The kept degree that a byte means: the choice of 0xFF is made here, and not left to the library.
+fn kept_degree(d: u8) -> u32
+    ensures { λ r. ⌜ r ≡ keptByte d ⌝ }
+{
+    if d == 255 {
+        Model::MAX_DEGREE
+    } else {
+        d as u32
+    }
+}
+
+fn multiply(job: &[u8], at: usize, work: &[i32]) -> Answer
+    requires { ⌜ Operable Kind.Multiply (now job) at (now work) ⌝ }
+    ensures { λ (r : Answer). ⌜ Performs (commandAt Kind.Multiply (now (job .entry)) at) (now (work .entry)) (outcomeOf r) ⌝ }
+{
+    let a = named(job, at + 1, work);
+    let b = named(job, at + 2, work);
+    let kept = kept_degree(job[at + 3]);
+    model::multiply::multiply(a, b, kept)
+}
+
+// A test's verdict and result.
+fn outcome(r: Certified) -> Answer
+    ensures { λ (a : Answer). ⌜ outcomeOf a ≡ fromTest (testOf r) ⌝ }
+{
+    let verdict = r.verdict;
+    let model = r.model;
+    Answer { verdict, model }
+}
+
+fn quotient(job: &[u8], at: usize, work: &[i32], scratch: &mut [i64]) -> Answer
+    requires { ⌜ Operable Kind.Quotient (now job) at (now work) × Clear (now scratch) ⌝ }
+    ensures { λ (r : Answer). ⌜ Performs (commandAt Kind.Quotient (now (job .entry)) at) (now (work .entry)) (outcomeOf r) ⌝ }
+    ensures { λ _. ⌜ now (scratch .exit) ≡ now (scratch .entry) ⌝ }
+{
+    let f = named(job, at + 1, work);
+    let g = named(job, at + 2, work);
+    let h = read_candidate(job, at + 3);
+    let w = read_candidate(job, at + 136);
+    outcome(certificate::quotient::quotient(f, g, h, w, scratch))
+}
+
+fn root(job: &[u8], at: usize, work: &[i32], scratch: &mut [i64]) -> Answer
+    requires { ⌜ Operable Kind.Root (now job) at (now work) × Clear (now scratch) ⌝ }
+    ensures { λ (r : Answer). ⌜ Performs (commandAt Kind.Root (now (job .entry)) at) (now (work .entry)) (outcomeOf r) ⌝ }
+    ensures { λ _. ⌜ now (scratch .exit) ≡ now (scratch .entry) ⌝ }
+{
+    let f = named(job, at + 1, work);
+    let h = read_candidate(job, at + 2);
+    let w = read_candidate(job, at + 135);
+    outcome(certificate::root::root(f, h, w, scratch))
+}
+
+// The operation of a command that makes a result.
+pub fn operate(kind: Kind, job: &[u8], at: usize, work: &[i32], scratch: &mut [i64]) -> Answer
+    requires { ⌜ Operable kind (now job) at (now work) × Clear (now scratch) ⌝ }
+    ensures { λ (r : Answer). ⌜ Performs (commandAt kind (now (job .entry)) at) (now (work .entry)) (outcomeOf r) ⌝ }
+    ensures { λ _. ⌜ now (scratch .exit) ≡ now (scratch .entry) ⌝ }
+{
+    match kind {
+        Kind::Load => load(job, at),
+        Kind::Add => add(job, at, work),
+        Kind::Subtract => subtract(job, at, work),
+        Kind::Multiply => multiply(job, at, work),
+        Kind::Quotient => quotient(job, at, work, scratch),
+        Kind::Root => root(job, at, work, scratch),
+        _ => Answer::refused(Verdict::BadValue),
+    }
+}

@@ -1,0 +1,77 @@
+// One command: its reading, its operation, and its result's stretch of the work area.
+ghost use mathlib.Core.Path.{_≡_};
+ghost use Prim.Native.Nat.{_≤_, _<_};
+ghost use lib.ListN.{length};
+ghost use Rattle.model.specs.Models.{outcomeOf};
+ghost use Rattle.job.specs.Commands.{maxResults, commandAt};
+ghost use Rattle.job.specs.Jobs.{resulting, performed, command};
+ghost use Rattle.job.specs.Work.{workPlaces, Storable};
+ghost use Rattle.job.specs.Steps.{StepsBy, Performable, Clear};
+use crate::operations::operate;
+use crate::reading::read_command;
+use crate::types::Done;
+use crate::types::Kind;
+use crate::types::Read;
+use crate::work::store;
+use model::types::Answer;
+use model::types::Verdict;
+
+// The operation's answer becomes the next result.
+fn add_result(work: &mut [i32], count: usize, next: usize, a: Answer) -> Done
+    requires { ⌜ (workPlaces ≤ length (now work)) × ((count < maxResults) × Storable (a .model)) ⌝ }
+    ensures { λ (r : Done). ⌜ StepsBy r (now (work .entry)) (now (work .exit)) count (λ rs. resulting rs next (outcomeOf a)) ⌝ }
+{
+    let verdict = a.verdict;
+    match verdict {
+        Verdict::Accepted => {
+            let m = a.model;
+            store(work, count, m);
+            Done::More(next, count + 1)
+        }
+        _ => Done::Refused(verdict),
+    }
+}
+
+// A command that was read.
+fn perform(
+    kind: Kind,
+    next: usize,
+    job: &[u8],
+    count: usize,
+    at: usize,
+    work: &mut [i32],
+    scratch: &mut [i64],
+) -> Done
+    requires { ⌜ Performable kind (now job) count at (now work) × Clear (now scratch) ⌝ }
+    ensures { λ (r : Done). ⌜ StepsBy r (now (work .entry)) (now (work .exit)) count (λ rs. performed (commandAt kind (now (job .entry)) at) rs next) ⌝ }
+    ensures { λ _. ⌜ now (scratch .exit) ≡ now (scratch .entry) ⌝ }
+{
+    match kind {
+        Kind::End | Kind::Unknown => Done::Over,
+        Kind::Edition => Done::More(next, count),
+        _ => {
+            let a = operate(kind, job, at, work, scratch);
+            add_result(work, count, next, a)
+        }
+    }
+}
+
+// Command k, whose byte stands at a position, with so many results before it.
+pub fn step(
+    job: &[u8],
+    k: usize,
+    count: usize,
+    at: usize,
+    work: &mut [i32],
+    scratch: &mut [i64],
+) -> Done
+    requires { ⌜ (workPlaces ≤ length (now work)) × ((count ≤ maxResults) × Clear (now scratch)) ⌝ }
+    ensures { λ (r : Done). ⌜ StepsBy r (now (work .entry)) (now (work .exit)) count (λ rs. command (now (job .entry)) k rs at) ⌝ }
+    ensures { λ _. ⌜ now (scratch .exit) ≡ now (scratch .entry) ⌝ }
+{
+    let read = read_command(job, k, count, at);
+    match read {
+        Read::Refused(v) => Done::Refused(v),
+        Read::Command(kind, next) => perform(kind, next, job, count, at, work, scratch),
+    }
+}

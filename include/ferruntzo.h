@@ -1,0 +1,236 @@
+/* ferruntzo.h: the Ferruntzo library for C99 and C++.
+
+   The library checks Chebyshev certificates.  Polynomials in the Chebyshev
+   basis are added, subtracted, multiplied, integrated and evaluated with a
+   proved error radius; a proposed quotient or square root is accepted with a
+   proved radius or refused; and a whole job of such commands is checked.
+
+   Link with libexport.a, which scripts/build_library makes (x86-64, System V
+   calling convention):
+
+     cc -Iinclude program.c target/staticlib/libexport.a
+
+   examples/check_job.c is a program to copy, docs/FORMAT.md the format of
+   jobs.  "01" below is the scope document that fixes every number.
+
+   NUMBERS
+
+   S = 2^20.  Coefficients, radii and bounds are whole numbers of units, one
+   unit being 1/S.  T_0 = 1, T_1 = x, T_(k+2) = 2 x T_(k+1) - T_k.
+
+   A model area holds 35 numbers: the degree n (0 to 32), 33 coefficients
+   a_0 .. a_32 and the radius e.  Coefficients beyond the degree are zero.  The
+   weight, |a_0| + .. + |a_32|, and the radius are each at most 2^28.  The
+   model allows the value v at x, where -1 <= x <= 1, when
+
+     | v - (a_0 T_0(x) + .. + a_n T_n(x)) / S |  <=  e / S.
+
+   A candidate area holds 34 numbers: a model without its radius.
+
+   AREAS
+
+   Each pointer is followed by the length of its area, counted in numbers, not
+   in bytes.  The caller sees to it that
+   - the pointer is aligned for its type, and as many numbers as the length
+     says can be read there, and written where the pointer is not const;
+   - an area that is written overlaps no other area of the same call.  Areas
+     that are only read may overlap or be the same: a may be b;
+   - a pointer is null only if its length is 0;
+   - no other thread uses a written area, or writes a read one, during the call.
+   Every content of every area is then taken; nothing else is asked of it, and
+   what a written area held before plays no part.
+
+   An area may be longer than needed: the numbers behind the needed ones play
+   no part and keep their values.  No function keeps a pointer, allocates
+   memory, or has state between calls, so calls on different areas may run at
+   the same time.
+
+   ANSWERS
+
+   Each function returns FERRUNTZO_ACCEPTED (0) or the number of a refusal.
+   - FERRUNTZO_SHORT_AREA (1), an area shorter than needed, comes before
+     everything else, and no area is touched (but see ferruntzo_check).
+   - After any other refusal, out, bounds, report and work are zero, as far as
+     the function writes them.
+   - The 65 numbers of scratch are zero after every call but one refused with 1.
+   Each function lists its refusals in the order in which they are tested; the
+   first that applies is returned. */
+#ifndef FERRUNTZO_H
+#define FERRUNTZO_H
+
+#include <stddef.h>
+#include <stdint.h>
+
+#ifdef __cplusplus
+extern "C" {
+#endif
+
+/* ---- Limits ---- */
+
+#define FERRUNTZO_S 1048576               /* one unit is 1/S */
+#define FERRUNTZO_MAX_DEGREE 32
+#define FERRUNTZO_MAX_WEIGHT 268435456    /* 2^28 */
+#define FERRUNTZO_MAX_RADIUS 268435456    /* 2^28 */
+#define FERRUNTZO_MAX_RESIDUAL 268435456  /* 2^28, of N in the two tests */
+#define FERRUNTZO_MAX_RESULTS 32          /* of a job */
+
+/* ---- Sizes of the areas, in numbers ---- */
+
+#define FERRUNTZO_MODEL_SIZE 35       /* int32_t: degree, coefficients, radius */
+#define FERRUNTZO_CANDIDATE_SIZE 34   /* int32_t: degree, coefficients */
+#define FERRUNTZO_BOUNDS_SIZE 2       /* int64_t: low, high */
+#define FERRUNTZO_SCRATCH_SIZE 65     /* int64_t */
+#define FERRUNTZO_REPORT_SIZE 3       /* uint64_t: m, N, b */
+#define FERRUNTZO_WORK_SIZE 1120      /* int32_t: 32 models */
+#define FERRUNTZO_ANSWER_SIZE 2       /* uint32_t: count, command */
+
+/* ---- Places inside a model area ---- */
+
+#define FERRUNTZO_PLACE_DEGREE 0
+#define FERRUNTZO_PLACE_COEFFICIENTS 1  /* of a_0; a_k stands at 1 + k */
+#define FERRUNTZO_PLACE_RADIUS 34
+#define FERRUNTZO_COEFFICIENTS 33       /* how many there are */
+
+/* A kept degree of a product that leaves the choice open: 32. */
+#define FERRUNTZO_DEFAULT_KEPT 255
+
+/* ---- Bytes of a job (docs/FORMAT.md) ---- */
+
+#define FERRUNTZO_COMMAND_END 0x00
+#define FERRUNTZO_COMMAND_EDITION 0x01
+#define FERRUNTZO_COMMAND_LOAD 0x10
+#define FERRUNTZO_COMMAND_ADD 0x11
+#define FERRUNTZO_COMMAND_SUBTRACT 0x12
+#define FERRUNTZO_COMMAND_MULTIPLY 0x13
+#define FERRUNTZO_COMMAND_QUOTIENT 0x20
+#define FERRUNTZO_COMMAND_ROOT 0x21
+#define FERRUNTZO_BLOCK_BYTES 133       /* degree byte and 33 coefficients */
+
+/* No longer job is ever accepted: edition, a load, 31 quotients, end. */
+#define FERRUNTZO_MAX_JOB_BYTES 8480
+/* The program jobcheck prints "too long" above this; the library has no limit. */
+#define FERRUNTZO_PROGRAM_JOB_BYTES 65536
+
+/* ---- Refusals ---- */
+
+enum ferruntzo_refusal {
+    FERRUNTZO_ACCEPTED = 0,
+    FERRUNTZO_SHORT_AREA = 1,             /* an area is shorter than needed */
+    FERRUNTZO_BAD_MODEL = 2,              /* degree, weight, radius, or a nonzero beyond the degree */
+    FERRUNTZO_LARGE_RESULT = 3,           /* the result's weight or radius above 2^28, its degree above 32 */
+    FERRUNTZO_POINT_OUTSIDE = 4,          /* p is not from -S to S */
+    FERRUNTZO_NOT_CONTRACTING = 5,        /* m >= S: the helper w is too far from the inverse */
+    FERRUNTZO_LARGE_RESIDUAL = 6,         /* N > 2^28 */
+    FERRUNTZO_HELPER_NOT_POSITIVE = 7,    /* root: w_0 + .. + w_32 <= 0 */
+    FERRUNTZO_NEGATIVE_DISCRIMINANT = 8,  /* root: (S - m)^2 < 8 b M */
+    FERRUNTZO_BAD_VALUE = 9,              /* unknown command, edition or kept degree; edition not first or again */
+    FERRUNTZO_JOB_ENDS = 10,              /* the job ends inside a command or without an end */
+    FERRUNTZO_BYTES_AFTER_END = 11,       /* bytes follow the end */
+    FERRUNTZO_NOT_A_RESULT = 12,          /* a command names a result that is not there yet */
+    FERRUNTZO_TOO_MANY_RESULTS = 13       /* a 33rd result */
+};
+
+/* ---- Plain operations on models ----
+
+   Sizes: a, b and out 35, bounds 2.  Accepted: out holds the result.  Refused
+   with a number above 1: out is zero.  A sum, difference or product of values
+   that a and b allow at some x is allowed there by out. */
+
+/* a + b and a - b: coefficient by coefficient, the larger degree, radii added.
+   Refusals: 1 (a, b or out), 2 (a or b), 3. */
+uint32_t ferruntzo_add(const int32_t *a, size_t a_len,
+                       const int32_t *b, size_t b_len,
+                       int32_t *out, size_t out_len);
+
+uint32_t ferruntzo_subtract(const int32_t *a, size_t a_len,
+                            const int32_t *b, size_t b_len,
+                            int32_t *out, size_t out_len);
+
+/* a times b.  Coefficients beyond the kept degree are dropped and paid for in
+   the radius.  kept is 0 to 32, or FERRUNTZO_DEFAULT_KEPT for 32; the
+   result's degree is the smaller of kept and the sum of the degrees.
+   Refusals: 1 (a, b or out), 2 (a or b), 9 (kept), 3. */
+uint32_t ferruntzo_multiply(const int32_t *a, size_t a_len,
+                            const int32_t *b, size_t b_len,
+                            uint32_t kept,
+                            int32_t *out, size_t out_len);
+
+/* The integral from -1 to x: degree n + 1, radius 2e + n + 1.  It bounds the
+   exact primitive of every list of coefficients that differ from those of a by
+   at most e units in total (not of every function that a allows).
+   Refusals: 1 (a or out), 2, 3 (degree 32 always). */
+uint32_t ferruntzo_integrate(const int32_t *a, size_t a_len,
+                             int32_t *out, size_t out_len);
+
+/* Bounds, in units, of every value that a allows at x = p/S.  p is from -S to S.
+   bounds (2): bounds[0] <= S v <= bounds[1]; 0 and 0 when refused.
+   Refusals: 1 (a or bounds), 2, 4. */
+uint32_t ferruntzo_evaluate(const int32_t *a, size_t a_len,
+                            int32_t p,
+                            int64_t *bounds, size_t bounds_len);
+
+/* ---- The two tests ----
+
+   h is the proposed answer, w a helper; docs/FORMAT.md says how to choose them.
+   Sizes: f and g 35, h and w 34, scratch 65, out 35, report 3.
+   Accepted: out holds h with the radius that the test gives; report holds 01's
+   m, N and b.  Refused with a number above 1: out and report are zero.
+   scratch is zero after every call but one refused with 1. */
+
+/* h for f/g, w near 1/g.  Accepted: at every x from -1 to 1 no value that g
+   allows is zero, and each value of f over one of g is allowed by out.
+   Refusals: 1 (any area), 2 (f, g, h or w), 5, 6, 3 (the radius). */
+uint32_t ferruntzo_quotient(const int32_t *f, size_t f_len,
+                            const int32_t *g, size_t g_len,
+                            const int32_t *h, size_t h_len,
+                            const int32_t *w, size_t w_len,
+                            int64_t *scratch, size_t scratch_len,
+                            int32_t *out, size_t out_len,
+                            uint64_t *report, size_t report_len);
+
+/* h for the square root of f, w near 1/(2h).  Accepted: at every x from -1 to 1
+   no value that f allows is negative, and out allows the root of each; the
+   radius is at most 2^27.
+   Refusals: 1 (any area), 2 (f, h or w), 7, 5, 6, 8. */
+uint32_t ferruntzo_root(const int32_t *f, size_t f_len,
+                        const int32_t *h, size_t h_len,
+                        const int32_t *w, size_t w_len,
+                        int64_t *scratch, size_t scratch_len,
+                        int32_t *out, size_t out_len,
+                        uint64_t *report, size_t report_len);
+
+/* ---- Jobs ----
+
+   Checks the job_len bytes at job, of any length and content.
+   Sizes: work 1120, scratch 65, answer 2.
+
+   Accepted: answer[0] is the count of results, 0 to 32, and answer[1] is 0.
+   Result i is the model at work + 35 * i; the rest of the 1120 numbers is zero.
+   Its degree is work[35 * i], its radius work[35 * i + FERRUNTZO_PLACE_RADIUS].
+
+   Refused with a number above 1: answer[0] is 0, answer[1] is the number of the
+   refused command, counted from 0 (the edition is command 0); the 1120 numbers
+   of work are zero.
+
+   Refused with 1: work and scratch are not touched.  If answer has its 2
+   numbers they are 0 and 0; if it is too short it is not touched either.
+
+   Refusals: 1 (answer, work or scratch); then, for each command in turn,
+     9   unknown byte, no edition first, or edition again
+     10  the job ends before the command or inside it
+     9   edition not 1; kept degree from 33 to 254
+     12  a named result that is not there yet
+     13  a 33rd result
+     2   the loaded model, or h or w
+     7, 5, 6, 8, 3   as the operation or test gives them
+     11  bytes after the end */
+uint32_t ferruntzo_check(const uint8_t *job, size_t job_len,
+                         int32_t *work, size_t work_len,
+                         int64_t *scratch, size_t scratch_len,
+                         uint32_t *answer, size_t answer_len);
+
+#ifdef __cplusplus
+}
+#endif
+
+#endif

@@ -1,0 +1,553 @@
+//! A safe wrapper over the Ferruntzo library (`libexport.a`, see `include/ferruntzo.h`).
+//!
+//! ```text
+//! scripts/build_library
+//! rustc --edition 2021 -L target/staticlib --crate-type rlib wrapper/ferruntzo.rs
+//! rustc --edition 2021 -L target/staticlib -L . --extern ferruntzo program.rs
+//! ```
+//!
+//! The typed functions ([`Model::add`], [`quotient`], [`check`], ...) lend the library areas of
+//! the right size. The functions in [`areas`] take the caller's own slices of every length.
+//! The crate needs `core` alone, allocates nothing and has no state.
+//!
+//! ```
+//! use ferruntzo::{check, root, Candidate, Model, S};
+//!
+//! // The square root of 4: the solver proposes h = 2 with the helper w = 1/(2h) = 1/4.
+//! let found = root(&Model::constant(4 * S), &Candidate::constant(2 * S), &Candidate::constant(S / 4));
+//! assert_eq!(found.unwrap().model.radius(), 0);
+//!
+//! // The empty job is refused with number 10 at command 0.
+//! let refused = check(&[]).unwrap_err();
+//! assert_eq!((refused.refusal.number(), refused.command), (10, 0));
+//! ```
+#![no_std]
+#![deny(missing_docs, unsafe_op_in_unsafe_fn)]
+
+#[cfg(test)]
+extern crate std;
+
+use core::fmt;
+
+/// One unit is 1/S.
+pub const S: i32 = 1 << 20;
+/// The largest weight and the largest radius of a model, and the largest N of a test.
+pub const LIMIT: i32 = 1 << 28;
+/// The largest degree.
+pub const MAX_DEGREE: usize = 32;
+/// Coefficients of a model or candidate.
+pub const COEFFICIENTS: usize = 33;
+/// Results of a job at most.
+pub const MAX_RESULTS: usize = 32;
+/// The kept degree of a product that leaves the choice open: 32.
+pub const DEFAULT_KEPT: u32 = 255;
+
+/// Numbers in a model area: degree, coefficients, radius.
+pub const MODEL_SIZE: usize = 35;
+/// Numbers in a candidate area: degree, coefficients.
+pub const CANDIDATE_SIZE: usize = 34;
+/// Numbers in the area for bounds: low, high.
+pub const BOUNDS_SIZE: usize = 2;
+/// Numbers in the scratch area of a test.
+pub const SCRATCH_SIZE: usize = 65;
+/// Numbers in the report of a test: m, N, b.
+pub const REPORT_SIZE: usize = 3;
+/// Numbers in the work area of a job: 32 models.
+pub const WORK_SIZE: usize = 1120;
+/// Numbers in the answer of a job: count, command.
+pub const ANSWER_SIZE: usize = 2;
+
+const RADIUS: usize = 34;
+
+/// The numbered refusals of document 01.
+#[derive(Clone, Copy, Debug, PartialEq, Eq, Hash)]
+#[repr(u32)]
+pub enum Refusal {
+    /// An area is shorter than needed; no area was touched.
+    ShortArea = 1,
+    /// A model's or candidate's degree, weight or radius, or a nonzero coefficient beyond its degree.
+    BadModel = 2,
+    /// The result's weight or radius is above 2^28, or its degree above 32.
+    LargeResult = 3,
+    /// The point p is not from −S to S.
+    PointOutside = 4,
+    /// m ≥ S: the helper is too far from the inverse.
+    NotContracting = 5,
+    /// N > 2^28.
+    LargeResidual = 6,
+    /// The coefficients of a root's helper have a sum of 0 or below.
+    HelperNotPositive = 7,
+    /// Root: (S − m)² < 8·b·M.
+    NegativeDiscriminant = 8,
+    /// Unknown command, edition or kept degree; edition not first, or again.
+    BadValue = 9,
+    /// The job ends inside a command or without an end.
+    JobEnds = 10,
+    /// Bytes follow the end of the job.
+    BytesAfterEnd = 11,
+    /// A command names a result that is not there yet.
+    NotAResult = 12,
+    /// A 33rd result.
+    TooManyResults = 13,
+}
+
+impl Refusal {
+    /// All refusals, by rising number.
+    pub const ALL: [Refusal; 13] = [
+        Refusal::ShortArea,
+        Refusal::BadModel,
+        Refusal::LargeResult,
+        Refusal::PointOutside,
+        Refusal::NotContracting,
+        Refusal::LargeResidual,
+        Refusal::HelperNotPositive,
+        Refusal::NegativeDiscriminant,
+        Refusal::BadValue,
+        Refusal::JobEnds,
+        Refusal::BytesAfterEnd,
+        Refusal::NotAResult,
+        Refusal::TooManyResults,
+    ];
+
+    /// Document 01's number, 1 to 13.
+    pub fn number(self) -> u32 {
+        self as u32
+    }
+
+    /// The refusal with this number, if there is one.
+    pub fn from_number(number: u32) -> Option<Refusal> {
+        Refusal::ALL.into_iter().find(|refusal| refusal.number() == number)
+    }
+}
+
+impl fmt::Display for Refusal {
+    fn fmt(&self, f: &mut fmt::Formatter<'_>) -> fmt::Result {
+        let reason = match self {
+            Refusal::ShortArea => "an area is too short",
+            Refusal::BadModel => "bad model or candidate",
+            Refusal::LargeResult => "result too large",
+            Refusal::PointOutside => "point outside -S..S",
+            Refusal::NotContracting => "helper too far from the inverse",
+            Refusal::LargeResidual => "residual too large",
+            Refusal::HelperNotPositive => "helper not positive",
+            Refusal::NegativeDiscriminant => "no radius for this root",
+            Refusal::BadValue => "unknown command or value",
+            Refusal::JobEnds => "the job ends early",
+            Refusal::BytesAfterEnd => "bytes after the end",
+            Refusal::NotAResult => "not yet a result",
+            Refusal::TooManyResults => "more than 32 results",
+        };
+        write!(f, "refused {}: {}", self.number(), reason)
+    }
+}
+
+impl core::error::Error for Refusal {}
+
+/// The library's answer as a `Result`.
+fn accepted(number: u32) -> Result<(), Refusal> {
+    match Refusal::from_number(number) {
+        Some(refusal) => Err(refusal),
+        None if number == 0 => Ok(()),
+        None => panic!("not this version of libexport.a: it answered {number}"),
+    }
+}
+
+/// A polynomial in the Chebyshev basis with an error radius: degree, coefficients of T_0 to T_32
+/// in units of 1/[`S`], radius in units. Any numbers may be put in; the library refuses bad ones.
+#[derive(Clone, Copy, Debug, PartialEq, Eq)]
+#[repr(transparent)]
+pub struct Model([i32; MODEL_SIZE]);
+
+impl Model {
+    /// The zero model: degree 0, all zero.
+    pub const ZERO: Model = Model([0; MODEL_SIZE]);
+
+    /// A model of this degree, these coefficients and this radius.
+    pub fn new(degree: i32, coefficients: [i32; COEFFICIENTS], radius: i32) -> Model {
+        let mut numbers = [0; MODEL_SIZE];
+        numbers[0] = degree;
+        numbers[1..RADIUS].copy_from_slice(&coefficients);
+        numbers[RADIUS] = radius;
+        Model(numbers)
+    }
+
+    /// The constant c, in units, with radius 0.
+    pub fn constant(c: i32) -> Model {
+        Candidate::constant(c).with_radius(0)
+    }
+
+    /// The model in these 35 numbers: degree, coefficients, radius.
+    pub fn from_numbers(numbers: [i32; MODEL_SIZE]) -> Model {
+        Model(numbers)
+    }
+
+    /// The 35 numbers: degree, coefficients, radius.
+    pub fn numbers(&self) -> &[i32; MODEL_SIZE] {
+        &self.0
+    }
+
+    /// The degree.
+    pub fn degree(&self) -> i32 {
+        self.0[0]
+    }
+
+    /// The 33 coefficients, in units.
+    pub fn coefficients(&self) -> &[i32] {
+        &self.0[1..RADIUS]
+    }
+
+    /// The radius, in units.
+    pub fn radius(&self) -> i32 {
+        self.0[RADIUS]
+    }
+
+    /// The sum.
+    ///
+    /// Refusals, in order: `BadModel`, `LargeResult`.
+    pub fn add(&self, other: &Model) -> Result<Model, Refusal> {
+        let mut out = Model::ZERO;
+        areas::add(&self.0, &other.0, &mut out.0).map(|()| out)
+    }
+
+    /// The difference.
+    ///
+    /// Refusals, in order: `BadModel`, `LargeResult`.
+    pub fn subtract(&self, other: &Model) -> Result<Model, Refusal> {
+        let mut out = Model::ZERO;
+        areas::subtract(&self.0, &other.0, &mut out.0).map(|()| out)
+    }
+
+    /// The product, cut to the kept degree (0 to 32, or [`DEFAULT_KEPT`]); what is dropped is paid for
+    /// in the radius.
+    ///
+    /// Refusals, in order: `BadModel`, `BadValue` (the kept degree), `LargeResult`.
+    pub fn multiply(&self, other: &Model, kept: u32) -> Result<Model, Refusal> {
+        let mut out = Model::ZERO;
+        areas::multiply(&self.0, &other.0, kept, &mut out.0).map(|()| out)
+    }
+
+    /// The integral from −1.
+    ///
+    /// Refusals, in order: `BadModel`, `LargeResult` (degree 32 always).
+    pub fn integrate(&self) -> Result<Model, Refusal> {
+        let mut out = Model::ZERO;
+        areas::integrate(&self.0, &mut out.0).map(|()| out)
+    }
+
+    /// Bounds in units of every value that the model allows at p/S.
+    ///
+    /// Refusals, in order: `BadModel`, `PointOutside`.
+    pub fn evaluate(&self, p: i32) -> Result<Bounds, Refusal> {
+        let mut bounds = [0; BOUNDS_SIZE];
+        areas::evaluate(&self.0, p, &mut bounds)?;
+        Ok(Bounds { low: bounds[0], high: bounds[1] })
+    }
+}
+
+/// A proposed answer or a helper: a model without a radius.
+#[derive(Clone, Copy, Debug, PartialEq, Eq)]
+#[repr(transparent)]
+pub struct Candidate([i32; CANDIDATE_SIZE]);
+
+impl Candidate {
+    /// A candidate of this degree and these coefficients.
+    pub fn new(degree: i32, coefficients: [i32; COEFFICIENTS]) -> Candidate {
+        let mut numbers = [0; CANDIDATE_SIZE];
+        numbers[0] = degree;
+        numbers[1..].copy_from_slice(&coefficients);
+        Candidate(numbers)
+    }
+
+    /// The constant c, in units.
+    pub fn constant(c: i32) -> Candidate {
+        let mut coefficients = [0; COEFFICIENTS];
+        coefficients[0] = c;
+        Candidate::new(0, coefficients)
+    }
+
+    /// The candidate in these 34 numbers: degree, coefficients.
+    pub fn from_numbers(numbers: [i32; CANDIDATE_SIZE]) -> Candidate {
+        Candidate(numbers)
+    }
+
+    /// The 34 numbers: degree, coefficients.
+    pub fn numbers(&self) -> &[i32; CANDIDATE_SIZE] {
+        &self.0
+    }
+
+    /// The degree.
+    pub fn degree(&self) -> i32 {
+        self.0[0]
+    }
+
+    /// The 33 coefficients, in units.
+    pub fn coefficients(&self) -> &[i32] {
+        &self.0[1..]
+    }
+
+    /// The model with these coefficients and this radius.
+    pub fn with_radius(&self, radius: i32) -> Model {
+        let mut numbers = [0; MODEL_SIZE];
+        numbers[..RADIUS].copy_from_slice(&self.0);
+        numbers[RADIUS] = radius;
+        Model(numbers)
+    }
+}
+
+/// Bounds of an evaluation, in units.
+#[derive(Clone, Copy, Debug, PartialEq, Eq)]
+pub struct Bounds {
+    /// No allowed value is below this.
+    pub low: i64,
+    /// No allowed value is above this.
+    pub high: i64,
+}
+
+/// An accepted candidate: the model with its radius, and document 01's m, N and b.
+#[derive(Clone, Copy, Debug, PartialEq, Eq)]
+pub struct Certified {
+    /// The candidate with the radius that the test gives.
+    pub model: Model,
+    /// m: how far helper times divisor (or twice helper times root) is from 1, in units.
+    pub m: u64,
+    /// N: the residual, in units.
+    pub n: u64,
+    /// b: helper's weight times residual, in units.
+    pub b: u64,
+}
+
+/// Tests the candidate h for f/g, with the helper w near 1/g.
+///
+/// Refusals, in order: `BadModel`, `NotContracting`, `LargeResidual`, `LargeResult`.
+pub fn quotient(f: &Model, g: &Model, h: &Candidate, w: &Candidate) -> Result<Certified, Refusal> {
+    let mut scratch = [0; SCRATCH_SIZE];
+    let mut model = Model::ZERO;
+    let mut report = [0; REPORT_SIZE];
+    areas::quotient(&f.0, &g.0, &h.0, &w.0, &mut scratch, &mut model.0, &mut report)?;
+    let [m, n, b] = report;
+    Ok(Certified { model, m, n, b })
+}
+
+/// Tests the candidate h for the square root of f, with the helper w near 1/(2h).
+///
+/// Refusals, in order: `BadModel`, `HelperNotPositive`, `NotContracting`, `LargeResidual`,
+/// `NegativeDiscriminant`.
+pub fn root(f: &Model, h: &Candidate, w: &Candidate) -> Result<Certified, Refusal> {
+    let mut scratch = [0; SCRATCH_SIZE];
+    let mut model = Model::ZERO;
+    let mut report = [0; REPORT_SIZE];
+    areas::root(&f.0, &h.0, &w.0, &mut scratch, &mut model.0, &mut report)?;
+    let [m, n, b] = report;
+    Ok(Certified { model, m, n, b })
+}
+
+/// An accepted job: its results, 0 to 32 of them.
+#[derive(Clone, Debug, PartialEq, Eq)]
+pub struct CheckedJob {
+    work: [i32; WORK_SIZE],
+    count: usize,
+}
+
+impl CheckedJob {
+    /// How many results there are.
+    pub fn count(&self) -> usize {
+        self.count
+    }
+
+    /// Result i, or `None` from the count on.
+    pub fn result(&self, i: usize) -> Option<Model> {
+        if i >= self.count {
+            return None;
+        }
+        let mut model = Model::ZERO;
+        model.0.copy_from_slice(&self.work[MODEL_SIZE * i..MODEL_SIZE * (i + 1)]);
+        Some(model)
+    }
+
+    /// All results, in order.
+    pub fn results(&self) -> impl Iterator<Item = Model> + '_ {
+        (0..self.count).filter_map(|i| self.result(i))
+    }
+}
+
+/// A refused job: the refusal, and the number of its command, counted from 0.
+#[derive(Clone, Copy, Debug, PartialEq, Eq)]
+pub struct RefusedJob {
+    /// Why.
+    pub refusal: Refusal,
+    /// Which command; the edition is command 0.
+    pub command: u32,
+}
+
+impl fmt::Display for RefusedJob {
+    fn fmt(&self, f: &mut fmt::Formatter<'_>) -> fmt::Result {
+        write!(f, "{} (command {})", self.refusal, self.command)
+    }
+}
+
+impl core::error::Error for RefusedJob {}
+
+/// Checks a job (docs/FORMAT.md) of any bytes and any length.
+pub fn check(job: &[u8]) -> Result<CheckedJob, RefusedJob> {
+    let mut work = [0; WORK_SIZE];
+    let mut scratch = [0; SCRATCH_SIZE];
+    let mut answer = [0; ANSWER_SIZE];
+    match areas::check(job, &mut work, &mut scratch, &mut answer) {
+        Ok(()) => Ok(CheckedJob { work, count: answer[0] as usize }),
+        Err(refusal) => Err(RefusedJob { refusal, command: answer[1] }),
+    }
+}
+
+/// The library's functions over the caller's own areas, of every length.
+///
+/// `Err(Refusal::ShortArea)`: an area is shorter than its size, and none was touched (but see
+/// [`areas::check`]). After any other refusal `out`, `bounds`, `report` and `work` are zero in
+/// their sizes, and `scratch` is zero in its 65 numbers after every call that is not refused so.
+/// Numbers behind the sizes stay.
+#[rustfmt::skip]
+pub mod areas {
+    use super::{accepted, raw, Refusal};
+
+    /// a + b; `a`, `b` and `out` have 35 numbers.
+    pub fn add(a: &[i32], b: &[i32], out: &mut [i32]) -> Result<(), Refusal> {
+        // SAFETY: here and below, each pointer and length come from one live slice, and the borrow
+        // checker keeps every written area apart from all others of the call.
+        accepted(unsafe {
+            raw::ferruntzo_add(a.as_ptr(), a.len(), b.as_ptr(), b.len(), out.as_mut_ptr(), out.len())
+        })
+    }
+
+    /// a − b; `a`, `b` and `out` have 35 numbers.
+    pub fn subtract(a: &[i32], b: &[i32], out: &mut [i32]) -> Result<(), Refusal> {
+        // SAFETY: as in `add`.
+        accepted(unsafe {
+            raw::ferruntzo_subtract(a.as_ptr(), a.len(), b.as_ptr(), b.len(), out.as_mut_ptr(), out.len())
+        })
+    }
+
+    /// a·b cut to the kept degree; `a`, `b` and `out` have 35 numbers.
+    pub fn multiply(a: &[i32], b: &[i32], kept: u32, out: &mut [i32]) -> Result<(), Refusal> {
+        // SAFETY: as in `add`.
+        accepted(unsafe {
+            raw::ferruntzo_multiply(
+                a.as_ptr(), a.len(), b.as_ptr(), b.len(), kept, out.as_mut_ptr(), out.len(),
+            )
+        })
+    }
+
+    /// The integral of a from −1; `a` and `out` have 35 numbers.
+    pub fn integrate(a: &[i32], out: &mut [i32]) -> Result<(), Refusal> {
+        // SAFETY: as in `add`.
+        accepted(unsafe {
+            raw::ferruntzo_integrate(a.as_ptr(), a.len(), out.as_mut_ptr(), out.len())
+        })
+    }
+
+    /// Bounds at p/S; `a` has 35 numbers, `bounds` 2: low, high.
+    pub fn evaluate(a: &[i32], p: i32, bounds: &mut [i64]) -> Result<(), Refusal> {
+        // SAFETY: as in `add`.
+        accepted(unsafe {
+            raw::ferruntzo_evaluate(a.as_ptr(), a.len(), p, bounds.as_mut_ptr(), bounds.len())
+        })
+    }
+
+    /// The quotient test; `f` and `g` have 35 numbers, `h` and `w` 34, `scratch` 65, `out` 35,
+    /// `report` 3: m, N, b.
+    pub fn quotient(
+        f: &[i32],
+        g: &[i32],
+        h: &[i32],
+        w: &[i32],
+        scratch: &mut [i64],
+        out: &mut [i32],
+        report: &mut [u64],
+    ) -> Result<(), Refusal> {
+        // SAFETY: as in `add`.
+        accepted(unsafe {
+            raw::ferruntzo_quotient(
+                f.as_ptr(), f.len(), g.as_ptr(), g.len(), h.as_ptr(), h.len(), w.as_ptr(), w.len(),
+                scratch.as_mut_ptr(), scratch.len(), out.as_mut_ptr(), out.len(),
+                report.as_mut_ptr(), report.len(),
+            )
+        })
+    }
+
+    /// The root test; `f` has 35 numbers, `h` and `w` 34, `scratch` 65, `out` 35, `report` 3: m, N, b.
+    pub fn root(
+        f: &[i32],
+        h: &[i32],
+        w: &[i32],
+        scratch: &mut [i64],
+        out: &mut [i32],
+        report: &mut [u64],
+    ) -> Result<(), Refusal> {
+        // SAFETY: as in `add`.
+        accepted(unsafe {
+            raw::ferruntzo_root(
+                f.as_ptr(), f.len(), h.as_ptr(), h.len(), w.as_ptr(), w.len(),
+                scratch.as_mut_ptr(), scratch.len(), out.as_mut_ptr(), out.len(),
+                report.as_mut_ptr(), report.len(),
+            )
+        })
+    }
+
+    /// The check of a job; `work` has 1120 numbers, `scratch` 65, `answer` 2: count, command.
+    ///
+    /// With a short `work` or `scratch`, an `answer` of 2 or more numbers is set to 0 and 0.
+    pub fn check(
+        job: &[u8],
+        work: &mut [i32],
+        scratch: &mut [i64],
+        answer: &mut [u32],
+    ) -> Result<(), Refusal> {
+        // SAFETY: as in `add`.
+        accepted(unsafe {
+            raw::ferruntzo_check(
+                job.as_ptr(), job.len(), work.as_mut_ptr(), work.len(),
+                scratch.as_mut_ptr(), scratch.len(), answer.as_mut_ptr(), answer.len(),
+            )
+        })
+    }
+}
+
+/// The declarations of `include/ferruntzo.h`.
+#[rustfmt::skip]
+mod raw {
+    #[link(name = "export", kind = "static")]
+    extern "C" {
+        pub fn ferruntzo_add(
+            a: *const i32, a_len: usize, b: *const i32, b_len: usize, out: *mut i32, out_len: usize,
+        ) -> u32;
+        pub fn ferruntzo_subtract(
+            a: *const i32, a_len: usize, b: *const i32, b_len: usize, out: *mut i32, out_len: usize,
+        ) -> u32;
+        pub fn ferruntzo_multiply(
+            a: *const i32, a_len: usize, b: *const i32, b_len: usize, kept: u32,
+            out: *mut i32, out_len: usize,
+        ) -> u32;
+        pub fn ferruntzo_integrate(
+            a: *const i32, a_len: usize, out: *mut i32, out_len: usize,
+        ) -> u32;
+        pub fn ferruntzo_evaluate(
+            a: *const i32, a_len: usize, p: i32, bounds: *mut i64, bounds_len: usize,
+        ) -> u32;
+        pub fn ferruntzo_quotient(
+            f: *const i32, f_len: usize, g: *const i32, g_len: usize,
+            h: *const i32, h_len: usize, w: *const i32, w_len: usize,
+            scratch: *mut i64, scratch_len: usize, out: *mut i32, out_len: usize,
+            report: *mut u64, report_len: usize,
+        ) -> u32;
+        pub fn ferruntzo_root(
+            f: *const i32, f_len: usize, h: *const i32, h_len: usize, w: *const i32, w_len: usize,
+            scratch: *mut i64, scratch_len: usize, out: *mut i32, out_len: usize,
+            report: *mut u64, report_len: usize,
+        ) -> u32;
+        pub fn ferruntzo_check(
+            job: *const u8, job_len: usize, work: *mut i32, work_len: usize,
+            scratch: *mut i64, scratch_len: usize, answer: *mut u32, answer_len: usize,
+        ) -> u32;
+    }
+}
+
+#[cfg(test)]
+mod tests;
