@@ -16,6 +16,9 @@ use model::products::add_products;
 use model::types::Model;
 use model::types::PLACES;
 
+// 2S, one unit of a coefficient in units of C.
+const UNIT: i64 = 2 * Model::SCALE;
+
 // The numbers of a part become zero.
 pub(crate) fn clear(part: &mut [i64])
     ensures { λ _. ⌜ now (part .exit) ≡ zeros (length (now (part .entry))) ⌝ }
@@ -50,7 +53,7 @@ fn drain_difference(part: &mut [i64], f: &[i32]) -> u64
     let mut sum: u64 = 0;
     let mut k = 0;
     while k < part.len() {
-        sum += magnitude(part[k] - 2 * Model::SCALE * (f[k] as i64));
+        sum += magnitude(part[k] - UNIT * (f[k] as i64));
         part[k] = 0;
         k += 1;
     }

@@ -93,7 +93,7 @@ fn numbers_in(part: &mut [i64], f: Model, h: Candidate, w: Candidate) -> RootNum
 }
 
 // The places through N, and b.
-pub fn root_numbers(f: Model, h: Candidate, w: Candidate, scratch: &mut [i64]) -> RootNumbers
+pub(crate) fn root_numbers(f: Model, h: Candidate, w: Candidate, scratch: &mut [i64]) -> RootNumbers
     ensures { λ (r : RootNumbers). ⌜ rootOutcomeOf r ≡ rootOutcome (length (now (scratch .entry))) f (candidateModel h) (candidateModel w) ⌝ }
     ensures { λ _. ⌜ now (scratch .exit) ≡ scratchAfter (now (scratch .entry)) ⌝ }
 {

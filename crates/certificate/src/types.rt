@@ -75,7 +75,7 @@ impl Certified {
 }
 
 // The root test up to N and b: refused, or M, m, N and b.
-pub enum RootNumbers {
+pub(crate) enum RootNumbers {
     Refused(Verdict),
     Reached {
         weight: u64,

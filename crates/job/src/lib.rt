@@ -2,6 +2,7 @@
 pub mod bytes;
 pub mod decode;
 pub mod operations;
+pub mod reader;
 pub mod reading;
 pub mod run;
 pub mod step;

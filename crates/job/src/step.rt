@@ -8,7 +8,7 @@ ghost use Rattle.job.specs.Jobs.{resulting, performed, command};
 ghost use Rattle.job.specs.Work.{workPlaces, Storable};
 ghost use Rattle.job.specs.Steps.{StepsBy, Performable, Clear};
 use crate::operations::operate;
-use crate::reading::read_command;
+use crate::reader::read_next;
 use crate::types::Done;
 use crate::types::Kind;
 use crate::types::Read;
@@ -69,7 +69,7 @@ pub fn step(
     ensures { λ (r : Done). ⌜ StepsBy r (now (work .entry)) (now (work .exit)) count (λ rs. command (now (job .entry)) k rs at) ⌝ }
     ensures { λ _. ⌜ now (scratch .exit) ≡ now (scratch .entry) ⌝ }
 {
-    let read = read_command(job, k, count, at);
+    let read = read_next(job, k, count, at);
     match read {
         Read::Refused(v) => Done::Refused(v),
         Read::Command(kind, next) => perform(kind, next, job, count, at, work, scratch),

@@ -2,7 +2,7 @@
 use borrow.Author.Needs.{needs}
 use mathlib.Core.Path.{_≡_, _∙_, sym, ap}
 use mathlib.Core.List.{List}
-use Prim.Native.Nat.{_-_, _<_}
+use Prim.Native.Nat.{ℕ, _-_, _<_}
 use native.Mathlib.Omega.{arith}
 use lib.IntN.{ℤ, pos, natAbs, _-ℤ_, _*ℤ_}
 use lib.ListN.{length, getD}
@@ -34,81 +34,74 @@ slice-copy-out-magnitude : tie.Need-slice-copy-out-magnitude Inv-loop μ-loop
 slice-copy-out-magnitude c = search needs
 
 mul-magnitude-2 : tie.Need-mul-magnitude-2 Inv-loop μ-loop
-mul-magnitude-2 c = search signed-needs
-
-mul-magnitude-3 : tie.Need-mul-magnitude-3 Inv-loop μ-loop
-mul-magnitude-3 c = search needs
+mul-magnitude-2 c = search needs
 
 shared-slice-copy-out-magnitude : tie.Need-shared-slice-copy-out-magnitude Inv-loop μ-loop
 shared-slice-copy-out-magnitude c = search needs
 
-module _ (l : tie.At-loop Inv-loop μ-loop) where
-  abbrev c₀ : List ℤ
-  c₀ = l .before .args .part .now
+module _ (c : tie.After-magnitude-arg2 Inv-loop μ-loop) where
+  abbrev l : tie.At-loop Inv-loop μ-loop
+  l = c .before .before .before
 
-  abbrev f₀ : List ℤ
-  f₀ = l .before .args .f .now
+  abbrev k : ℕ
+  k = l .loop .k
+
+  abbrev C : List ℤ
+  C = l .before .args .part .now
+
+  abbrev f : List ℤ
+  f = l .before .args .f .now
 
   abbrev x : ℤ
-  x = getD (l .loop .part) (l .loop .k) (pos 0)
+  x = getD (l .loop .part) k (pos 0)
 
   abbrev y : ℤ
-  y = getD f₀ (l .loop .k) (pos 0)
+  y = getD f k (pos 0)
 
   abbrev p : ℤ
   p = pos 2097152 *ℤ y
 
-  is-first : x ≡ getD c₀ (l .loop .k) (pos 0)
-  is-first = clearing-next (l .loop .inv .cleared)
+  inside : k < length C
+  inside = omega arith
+
+  x-is : x ≡ getD C k (pos 0)
+  x-is = clearing-next (l .loop .inv .cleared)
+
+  fits-x : SFits w64 x
+  fits-x = record { sfits = c .before .magnitude-arg .given }
+
+  fits-y : SFits w32 y
+  fits-y = record { sfits = c .magnitude-arg2 .given }
 
   fits-p : SFits w64 p
-  fits-p = abs-fits w64 p (omega (arith, abs-mul (pos 2097152) y, weight-at f₀ (l .loop .k), l .before .pre))
+  fits-p = abs-fits w64 p (omega (arith, abs-mul (pos 2097152) y, weight-at f k, l .before .pre))
 
   fits-d : SFits w64 (x -ℤ p)
   fits-d =
       abs-fits w64 (x -ℤ p)
-      (omega (arith, abs-sub x p, abs-mul (pos 2097152) y, weight-at f₀ (l .loop .k), weight-at c₀ (l .loop .k), ap natAbs is-first, l .before .pre))
-
-module _ (c : tie.After-magnitude-arg2 Inv-loop μ-loop) where
-  abbrev l2 : tie.At-loop Inv-loop μ-loop
-  l2 = c .before .before .before
-
-  fits-x : SFits w64 (x l2)
-  fits-x = record { sfits = c .before .magnitude-arg .given }
-
-  fits-y : SFits w32 (y l2)
-  fits-y = record { sfits = c .magnitude-arg2 .given }
+      (omega (arith, abs-sub x p, abs-mul (pos 2097152) y, weight-at f k, weight-at C k, ap natAbs x-is, l .before .pre))
 
 cast-magnitude : tie.Need-cast-magnitude Inv-loop μ-loop
 cast-magnitude c = search signed-needs
 
-mul-magnitude-4 : tie.Need-mul-magnitude-4 Inv-loop μ-loop
-mul-magnitude-4 c = simp (toZ-ofZ (fits-y c), toZ-ofZ (fits-widens (fits-y c))) (fits-p (l2 c))
+mul-magnitude-3 : tie.Need-mul-magnitude-3 Inv-loop μ-loop
+mul-magnitude-3 c = simp (toZ-ofZ (fits-y c), toZ-ofZ (fits-widens (fits-y c))) (fits-p c)
 
 sub-magnitude : tie.Need-sub-magnitude Inv-loop μ-loop
-sub-magnitude c = simp (toZ-ofZ (fits-y c), toZ-ofZ (fits-widens (fits-y c)), toZ-ofZ (fits-p (l2 c)), toZ-ofZ (fits-x c)) (fits-d (l2 c))
+sub-magnitude c = simp (toZ-ofZ (fits-y c), toZ-ofZ (fits-widens (fits-y c)), toZ-ofZ (fits-p c), toZ-ofZ (fits-x c)) (fits-d c)
 
 magnitude-requires : tie.Need-magnitude-requires Inv-loop μ-loop
 magnitude-requires c κs = tt
 
-module _ (c : tie.After-magnitude Inv-loop μ-loop) where
-  abbrev b : tie.After-magnitude-arg2 Inv-loop μ-loop
-  b = c .before
-
-  abbrev l : tie.At-loop Inv-loop μ-loop
-  l = l2 b
-
-  inside : l .loop .k < length (c₀ l)
-  inside = omega arith
-
-  size-is : c .magnitude .result ≡ natAbs (getD (residualList (c₀ l) (f₀ l)) (l .loop .k) (pos 0))
-  size-is =
-      (simp (toZ-ofZ (fits-y b), toZ-ofZ (fits-widens (fits-y b)), toZ-ofZ (fits-p l), toZ-ofZ (fits-x b), toZ-ofZ (fits-d l)) at (c .magnitude .ensures))
-      ∙ ap (λ z. natAbs (z -ℤ p l)) (is-first l)
-      ∙ ap natAbs (sym (at-residual (c₀ l) (f₀ l) (l .loop .k)))
+size-is : (c : tie.After-magnitude Inv-loop μ-loop) → let b = c .before in c .magnitude .result ≡ natAbs (getD (residualList (C b) (f b)) (k b) (pos 0))
+size-is c =
+    let b = c .before in
+    (simp (toZ-ofZ (fits-y b), toZ-ofZ (fits-widens (fits-y b)), toZ-ofZ (fits-p b), toZ-ofZ (fits-x b), toZ-ofZ (fits-d b)) at (c .magnitude .ensures))
+    ∙ ap (λ z. natAbs (z -ℤ p b)) (x-is b)
+    ∙ ap natAbs (sym (at-residual (C b) (f b) (k b)))
 
 add-sum : tie.Need-add-sum Inv-loop μ-loop
-add-sum c = omega (arith, draining-fits (l c .loop .inv) _ (inside c) (size-is c), weight-residual (c₀ (l c)) (f₀ (l c)), l c .before .pre)
+add-sum c = let b = c .before in omega (arith, draining-fits (l b .loop .inv) _ (inside b) (size-is c), weight-residual (C b) (f b), l b .before .pre)
 
 mul-part : tie.Need-mul-part Inv-loop μ-loop
 mul-part c = search needs
@@ -123,7 +116,7 @@ loop-less : tie.Need-loop-less Inv-loop μ-loop
 loop-less c = search needs
 
 loop-again : tie.Need-loop-again Inv-loop μ-loop
-loop-again c = draining-turn (l c .loop .inv) _ (inside c) (size-is c)
+loop-again c = let b = c .before in draining-turn (l b .loop .inv) _ (inside b) (size-is c)
 
 same-length : tie.Need-same-length Inv-loop μ-loop
 same-length c = c .before .loop .inv .cleared .same
@@ -141,10 +134,9 @@ drain-difference-spec =
     mul-magnitude
     slice-copy-out-magnitude
     mul-magnitude-2
-    mul-magnitude-3
     shared-slice-copy-out-magnitude
     cast-magnitude
-    mul-magnitude-4
+    mul-magnitude-3
     sub-magnitude
     magnitude-requires
     add-sum

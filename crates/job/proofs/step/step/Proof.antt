@@ -11,8 +11,8 @@ use borrow.Author.Needs.{needs}
 use Rattle.job.proofs.step.step.Statement.{statement}
 use Rattle.job.proofs.step.step.Tie as tie
 
-read-command-requires : tie.Need-read-command-requires
-read-command-requires c κs = search needs
+read-next-requires : tie.Need-read-next-requires
+read-next-requires c κs = search needs
 
 enum-known-read : tie.Need-enum-known-read
 enum-known-read c = search needs
@@ -26,7 +26,7 @@ perform-requires c κs =
     let r = d .before .before in
     let s = r .before .before in
     let g = s .args in
-    let e = sym (r .read-command .ensures) ∙ ap readOutcomeOf (d .read2 .given .1) in
+    let e = sym (r .read-next .ensures) ∙ ap readOutcomeOf (d .read2 .given .1) in
     let f = d .read2 .given .0 in
     (found-performable (now (g .job)) (g .k) (g .count) (g .at) (f .0) (f .1 .0) (now (g .work)) e (s .pre .1 .0) (s .pre .0), s .pre .1 .1)
 
@@ -36,7 +36,7 @@ returns c =
     let r = d .before .before in
     let g = r .before .before .args in
     let v = d .read .given .0 .0 in
-    let e = sym (r .read-command .ensures) ∙ ap readOutcomeOf (d .read .given .1) in (
+    let e = sym (r .read-next .ensures) ∙ ap readOutcomeOf (d .read .given .1) in (
       λ rs t h. subst⁻¹ (Stepped (Refused v) (now (g .work)) rs t)
           (read-refuses (now (g .job)) (g .k) (g .count) rs (g .at) (numberOf v) (h .count-is) e)
           (record { answer = refl; holds = counted h }),
@@ -55,7 +55,7 @@ returns-2 c =
     let d = p .before .before .before .before in
     let r = d .before .before in
     let g = r .before .before .args in
-    let e = sym (r .read-command .ensures) ∙ ap readOutcomeOf (d .read2 .given .1) in (
+    let e = sym (r .read-next .ensures) ∙ ap readOutcomeOf (d .read2 .given .1) in (
       λ rs t h. subst⁻¹ (Stepped (p .perform .result) _ rs t)
           (read-performs (now (g .job)) (g .k) (g .count) rs (g .at) (d .read2 .given .0 .0) (d .read2 .given .0 .1 .0) (h .count-is) e)
           (p .perform .ensures .0 rs t h),
@@ -66,7 +66,7 @@ pub step-spec : {M : Type 1} → statement M
 step-spec =
     tie.close
     (tie.spec
-    read-command-requires
+    read-next-requires
     enum-known-read
     enum-known-read-2
     perform-requires
