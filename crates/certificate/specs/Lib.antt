@@ -1,6 +1,7 @@
 pub mod Tests
 pub mod TwoSums
 pub mod TestLaws
+pub mod TestFits
 pub mod Stages
 pub mod Residuals
 pub mod QuotientAlgebra

@@ -9,6 +9,7 @@ pub mod Places
 pub mod Order
 pub mod CommandLaws
 pub mod OrderLaws
+pub mod AnswerBounds
 pub mod CheckLaws
 pub mod Made
 pub mod Accepted

@@ -1,4 +1,6 @@
 pub mod Models
+pub mod Areas
+pub mod AreaLaws
 pub mod ModelLaws
 pub mod RefusalLaws
 pub mod Values
@@ -12,6 +14,7 @@ pub mod Combination
 pub mod RoundingPass
 pub mod MultiplicationLaws
 pub mod Integral
+pub mod OutcomeFits
 pub mod IntegralLaws
 pub mod IntegralSound
 pub mod Evaluation

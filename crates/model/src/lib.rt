@@ -1,5 +1,6 @@
 // Models and their plain operations: add, subtract, multiply, integrate, evaluate.
 pub mod add;
+pub mod area;
 pub mod evaluate;
 pub mod integrate;
 pub mod measure;

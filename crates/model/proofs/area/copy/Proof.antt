@@ -1,0 +1,71 @@
+-- `area::copy` meets its contract: a turn copies one number.
+use borrow.Author.Needs.{needs, sfits-of}
+use mathlib.Core.Path.{_≡_, refl, sym}
+use Prim.Native.Nat.{_-_}
+use lib.IntN.{pos}
+use lib.ListN.{length, getD}
+use mir.Syntax.{w32}
+use mir.Facts.{toZ-ofZ}
+use denote.Ref.{now}
+use Rattle.integer.specs.Fill.{Filled, fill-none, fill-step, fill-done}
+use Rattle.model.proofs.area.copy.Statement.{statement}
+use Rattle.model.proofs.area.copy.Tie as tie
+
+abbrev Inv-loop : tie.InvT-loop
+Inv-loop from to₀ i₀ to i = (length from ≡ length to₀) × Filled (length from) from to i
+
+abbrev μ-loop : tie.MeasureT-loop
+μ-loop from to₀ i₀ to i = length from - i
+
+loop-holds : tie.Need-loop-holds Inv-loop μ-loop
+loop-holds c = (c .pre, fill-none (sym (c .pre)))
+
+mul-to : tie.Need-mul-to Inv-loop μ-loop
+mul-to c = search needs
+
+shared-slice-copy-out-to : tie.Need-shared-slice-copy-out-to Inv-loop μ-loop
+shared-slice-copy-out-to c = search needs
+
+mul-t8 : tie.Need-mul-t8 Inv-loop μ-loop
+mul-t8 c = search needs
+
+slice-set-from-to : tie.Need-slice-set-from-to Inv-loop μ-loop
+slice-set-from-to c = search needs
+
+add-i : tie.Need-add-i Inv-loop μ-loop
+add-i c = search needs
+
+loop-less : tie.Need-loop-less Inv-loop μ-loop
+loop-less c = search needs
+
+loop-again : tie.Need-loop-again Inv-loop μ-loop
+loop-again c =
+    let l = c .before .before .loop in
+    let from = now (c .before .before .before .args .from) in (
+      l .inv .0,
+      rw (toZ-ofZ {w = w32} {z = getD from (l .i) (pos 0)} (sfits-of (c .to .given)))
+          (fill-step (pos 0) (l .inv .1) refl (c .before .loop-test .taken) refl),
+    )
+
+same-length : tie.Need-same-length Inv-loop μ-loop
+same-length c = search needs
+
+returns : tie.Need-returns Inv-loop μ-loop
+returns c = fill-done (c .before .loop .inv .1) refl (c .loop-test .left)
+
+pub copy-spec : {M : Type 1} → statement M
+copy-spec =
+    tie.close
+    (tie.spec
+    Inv-loop
+    μ-loop
+    loop-holds
+    mul-to
+    shared-slice-copy-out-to
+    mul-t8
+    slice-set-from-to
+    add-i
+    loop-less
+    loop-again
+    same-length
+    returns)

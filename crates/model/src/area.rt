@@ -1,0 +1,72 @@
+// Areas of signed 32-bit numbers: a model is its degree, its coefficients and its radius, a candidate the first two.
+ghost use mathlib.Core.Path.{_≡_};
+ghost use lib.ListN.{length};
+ghost use Rattle.model.specs.Areas.{modelPlaces, candidatePlaces, unsignedOf, areaModel, areaCandidate, words, Storable};
+use crate::types::Candidate;
+use crate::types::Model;
+use crate::types::PLACES;
+
+pub const MODEL_PLACES: usize = 35;
+
+pub const CANDIDATE_PLACES: usize = 34;
+
+// 2^32
+const WORD: u64 = 4294967296;
+
+// The unsigned number with the same 32 bits.
+fn unsigned(x: i32) -> u32
+    ensures { λ r. ⌜ r ≡ unsignedOf x ⌝ }
+{
+    let size = integer::absolute::magnitude(x as i64);
+    if x < 0 {
+        (WORD - size) as u32
+    } else {
+        size as u32
+    }
+}
+
+fn copy(from: &[i32], to: &mut [i32])
+    requires { ⌜ length (now from) ≡ length (now to) ⌝ }
+    ensures { λ _. ⌜ now (to .exit) ≡ now (from .entry) ⌝ }
+{
+    let mut i: usize = 0;
+    while i < from.len() {
+        to[i] = from[i];
+        i += 1;
+    }
+}
+
+// The candidate whose 34 numbers these are.
+pub fn read_candidate(area: &[i32]) -> Candidate
+    requires { ⌜ length (now area) ≡ candidatePlaces ⌝ }
+    ensures { λ (r : Candidate). ⌜ r ≡ areaCandidate (now (area .entry)) ⌝ }
+{
+    let mut coefficients = [0i32; PLACES];
+    copy(&area[1..CANDIDATE_PLACES], &mut coefficients);
+    Candidate {
+        degree: unsigned(area[0]),
+        coefficients,
+    }
+}
+
+// The model whose 35 numbers these are.
+pub fn read(area: &[i32]) -> Model
+    requires { ⌜ length (now area) ≡ modelPlaces ⌝ }
+    ensures { λ (r : Model). ⌜ r ≡ areaModel (now (area .entry)) ⌝ }
+{
+    let candidate = read_candidate(&area[..CANDIDATE_PLACES]);
+    let coefficients = candidate.coefficients;
+    let radius = unsigned(area[CANDIDATE_PLACES]);
+    Model::new(candidate.degree, coefficients, radius)
+}
+
+// The 35 numbers of a model.
+pub fn write(area: &mut [i32], m: Model)
+    requires { ⌜ (length (now area) ≡ modelPlaces) × Storable m ⌝ }
+    ensures { λ _. ⌜ now (area .exit) ≡ words m ⌝ }
+{
+    let coefficients = m.coefficients;
+    copy(&coefficients, &mut area[1..CANDIDATE_PLACES]);
+    area[0] = m.degree as i32;
+    area[CANDIDATE_PLACES] = m.radius as i32;
+}
