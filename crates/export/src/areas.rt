@@ -16,10 +16,10 @@ use model::types::Verdict;
 use model::types::number_of;
 
 // Document 01's number of an area that is too short.
-pub const SHORT_AREA: u32 = 1;
+pub(crate) const SHORT_AREA: u32 = 1;
 
 // The model in an area.
-pub fn model_in(area: &[i32]) -> Model
+pub(crate) fn model_in(area: &[i32]) -> Model
     requires { ⌜ modelPlaces ≤ length (now area) ⌝ }
     ensures { λ (r : Model). ⌜ r ≡ areaModel (now (area .entry)) ⌝ }
 {
@@ -27,7 +27,7 @@ pub fn model_in(area: &[i32]) -> Model
 }
 
 // The candidate in an area.
-pub fn candidate_in(area: &[i32]) -> Candidate
+pub(crate) fn candidate_in(area: &[i32]) -> Candidate
     requires { ⌜ candidatePlaces ≤ length (now area) ⌝ }
     ensures { λ (r : Candidate). ⌜ r ≡ areaCandidate (now (area .entry)) ⌝ }
 {
@@ -35,7 +35,7 @@ pub fn candidate_in(area: &[i32]) -> Candidate
 }
 
 // Writes an answer's model into an area, and gives the number of its verdict.
-pub fn write_answer(out: &mut [i32], verdict: Verdict, m: Model) -> u32
+pub(crate) fn write_answer(out: &mut [i32], verdict: Verdict, m: Model) -> u32
     requires { ⌜ (modelPlaces ≤ length (now out)) × Storable m ⌝ }
     ensures { λ r. ⌜ r ≡ numberOf verdict ⌝ }
     ensures { λ _. ⌜ now (out .exit) ≡ words m ++ drop modelPlaces (now (out .entry)) ⌝ }
