@@ -6,7 +6,7 @@ use Prim.Native.Nat.{ℕ, zero, suc, _+_, _<_, _≤_}
 use native.Mathlib.Omega.{arith}
 use native.Mathlib.Numerals.{add-one}
 use lib.IntN.{ℤ, pos, _*ℤ_}
-use lib.ListN.{length, getD, drop, set, replicate, length-replicate, length-map, drop-of-length-le}
+use lib.ListN.{length, getD, take, drop, set, replicate, length-replicate, length-map, drop-of-length-le}
 use lib.Seq.{drop-cons}
 use Rattle.integer.specs.Ring.{CommutativeRing, reify, solve}
 use Rattle.integer.specs.Integer.{ℤ-ring}
@@ -127,14 +127,24 @@ module _ (R : CommutativeRing) where
 
   -- ---- the walk's steps, for loops
 
-  pub row-step : (c : List A) (y : A) (i j : ℕ) (b : List A) → j < length b
-      → addRow R c y i j (drop j b) ≡ addRow R (addPair R c i j (y ⊗ getD b j (ι (pos 0)))) y i (j + 1) (drop (j + 1) b)
+  pub row-step : (c : List A) (y : A) (i j : ℕ) (b : List A) (k : ℕ) → k < length b
+      → addRow R c y i j (drop k b) ≡ addRow R (addPair R c i j (y ⊗ getD b k (ι (pos 0)))) y i (j + 1) (drop (k + 1) b)
   unfolding addRow
-  row-step c y i j b h = rw (drop-cons b j (ι (pos 0)) h, add-one)
+  row-step c y i j b k h = rw (drop-cons b k (ι (pos 0)) h, add-one j, add-one k)
 
-  pub row-end : (c : List A) (y : A) (i j : ℕ) (b : List A) → length b ≤ j → addRow R c y i j (drop j b) ≡ c
+  pub row-end : (c : List A) (y : A) (i j : ℕ) (b : List A) (k : ℕ) → length b ≤ k → addRow R c y i j (drop k b) ≡ c
   unfolding addRow
-  row-end c y i j b h = rw drop-of-length-le
+  row-end c y i j b k h = rw drop-of-length-le
+
+  -- a row cut at place k
+  pub row-cut : (c : List A) (y : A) (i j k : ℕ) (b : List A) → k ≤ length b
+      → addRow R (addRow R c y i j (take k b)) y i (j + k) (drop k b) ≡ addRow R c y i j b
+  unfolding addRow
+  row-cut c y i j zero b h = let e : j + 0 ≡ j = omega arith in rw e
+  row-cut c y i j (suc k) [] h = absurd (omega arith)
+  row-cut c y i j (suc k) (z ∷ b) h =
+      let e : j + suc k ≡ suc j + k = omega arith in
+      rw e (row-cut (addPair R c i j (y ⊗ z)) y i (suc j) k b (omega arith))
 
   pub rows-step : (c : List A) (i : ℕ) (a b : List A) → i < length a
       → addRows R c i (drop i a) b ≡ addRows R (addRow R c (getD a i (ι (pos 0))) i 0 b) (i + 1) (drop (i + 1) a) b

@@ -11,7 +11,7 @@ ghost use Rattle.chebyshev.specs.Product.{distance as distanceOf, addAt, addPai
 fn distance(i: usize, j: usize) -> usize
     ensures { λ r. ⌜ r ≡ distanceOf i j ⌝ }
 {
-    if i < j { j - i } else { i - j }
+    if j < i { i - j } else { j - i }
 }
 
 // v at place k.
@@ -31,15 +31,28 @@ fn add_pair(c: &mut [i64], i: usize, j: usize, v: i64)
     add_at(c, distance(i, j), v);
 }
 
-// The pairs of x, at place i, with each element of b.
+// The pairs of x, at place i, with each element of b, the first of which stands at place j.
+fn add_pairs(c: &mut [i64], x: i64, i: usize, j: usize, b: &[i32])
+    requires { ⌜ (i + j + length (now b) ≤ length (now c)) × (weight (now c) + 2 * natAbs x * weight (now b) < 2 ^ 63) ⌝ }
+    ensures { λ _. ⌜ now (c .exit) ≡ addRow ℤ-ring (now (c .entry)) x i j (now (b .entry)) ⌝ }
+{
+    let mut k = 0;
+    while k < b.len() {
+        add_pair(c, i, j + k, x * (b[k] as i64));
+        k += 1;
+    }
+}
+
+// The whole row of x, at place i, cut at j = i, so that no loop has to choose between i - j and j - i.
 fn add_row(c: &mut [i64], x: i64, i: usize, b: &[i32])
     requires { ⌜ (i + length (now b) ≤ length (now c)) × (weight (now c) + 2 * natAbs x * weight (now b) < 2 ^ 63) ⌝ }
     ensures { λ _. ⌜ now (c .exit) ≡ addRow ℤ-ring (now (c .entry)) x i 0 (now (b .entry)) ⌝ }
 {
-    let mut j = 0;
-    while j < b.len() {
-        add_pair(c, i, j, x * (b[j] as i64));
-        j += 1;
+    if i < b.len() {
+        add_pairs(c, x, i, 0, &b[..i]);
+        add_pairs(c, x, i, i, &b[i..]);
+    } else {
+        add_pairs(c, x, i, 0, b);
     }
 }
 
