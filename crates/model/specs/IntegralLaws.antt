@@ -11,6 +11,7 @@ use borrow.Author.Tests.{lt-ltb}
 use lib.Seq.{drop-cons, drop-at, drop-set-lt, getD-drop, getD-set-same}
 use Rattle.integer.specs.Parts.{abs-sub, abs-mul}
 use Rattle.integer.specs.Integer.{ℤ-ring}
+use Rattle.integer.specs.Filling.{drop-replicate}
 use Rattle.integer.specs.Rounding.{near}
 use Rattle.integer.specs.RoundingSize.{near-size}
 use Rattle.chebyshev.specs.Coefficients.{weight, subtractLists}
@@ -105,11 +106,6 @@ fill-down out goal k v l h e f =
     ∙ ap₂ _∷_ (getD-set-same out k v (pos 0) l ∙ f) (drop-set-lt (suc k) out k v (omega arith) ∙ e)
     ∙ sym (drop-cons goal k (pos 0) h)
 
-drop-replicate : (m n : ℕ) → drop m (replicate n (pos 0)) ≡ replicate (n - m) (pos 0)
-drop-replicate zero n = let e : n - 0 ≡ n = omega arith in rw e
-drop-replicate (suc m) zero = let e : 0 - suc m ≡ 0 = omega arith in rw e
-drop-replicate (suc m) (suc n) = let e : suc n - suc m ≡ n - m = omega arith in rw e (drop-replicate m n)
-
 module _ (ds : List ℤ) where
   tail-length : length (roundedTail ds) ≡ length ds
   tail-length = length-rounded ds
@@ -117,7 +113,7 @@ module _ (ds : List ℤ) where
   pub fill-start : drop (suc (length ds)) (replicate places (pos 0)) ≡ drop (suc (length ds)) (roundedIntegral ds)
   unfolding roundedIntegral
   fill-start =
-      drop-replicate (suc (length ds)) places
+      drop-replicate (suc (length ds)) places (pos 0)
       ∙ ap (λ (k : ℕ). replicate (places - suc k) (pos 0)) (sym tail-length)
       ∙ sym (drop-at (alternating (roundedTail ds) ∷ roundedTail ds) (replicate (places - suc (length (roundedTail ds))) (pos 0)) (suc (length ds)) (ap suc tail-length))
 

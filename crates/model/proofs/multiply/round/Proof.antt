@@ -1,8 +1,8 @@
 -- `multiply::round` meets its contract. The loop's invariant in rest form, for the weight and for the loss; the rounded
 -- numbers are written as long as their weight is within its limit, so each of them fits.
-use mathlib.Core.Path.{_≡_, refl, sym, _∙_, ap}
+use mathlib.Core.Path.{_≡_, sym, _∙_, ap}
 use mathlib.Core.Logic.{⊎-elim}
-use mathlib.Core.List.{List, _++_}
+use mathlib.Core.List.{List}
 use Prim.Native.Nat.{ℕ, _+_, _-_, _*_, _^_, _<_, _≤_}
 use native.Mathlib.Omega.{arith}
 use lib.IntN.{ℤ, pos, natAbs, _-ℤ_, _*ℤ_}
@@ -14,7 +14,7 @@ use mir.Val.{SFits}
 use mir.Facts.{toZ-ofZ}
 use Rattle.integer.specs.Parts.{abs, apart, difference}
 use Rattle.integer.specs.Machine.{signed-needs, abs-fits}
-use Rattle.integer.specs.Fill.{pad-step}
+use Rattle.integer.specs.Filling.{Filling, begins, turn, padded}
 use Rattle.chebyshev.specs.Coefficients.{weight}
 use Rattle.chebyshev.specs.Weight.{weight-step, weight-end, weight-at, weight-drop, weight-split}
 use Rattle.model.specs.Models.{places, maxWeight, scale}
@@ -23,16 +23,12 @@ use Rattle.model.specs.RoundingPass.{roundedAt, lossAt, loss-small, roun
 use Rattle.model.proofs.multiply.round.Statement.{statement}
 use Rattle.model.proofs.multiply.round.Tie as tie
 
--- the rounded numbers before k, and zeros
-abbrev filled : List ℤ → ℕ → List ℤ
-filled cs k = take k (rounded cs) ++ replicate (places - k) (pos 0)
-
 -- k of the numbers cs are rounded, and `dropped` is lost besides
 record Walked (cs : List ℤ) (dropped : ℕ) (out : List ℤ) (total loss k : ℕ) : Type 0 where
   within : k ≤ length cs
   weight-rest : total + weight (drop k (rounded cs)) ≡ weight (rounded cs)
   loss-rest : loss + roundingLoss (drop k cs) ≡ roundingLoss cs + dropped
-  written : total ≤ maxWeight → out ≡ filled cs k
+  written : total ≤ maxWeight → Filling (rounded cs) (replicate places (pos 0)) out 0 (length cs) k
 
 weight-turn : (cs : List ℤ) (k : ℕ) → k < length cs → weight (drop k (rounded cs)) ≡ natAbs (roundedAt (getD cs k (pos 0))) + weight (drop (k + 1) (rounded cs))
 weight-turn cs k h = rw (rounded-at cs k) at (weight-step (rounded cs) k (omega (arith, rounded-length cs)))
@@ -68,7 +64,8 @@ loop-holds : tie.Need-loop-holds Inv-loop μ-loop
 loop-holds c =
     let s = c .before .before in
     let e = rw (rest-is (s .args .c .now) (s .args .kept)) at (c .weigh .ensures) in
-    record { within = omega arith; weight-rest = omega arith; loss-rest = omega arith; written = λ h. refl }
+    let cs = take (s .args .kept) (s .args .c .now) in
+    record { within = omega arith; weight-rest = omega arith; loss-rest = omega arith; written = λ h. begins (rounded cs) _ 0 (length cs) (rounded-length cs) (omega (arith, length-take-le (s .args .kept) (s .args .c .now) (s .pre .1), s .pre .0)) }
 
 mul-exact : tie.Need-mul-exact Inv-loop μ-loop
 mul-exact c = search signed-needs
@@ -178,13 +175,12 @@ module _ (c : tie.After-magnitude2 Inv-loop μ-loop) where
     narrows : SFits w32 (q r)
     narrows = abs-fits w32 (q r) (omega (arith, size-is))
 
-    stored : set (l r .loop .coefficients) (k (l r)) (q r) ≡ filled (cs (l r)) (k (l r) + 1)
+    stored : Filling (rounded (cs (l r))) (replicate places (pos 0)) (set (l r .loop .coefficients) (k (l r)) (q r)) 0 (length (cs (l r))) (k (l r) + 1)
     stored =
         let cs = cs (l r) in
         let k = k (l r) in
-        let v : q r ≡ getD (rounded cs) k (pos 0) = q-is r ∙ ap roundedAt (sym (x-at r)) ∙ sym (rounded-at cs k) in
-        let old = l r .loop .inv .written (omega arith) in
-        (λ t. set (old t) k (v t)) ∙ pad-step (pos 0) (rounded cs) places k (omega (arith, rounded-length cs, cs-length (l r))) (omega (arith, s (l r) .pre .0))
+        turn k (q r) (pos 0) (l r .loop .inv .written (omega arith)) (omega (arith, cs-length (l r))) (omega arith)
+        (q-is r ∙ ap roundedAt (sym (x-at r)) ∙ sym (rounded-at cs k))
 
 add-weight : tie.Need-add-weight Inv-loop μ-loop
 add-weight c = let l = l (r c) in omega (arith, rounded-turn c, rounded-weight (cs l), bounded l, l .loop .inv .weight-rest)
@@ -211,18 +207,17 @@ loop-again j =
       within = omega (arith, cs-length (l (r c)));
       weight-rest = omega (arith, rounded-turn c, i .weight-rest);
       loss-rest = omega (arith, loss-turn (c .before), i .loss-rest);
-      written = λ h. ⊎-elim (λ w. w .1 ∙ simp (toZ-ofZ (fits-q (r c)), toZ-ofZ (narrows c h)) (stored c h)) (λ w. absurd (omega (arith, w .0))) (j .if1 .came);
+      written = λ h. ⊎-elim (λ w. rw (w .1) (simp (toZ-ofZ (fits-q (r c)), toZ-ofZ (narrows c h)) (stored c h))) (λ w. absurd (omega (arith, w .0))) (j .if1 .came);
     }
 
 returns : tie.Need-returns Inv-loop μ-loop
 returns c =
     let l = c .before in
     let i = l .loop .inv in
-    let e : k l ≡ n l = omega (arith, cs-length l, i .within) in
-    let d : length (rounded (cs l)) ≤ n l = omega (arith, rounded-length (cs l), cs-length l) in record {
-      weight-is = omega (arith, weight-end (rounded (cs l)) (k l) (omega arith), i .weight-rest);
+    record {
+      weight-is = omega (arith, weight-end (rounded (cs l)) (k l) (omega (arith, rounded-length (cs l), cs-length l)), i .weight-rest);
       loss-is = omega (arith, loss-end (cs l) (k l) (omega (arith, cs-length l)), i .loss-rest);
-      coefficients-are = λ h. i .written h ∙ rw (e, take-all (n l) (rounded (cs l)) d);
+      coefficients-are = λ h. padded places (pos 0) (i .written h) (omega (arith, cs-length l)) ∙ rw (cs-length l);
     }
 
 pub round-spec : {M : Type 1} → statement M
