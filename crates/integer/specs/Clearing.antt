@@ -15,7 +15,7 @@ pub length-zeros : (n : ℕ) → length (zeros n) ≡ n
 unfolding zeros
 length-zeros n = length-replicate n (pos 0)
 
-pub at-zeros : (n i : ℕ) → i < n → getD (zeros n) i (pos 0) ≡ pos 0
+at-zeros : (n i : ℕ) → i < n → getD (zeros n) i (pos 0) ≡ pos 0
 unfolding zeros
 at-zeros n i h = getD-replicate n i (pos 0) (pos 0) h
 
