@@ -37,7 +37,7 @@ loss-small c =
     turned : (c q d : ℤ) → c -ℤ d *ℤ q ≡ negℤ (q *ℤ d -ℤ c)
     turned = all3 _ (simp differences (omega arith))
 
-pub rounded-small : (c : ℤ) → natAbs (roundedAt c) ≤ natAbs c
+rounded-small : (c : ℤ) → natAbs (roundedAt c) ≤ natAbs c
 rounded-small c = near-size c (2 * scale) (omega arith)
 
 -- ---- the list of the rounded numbers
