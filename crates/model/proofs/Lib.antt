@@ -1,1 +1,3 @@
 pub mod IntegralWalk
+pub mod EvaluationWalk
+pub mod EvaluationBounds
