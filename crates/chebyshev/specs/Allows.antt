@@ -78,7 +78,7 @@ allows-whole s a e n p b u c h =
     above = rw (← whole-mul) (natural-positive (suc c * suc b ^ n) (omega (arith, one-le-pow n (suc b) (zero-lt-suc b))))
 
 -- only the fractions p/q and u/d count, not how they are written, nor n
-pub allowsWhole-equal : (s : ℕ) (a : List ℤ) (e n n′ : ℕ) (p p′ : ℤ) (b b′ : ℕ) (u u′ : ℤ) (c c′ : ℕ) → length a ≤ suc n → length a ≤ suc n′
+allowsWhole-equal : (s : ℕ) (a : List ℤ) (e n n′ : ℕ) (p p′ : ℤ) (b b′ : ℕ) (u u′ : ℤ) (c c′ : ℕ) → length a ≤ suc n → length a ≤ suc n′
     → p /1+ b ≡ p′ /1+ b′ → u /1+ c ≡ u′ /1+ c′ → allowsWhole s a e n p (suc b) u (suc c) ↔ allowsWhole s a e n′ p′ (suc b′) u′ (suc c′)
 allowsWhole-equal s a e n n′ p p′ b b′ u u′ c c′ h h′ x v =
     Iff·trans (Iff·symm (allows-whole s a e n p b u c h)) (rw (x, v) (allows-whole s a e n′ p′ b′ u′ c′ h′))

@@ -44,14 +44,14 @@ module _ (R : CommutativeRing) where
   opposite-scale [] = refl
   opposite-scale (x ∷ a) = ap₂ _∷_ (opp-is x) (opposite-scale a)
 
-  pub valueFrom-opposite : (x : A) (k : ℕ) (a : List A) → valueFrom R x k (map ⊖_ a) ≡ ⊖ valueFrom R x k a
+  valueFrom-opposite : (x : A) (k : ℕ) (a : List A) → valueFrom R x k (map ⊖_ a) ≡ ⊖ valueFrom R x k a
   valueFrom-opposite x k a = rw (opposite-scale, valueFrom-scale) (sym (opp-is (valueFrom R x k a)))
 
-  pub valueFrom-subtract : (x : A) (k : ℕ) (a b : List A) → valueFrom R x k (subtractLists R a b) ≡ valueFrom R x k a ⊕ ⊖ valueFrom R x k b
+  valueFrom-subtract : (x : A) (k : ℕ) (a b : List A) → valueFrom R x k (subtractLists R a b) ≡ valueFrom R x k a ⊕ ⊖ valueFrom R x k b
   unfolding subtractLists
   valueFrom-subtract x k a b = rw (valueFrom-add, valueFrom-opposite)
 
-  pub valueFrom-append : (x : A) (k : ℕ) (a b : List A) → valueFrom R x k (a ++ b) ≡ valueFrom R x k a ⊕ valueFrom R x (k + length a) b
+  valueFrom-append : (x : A) (k : ℕ) (a b : List A) → valueFrom R x k (a ++ b) ≡ valueFrom R x k a ⊕ valueFrom R x (k + length a) b
   unfolding valueFrom
   valueFrom-append x k [] b =
       let e : k + 0 ≡ k = omega arith in
@@ -73,10 +73,6 @@ module _ (R : CommutativeRing) where
   unfolding value
   value-scale x s a = valueFrom-scale x 0 s a
 
-  pub value-opposite : (x : A) (a : List A) → value R x (map ⊖_ a) ≡ ⊖ value R x a
-  unfolding value
-  value-opposite x a = valueFrom-opposite x 0 a
-
   pub value-subtract : (x : A) (a b : List A) → value R x (subtractLists R a b) ≡ value R x a ⊕ ⊖ value R x b
   unfolding value
   value-subtract x a b = valueFrom-subtract x 0 a b
@@ -85,10 +81,6 @@ module _ (R : CommutativeRing) where
   pub value-constant : (x c : A) → value R x (c ∷ []) ≡ c
   unfolding value valueFrom firstKind
   value-constant x c = solve R (c ∷ []) (search reify depth 20) (search reify depth 20) tt
-
-  pub value-zeros : (x : A) (n : ℕ) → value R x (replicate n (ι (pos 0))) ≡ ι (pos 0)
-  unfolding value
-  value-zeros x n = valueFrom-zeros x 0 n
 
   -- zeros at the top do not count
   pub value-append-zeros : (x : A) (a : List A) (n : ℕ) → value R x (a ++ replicate n (ι (pos 0))) ≡ value R x a
@@ -129,7 +121,7 @@ module _ (R : CommutativeRing) where
   getD-subtract a b i = rw (getD-add, opposite-scale, getD-scale, ← opp-is)
 
   -- where b is the shorter list, the sum changes only the places of b
-  pub add-split : (a b : List A) → length b ≤ length a → addLists R a b ≡ addLists R (take (length b) a) b ++ drop (length b) a
+  add-split : (a b : List A) → length b ≤ length a → addLists R a b ≡ addLists R (take (length b) a) b ++ drop (length b) a
   unfolding addLists
   add-split [] [] h = refl
   add-split [] (y ∷ b) h = absurd (omega arith)

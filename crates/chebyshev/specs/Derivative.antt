@@ -37,7 +37,7 @@ module _ (R : CommutativeRing) where
   remainder x h (suc zero) = ι (pos 0)
   remainder x h (suc (suc k)) = ι (pos 2) ⊗ derivative x (suc k) ⊕ ι (pos 2) ⊗ (x ⊕ h) ⊗ remainder x h (suc k) ⊕ ⊖ remainder x h k
 
-  pub first-taylor : (x h : A) (k : ℕ) → firstKind R (x ⊕ h) k ≡ firstKind R x k ⊕ h ⊗ derivative x k ⊕ h ⊗ h ⊗ remainder x h k
+  first-taylor : (x h : A) (k : ℕ) → firstKind R (x ⊕ h) k ≡ firstKind R x k ⊕ h ⊗ derivative x k ⊕ h ⊗ h ⊗ remainder x h k
   unfolding firstKind derivative remainder
   first-taylor x h zero = solve R (h ∷ []) (search reify depth 20) (search reify depth 20) tt
   first-taylor x h (suc zero) = solve R (x ∷ h ∷ []) (search reify depth 20) (search reify depth 20) tt

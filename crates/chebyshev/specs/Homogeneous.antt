@@ -54,7 +54,7 @@ module _ (R : CommutativeRing) where
   -- x = p/q, in any commutative ring
   module _ (x : A) (p : ℤ) (q : ℕ) (point : x ⊗ ι (pos q) ≡ ι p) where
     -- q^k·T_k(x) = τ_k
-    pub first-homogeneous : (k : ℕ) → ι (pos (q ^ k)) ⊗ firstKind R x k ≡ ι (homogeneous p q k)
+    first-homogeneous : (k : ℕ) → ι (pos (q ^ k)) ⊗ firstKind R x k ≡ ι (homogeneous p q k)
     unfolding firstKind homogeneous
     first-homogeneous zero = rw (pow-zero q) (R .one-mul (ι (pos 1)))
     first-homogeneous (suc zero) = rw (pow-one q) (R .mul-comm (ι (pos q)) x ∙ point)
@@ -86,7 +86,7 @@ module _ (R : CommutativeRing) where
         embed c t u v = simp (ι-add, ι-mul)
 
     -- q^n·a(x) = Σ a_k·τ_k·q^(n−k), for a list of at most n + 1 whole numbers
-    pub value-homogeneous : (n : ℕ) (a : List ℤ) → length a ≤ suc n → ι (pos (q ^ n)) ⊗ value R x (map ι a) ≡ ι (homogeneousValue p q n a)
+    value-homogeneous : (n : ℕ) (a : List ℤ) → length a ≤ suc n → ι (pos (q ^ n)) ⊗ value R x (map ι a) ≡ ι (homogeneousValue p q n a)
     unfolding value homogeneousValue
     value-homogeneous n a h = valueFrom-homogeneous n 0 a (omega arith)
 
@@ -104,7 +104,7 @@ pub value-fraction : (p : ℤ) (b n : ℕ) (a : List ℤ) → length a ≤ suc n
 value-fraction p b n a h = value-homogeneous ℚ-ring (p /1+ b) p (suc b) (fraction-point p b) n a h
 
 -- |p/q| ≤ 1 exactly where |p| ≤ q
-pub fraction-range : (p : ℤ) (b : ℕ) → (∣ p /1+ b ∣ℚ ≤ℚ whole (pos 1)) ↔ (natAbs p ≤ suc b)
+fraction-range : (p : ℤ) (b : ℕ) → (∣ p /1+ b ∣ℚ ≤ℚ whole (pos 1)) ↔ (natAbs p ≤ suc b)
 fraction-range p b = simp (fraction-abs, whole-is, fraction-le, den-zero, *-one, one-*, den-is, ∣∣-is) (le-pos (natAbs p) (suc b), pos-le (natAbs p) (suc b))
 
 -- |τ_k| ≤ q^k

@@ -5,7 +5,7 @@ use mathlib.Core.List.{List, [], _∷_, _++_, map, tail}
 use Prim.Native.Nat.{ℕ, zero, suc, _<_, _≤_}
 use native.Mathlib.Omega.{arith}
 use lib.IntN.{ℤ, pos, natAbs}
-use lib.ListN.{length, getD, take, drop, replicate, take-append-drop, List·getD-eq-default}
+use lib.ListN.{getD, take, drop, replicate, take-append-drop}
 use Rattle.integer.specs.Embedding.{ι-suc, ι-nonneg, ι-abs}
 use Rattle.integer.specs.Ring.{CommutativeRing, reify, solve}
 use Rattle.integer.specs.OrderedRing.{OrderedRing, by-certificate, le-refl, le-of-eq, _⟨≼⟩_, _⊞_, _⊠_, _⟨+⟩_, triangle, abs-mul, abs-mul-le, abs-neg, abs-of-nonneg}
@@ -89,7 +89,7 @@ module _ (O : OrderedRing) where
   -- ---- sums and differences
 
   -- |a_i| ≤ |b_i| + |c_i| for every i
-  pub norm-le : (a b c : List A) → ((i : ℕ) → abs (getD a i (ι (pos 0))) ≼ abs (getD b i (ι (pos 0))) ⊕ abs (getD c i (ι (pos 0)))) → norm O a ≼ norm O b ⊕ norm O c
+  norm-le : (a b c : List A) → ((i : ℕ) → abs (getD a i (ι (pos 0))) ≼ abs (getD b i (ι (pos 0))) ⊕ abs (getD c i (ι (pos 0)))) → norm O a ≼ norm O b ⊕ norm O c
   unfolding norm
   norm-le [] b c h = _⊞_ O (norm-nonneg b) (norm-nonneg c)
   norm-le (x ∷ a) b c h =
@@ -130,12 +130,9 @@ module _ (O : OrderedRing) where
       one-more : (n : A) → b ⊕ n ⊗ b ≡ (ι (pos 1) ⊕ n) ⊗ b
       one-more n = solve ring (b ∷ n ∷ []) (search reify depth 20) (search reify depth 20) tt
 
-  pub norm-length : (b : A) (a : List A) → ((i : ℕ) → i < length a → abs (getD a i (ι (pos 0))) ≼ b) → norm O a ≼ ι (pos (length a)) ⊗ b
-  norm-length b a h = norm-bounded b (length a) a h (λ i l. List·getD-eq-default a (ι (pos 0)) l)
-
   -- ---- values where |x| ≤ 1
 
-  pub valueFrom-bound : (x : A) (k : ℕ) (a : List A) → abs x ≼ ι (pos 1) → abs (valueFrom ring x k a) ≼ norm O a
+  valueFrom-bound : (x : A) (k : ℕ) (a : List A) → abs x ≼ ι (pos 1) → abs (valueFrom ring x k a) ≼ norm O a
   unfolding norm valueFrom
   valueFrom-bound x k [] h = le-of-eq O abs-zero
   valueFrom-bound x k (c ∷ a) h =

@@ -4,7 +4,7 @@ use mathlib.Core.List.{List, [], _∷_}
 use Prim.Native.Nat.{ℕ, zero, suc, _+_, _*_}
 use native.Mathlib.Omega.{arith}
 use lib.IntN.{pos}
-use lib.ListN.{length, getD}
+use lib.ListN.{getD}
 use Rattle.integer.specs.Parts.{_⁺}
 use Rattle.integer.specs.Difference.{all2}
 use Rattle.integer.specs.Fraction.{ℚ, whole, whole-mul, _+ℚ_, _-ℚ_, _*ℚ_, -ℚ_, *ℚ-dist, ℚ-ring, reifyℚ, solveℚ}
@@ -17,21 +17,7 @@ use Rattle.chebyshev.specs.CoefficientLaws.{valueFrom-add, valueFrom-sca
 use Rattle.chebyshev.specs.Derivative.{derivative, sumFrom, derivativeValue, remainder, value-taylor, derivative-constant, second-difference, derivative-second}
 use Rattle.chebyshev.specs.Primitive.{primitiveFrom, doubleFirst, primitiveTail, numerator, primitive}
 
--- ---- lengths and elements
-
-length-primitiveFrom : (k : ℕ) (a : List ℚ) → length (primitiveFrom k a) ≡ length a
-unfolding primitiveFrom
-length-primitiveFrom k [] = refl
-length-primitiveFrom k (p ∷ a) = ap suc (length-primitiveFrom (suc k) a)
-
-pub length-primitiveTail : (a : List ℚ) → length (primitiveTail a) ≡ length a
-unfolding primitiveTail doubleFirst
-length-primitiveTail [] = length-primitiveFrom 1 []
-length-primitiveTail (p ∷ a) = length-primitiveFrom 1 ((whole (pos 2) *ℚ p) ∷ a)
-
-pub length-primitive : (a : List ℚ) → length (primitive a) ≡ suc (length a)
-unfolding primitive
-length-primitive a = ap suc (length-primitiveTail a)
+-- ---- elements
 
 getD-primitiveFrom : (k : ℕ) (a : List ℚ) (i : ℕ)
     → getD (primitiveFrom k a) i (whole (pos 0)) ≡ (getD a i (whole (pos 0)) -ℚ getD a (suc (suc i)) (whole (pos 0))) /ℚ whole (pos (2 * (k + i)))
@@ -100,11 +86,11 @@ unfolding doubleFirst scaleList
 doubleFirst-scale s [] = refl
 doubleFirst-scale s (x ∷ a) = ap (λ v. v ∷ scaleList ℚ-ring s a) (solveℚ (s ∷ x ∷ []) (search reifyℚ depth 20) (search reifyℚ depth 20) tt)
 
-pub primitiveTail-add : (a b : List ℚ) → primitiveTail (addLists ℚ-ring a b) ≡ addLists ℚ-ring (primitiveTail a) (primitiveTail b)
+primitiveTail-add : (a b : List ℚ) → primitiveTail (addLists ℚ-ring a b) ≡ addLists ℚ-ring (primitiveTail a) (primitiveTail b)
 unfolding primitiveTail
 primitiveTail-add a b = ap (primitiveFrom 1) (doubleFirst-add a b) ∙ primitiveFrom-add 1 (doubleFirst a) (doubleFirst b)
 
-pub primitiveTail-scale : (s : ℚ) (a : List ℚ) → primitiveTail (scaleList ℚ-ring s a) ≡ scaleList ℚ-ring s (primitiveTail a)
+primitiveTail-scale : (s : ℚ) (a : List ℚ) → primitiveTail (scaleList ℚ-ring s a) ≡ scaleList ℚ-ring s (primitiveTail a)
 unfolding primitiveTail
 primitiveTail-scale s a = ap (primitiveFrom 1) (doubleFirst-scale s a) ∙ primitiveFrom-scale 1 s (doubleFirst a)
 
@@ -197,7 +183,7 @@ pub primitive-derivative : (x : ℚ) (a : List ℚ) → derivativeValue ℚ-ring
 unfolding primitive
 primitive-derivative x a = derivative-constant ℚ-ring x _ (primitiveTail a) ∙ derivative-tail x a
 
--- P(x + h) = P(x) + h·a(x), up to a multiple of h²
+-- P(x + h) = P(x) + h·a(x), up to a multiple of h²: one strip of request S-8
 pub primitive-increment : (x h : ℚ) (a : List ℚ)
     → value ℚ-ring (x +ℚ h) (primitive a) ≡ value ℚ-ring x (primitive a) +ℚ h *ℚ value ℚ-ring x a +ℚ h *ℚ h *ℚ sumFrom ℚ-ring (remainder ℚ-ring x h) 0 (primitive a)
 primitive-increment x h a =

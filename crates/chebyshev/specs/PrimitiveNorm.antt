@@ -69,7 +69,7 @@ quarter : (x y : ℚ) → (whole (pos 4) *ℚ x) ≤ℚ (whole (pos 4) *ℚ y) �
 quarter = common2 _ (search linear-prop) (λ k. simp (common-literal k, common) (all2 _ (simp common-differences (omega arith))))
 
 -- Σ |c_k| over k ≥ 1
-pub norm-primitiveTail : (a : List ℚ) → norm ℚ-ordered (primitiveTail a) ≤ℚ norm ℚ-ordered a
+norm-primitiveTail : (a : List ℚ) → norm ℚ-ordered (primitiveTail a) ≤ℚ norm ℚ-ordered a
 unfolding norm primitiveTail primitiveFrom doubleFirst
 norm-primitiveTail [] = le-refl ℚ-ordered (whole (pos 0))
 norm-primitiveTail (p ∷ a) =
@@ -140,7 +140,7 @@ pub record Rounded (a cs : List ℚ) (m : ℕ) : Type 0 where
   pub near : (k : ℕ) → k < m → (whole (pos 2) *ℚ ∣ getD cs k (whole (pos 0)) *ℚ whole (pos (2 * suc k)) -ℚ numerator a k ∣ℚ) ≤ℚ whole (pos (2 * suc k))
   pub exact : (k : ℕ) → m ≤ k → getD cs k (whole (pos 0)) *ℚ whole (pos (2 * suc k)) ≡ numerator a k
 
-pub norm-rounded : (a cs : List ℚ) (m : ℕ) → Rounded a cs m → (whole (pos 2) *ℚ norm ℚ-ordered (subtractLists ℚ-ring (primitiveTail a) cs)) ≤ℚ whole (pos m)
+norm-rounded : (a cs : List ℚ) (m : ℕ) → Rounded a cs m → (whole (pos 2) *ℚ norm ℚ-ordered (subtractLists ℚ-ring (primitiveTail a) cs)) ≤ℚ whole (pos m)
 norm-rounded a cs m r =
     rw (norm-scale ℚ-ordered, ι-abs ℚ-ordered, mul-one) at
     (norm-bounded ℚ-ordered (whole (pos 1)) m (scaleList ℚ-ring (whole (pos 2)) errors)

@@ -32,7 +32,7 @@ module _ (R : CommutativeRing) where
   drop-addRow n c x i j [] h = refl
   drop-addRow n c x i j (y ∷ b) h = drop-addRow n (addPair R c i j (x ⊗ y)) x i (suc j) b (omega arith) ∙ drop-addPair n c i j (x ⊗ y) (omega arith)
 
-  pub drop-addRows : (n : ℕ) (c : List A) (i : ℕ) (a b : List A) → i + length a + length b ≤ suc n → drop n (addRows R c i a b) ≡ drop n c
+  drop-addRows : (n : ℕ) (c : List A) (i : ℕ) (a b : List A) → i + length a + length b ≤ suc n → drop n (addRows R c i a b) ≡ drop n c
   unfolding addRows
   drop-addRows n c i [] b h = refl
   drop-addRows n c i (x ∷ a) b h = drop-addRows n (addRow R c x i 0 b) (suc i) a b (omega arith) ∙ drop-addRow n c x i 0 b (omega arith)

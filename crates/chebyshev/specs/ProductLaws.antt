@@ -62,7 +62,7 @@ module _ (R : CommutativeRing) where
       (ap (λ w. y ⊗ firstKind R x m ⊕ w) (valueFrom-addAt x (suc m) c k v (omega arith))
       ∙ sym (add-assoc (y ⊗ firstKind R x m) (valueFrom R x (suc m) c) (v ⊗ firstKind R x (suc m + k))))
 
-  pub value-addAt : (x : A) (c : List A) (k : ℕ) (v : A) → k < length c → value R x (addAt R c k v) ≡ value R x c ⊕ v ⊗ firstKind R x k
+  value-addAt : (x : A) (c : List A) (k : ℕ) (v : A) → k < length c → value R x (addAt R c k v) ≡ value R x c ⊕ v ⊗ firstKind R x k
   unfolding value
   value-addAt x c k v h =
       let e : 0 + k ≡ k = omega arith in
@@ -74,7 +74,7 @@ module _ (R : CommutativeRing) where
   unfolding addPair
   length-addPair c i j v = rw (length-addAt, length-addAt)
 
-  pub value-addPair : (x : A) (c : List A) (i j : ℕ) (v : A) → i + j < length c → value R x (addPair R c i j v) ≡ value R x c ⊕ ι (pos 2) ⊗ (v ⊗ firstKind R x i ⊗ firstKind R x j)
+  value-addPair : (x : A) (c : List A) (i j : ℕ) (v : A) → i + j < length c → value R x (addPair R c i j v) ≡ value R x c ⊕ ι (pos 2) ⊗ (v ⊗ firstKind R x i ⊗ firstKind R x j)
   unfolding addPair
   value-addPair x c i j v h =
       value-addAt x (addAt R c (i + j) v) (distance i j) v (rw length-addAt (omega arith))
@@ -90,7 +90,7 @@ module _ (R : CommutativeRing) where
   length-addRow c y i j [] = refl
   length-addRow c y i j (z ∷ b) = length-addRow (addPair R c i j (y ⊗ z)) y i (suc j) b ∙ length-addPair c i j (y ⊗ z)
 
-  pub length-addRows : (c : List A) (i : ℕ) (a b : List A) → length (addRows R c i a b) ≡ length c
+  length-addRows : (c : List A) (i : ℕ) (a b : List A) → length (addRows R c i a b) ≡ length c
   unfolding addRows
   length-addRows c i [] b = refl
   length-addRows c i (y ∷ a) b = length-addRows (addRow R c y i 0 b) (suc i) a b ∙ length-addRow c y i 0 b
@@ -179,7 +179,7 @@ module _ (R : CommutativeRing) where
   map-ι-addRows c i [] b = refl
   map-ι-addRows c i (x ∷ a) b = map-ι-addRows (addRow ℤ-ring c x i 0 b) (suc i) a b ∙ ap (λ l. addRows R l (suc i) (map ι a) (map ι b)) (map-ι-addRow c x i 0 b)
 
-  pub map-ι-product : (width : ℕ) (a b : List ℤ) → map ι (product ℤ-ring width a b) ≡ product R width (map ι a) (map ι b)
+  map-ι-product : (width : ℕ) (a b : List ℤ) → map ι (product ℤ-ring width a b) ≡ product R width (map ι a) (map ι b)
   unfolding product
   map-ι-product width a b = map-ι-addRows (replicate width (pos 0)) 0 a b ∙ ap (λ l. addRows R l 0 (map ι a) (map ι b)) (map-ι-zeros R width)
 

@@ -20,7 +20,7 @@ module _ (O : OrderedRing) where
   infixl 6 _⊕_
   infixl 7 _⊗_
   infix 4 _≼_
-  pub norm-addAt : (c : List A) (k : ℕ) (v : A) → norm O (addAt ring c k v) ≼ norm O c ⊕ abs v
+  norm-addAt : (c : List A) (k : ℕ) (v : A) → norm O (addAt ring c k v) ≼ norm O c ⊕ abs v
   unfolding norm addAt
   norm-addAt [] k v = by-certificate O (abs-nonneg v) (solve ring (abs v ∷ []) (search reify depth 20) (search reify depth 20) tt)
   norm-addAt (x ∷ c) zero v =
@@ -30,13 +30,13 @@ module _ (O : OrderedRing) where
       by-certificate O (gap O (norm-addAt c k v))
       (solve ring (abs x ∷ abs v ∷ norm O c ∷ norm O (addAt ring c k v) ∷ []) (search reify depth 20) (search reify depth 20) tt)
 
-  pub norm-addPair : (c : List A) (i j : ℕ) (v : A) → norm O (addPair ring c i j v) ≼ norm O c ⊕ ι (pos 2) ⊗ abs v
+  norm-addPair : (c : List A) (i j : ℕ) (v : A) → norm O (addPair ring c i j v) ≼ norm O c ⊕ ι (pos 2) ⊗ abs v
   unfolding addPair
   norm-addPair c i j v =
       by-certificate O (_⊞_ O (gap O (norm-addAt (addAt ring c (i + j) v) (distance i j) v)) (gap O (norm-addAt c (i + j) v)))
       (solve ring (norm O (addAt ring (addAt ring c (i + j) v) (distance i j) v) ∷ norm O (addAt ring c (i + j) v) ∷ norm O c ∷ abs v ∷ []) (search reify depth 20) (search reify depth 20) tt)
 
-  pub norm-addRow : (c : List A) (x : A) (i j : ℕ) (b : List A) → norm O (addRow ring c x i j b) ≼ norm O c ⊕ ι (pos 2) ⊗ abs x ⊗ norm O b
+  norm-addRow : (c : List A) (x : A) (i j : ℕ) (b : List A) → norm O (addRow ring c x i j b) ≼ norm O c ⊕ ι (pos 2) ⊗ abs x ⊗ norm O b
   unfolding norm addRow
   norm-addRow c x i j [] = le-of-eq O (solve ring (norm O c ∷ abs x ∷ []) (search reify depth 20) (search reify depth 20) tt)
   norm-addRow c x i j (y ∷ b) =
@@ -45,7 +45,7 @@ module _ (O : OrderedRing) where
       (le-of-eq O (ap (λ p. norm O c ⊕ ι (pos 2) ⊗ p ⊕ ι (pos 2) ⊗ abs x ⊗ norm O b) (abs-mul O x y)
       ∙ solve ring (norm O c ∷ abs x ∷ abs y ∷ norm O b ∷ []) (search reify depth 20) (search reify depth 20) tt)))
 
-  pub norm-addRows : (c : List A) (i : ℕ) (a b : List A) → norm O (addRows ring c i a b) ≼ norm O c ⊕ ι (pos 2) ⊗ norm O a ⊗ norm O b
+  norm-addRows : (c : List A) (i : ℕ) (a b : List A) → norm O (addRows ring c i a b) ≼ norm O c ⊕ ι (pos 2) ⊗ norm O a ⊗ norm O b
   unfolding norm addRows
   norm-addRows c i [] b = le-of-eq O (solve ring (norm O c ∷ norm O b ∷ []) (search reify depth 20) (search reify depth 20) tt)
   norm-addRows c i (x ∷ a) b =
@@ -53,7 +53,7 @@ module _ (O : OrderedRing) where
       (_⟨≼⟩_ O (_⟨+⟩_ O (norm-addRow c x i 0 b) (le-refl O (ι (pos 2) ⊗ norm O a ⊗ norm O b)))
       (le-of-eq O (solve ring (norm O c ∷ abs x ∷ norm O a ∷ norm O b ∷ []) (search reify depth 20) (search reify depth 20) tt)))
 
-  pub norm-product : (width : ℕ) (a b : List A) → norm O (product ring width a b) ≼ ι (pos 2) ⊗ norm O a ⊗ norm O b
+  norm-product : (width : ℕ) (a b : List A) → norm O (product ring width a b) ≼ ι (pos 2) ⊗ norm O a ⊗ norm O b
   unfolding product
   norm-product width a b =
       _⟨≼⟩_ O (norm-addRows (replicate width (ι (pos 0))) 0 a b)

@@ -9,9 +9,9 @@ use lib.ListN.{length, getD, take, drop, replicate, drop-of-length-le}
 use lib.Seq.{drop-cons}
 use Rattle.integer.specs.Parts.{_⁺}
 use Rattle.integer.specs.Integer.{ℤ-ring}
-use Rattle.integer.specs.Order.{ℤ-ordered, le-pos, pos-le, ∣∣-is}
+use Rattle.integer.specs.Order.{ℤ-ordered, le-pos, ∣∣-is}
 use Rattle.chebyshev.specs.Coefficients.{weight, addLists, scaleList, subtractLists, norm}
-use Rattle.chebyshev.specs.NormLaws.{norm-whole, norm-add, norm-opposite, norm-subtract, norm-scale, norm-append, norm-split, norm-take, norm-drop, norm-zeros, norm-append-zeros, norm-at, norm-length}
+use Rattle.chebyshev.specs.NormLaws.{norm-whole, norm-add, norm-opposite, norm-subtract, norm-scale, norm-append, norm-split, norm-take, norm-drop, norm-zeros, norm-append-zeros, norm-at}
 
 pub norm-weight : (a : List ℤ) → norm ℤ-ordered a ≡ pos (weight a)
 norm-weight a = ap (norm ℤ-ordered) (same a) ∙ norm-whole ℤ-ordered a
@@ -54,10 +54,6 @@ weight-append-zeros a n = ap _⁺ (simp norm-weight at (norm-append-zeros ℤ-or
 
 pub weight-at : (a : List ℤ) (i : ℕ) → natAbs (getD a i (pos 0)) ≤ weight a
 weight-at a i = le-pos _ _ (simp (norm-weight, ∣∣-is) at (norm-at ℤ-ordered a i))
-
--- a bound of each element, times the length
-pub weight-length : (b : ℕ) (a : List ℤ) → ((i : ℕ) → i < length a → natAbs (getD a i (pos 0)) ≤ b) → weight a ≤ length a * b
-weight-length b a h = le-pos _ _ (simp norm-weight at (norm-length ℤ-ordered (pos b) a (λ i l. rw ∣∣-is (pos-le _ _ (h i l)))))
 
 -- ---- sums, differences, multiples
 

@@ -1,15 +1,15 @@
 -- What floor, up and near share: the truncated quotient and remainder of n by d ≥ 1, and the correction of each rounding.
 use mathlib.Core.Path.{_≡_}
-use Prim.Native.Nat.{ℕ, zero, suc, _+_, _*_, _≤_, _<_, _^_}
+use Prim.Native.Nat.{ℕ, _+_, _*_, _≤_, _<_}
 use native.Mathlib.Omega.{arith}
 use native.Mathlib.Nat.{mul-le-mul-left}
-use lib.IntN.{ℤ, pos, negsuc, negℤ, natAbs, _+ℤ_, _-ℤ_, _*ℤ_}
+use lib.IntN.{ℤ, pos, negℤ, natAbs, _+ℤ_, _-ℤ_, _*ℤ_}
 use lib.Signed.{_≤ℤ_, _<ℤ_, quotZ, remZ}
 use mir.Syntax.{w64}
 use mir.Val.{SFits, toZ, ofZ}
 use mir.Facts.{toZ-ofZ}
 use Rattle.integer.specs.Parts.{_⁺, _⁻, abs, sum, difference, opposite}
-use Rattle.integer.specs.Difference.{all4, differences, ≤-parts, <-parts}
+use Rattle.integer.specs.Difference.{all4, differences, <-parts}
 use Rattle.integer.specs.Machine.{fits, within, is-positive, positive-bits, Truncated, truncated}
 use Rattle.integer.specs.Rounding.{floor, up, near}
 use Rattle.integer.specs.RoundingLaws.{floor-unique, up-unique, near-unique}
@@ -112,7 +112,7 @@ module _ (o : Operands) where
   pub q-fits : SFits w64 q
   q-fits = fits w64 q (omega (arith, t, within w64 n fits-n)) (omega (arith, t, within w64 n fits-n))
 
-  pub r-fits : SFits w64 r
+  r-fits : SFits w64 r
   r-fits = fits w64 r (omega (arith, t, within w64 n fits-n)) (omega (arith, t, within w64 n fits-n))
 
   -- what the machine's / and % ask

@@ -1,11 +1,11 @@
 -- Loops that write zeros from the front.
-use mathlib.Core.Path.{_≡_, sym, _∙_}
-use mathlib.Core.List.{List, _++_, append-nil}
+use mathlib.Core.Path.{_≡_, sym}
+use mathlib.Core.List.{List, _++_}
 use Prim.Native.Nat.{ℕ, _+_, _≤_, _<_}
 use native.Mathlib.Omega.{arith}
 use lib.IntN.{ℤ, pos}
-use lib.ListN.{length, getD, set, replicate, length-replicate, getD-replicate, replicate-append-replicate, drop-of-length-le}
-use Rattle.integer.specs.Filling.{Filling, begins, turn, next, ends}
+use lib.ListN.{length, getD, set, replicate, length-replicate, getD-replicate, replicate-append-replicate}
+use Rattle.integer.specs.Filling.{Filling, begins, turn, next, whole}
 
 -- n zeros, shut, so that they are never written out
 unfoldable pub zeros : ℕ → List ℤ
@@ -15,7 +15,7 @@ pub length-zeros : (n : ℕ) → length (zeros n) ≡ n
 unfolding zeros
 length-zeros n = length-replicate n (pos 0)
 
-pub at-zeros : (n i : ℕ) → i < n → getD (zeros n) i (pos 0) ≡ pos 0
+at-zeros : (n i : ℕ) → i < n → getD (zeros n) i (pos 0) ≡ pos 0
 unfolding zeros
 at-zeros n i h = getD-replicate n i (pos 0) (pos 0) h
 
@@ -38,4 +38,4 @@ clearing-next {n} {start} {l} {i} f = next i (pos 0) f (omega arith)
 
 -- a whole list
 pub clearing-ends : {n : ℕ} {start l : List ℤ} {i : ℕ} → Clearing n start l i → n ≤ i → length start ≡ n → l ≡ zeros n
-clearing-ends {n} {start} {l} {i} f h e = ends f h ∙ rw (drop-of-length-le start {i = 0 + n} (omega arith)) (append-nil (zeros n))
+clearing-ends f h e = whole f h e

@@ -3,13 +3,13 @@
 --   lemma = all3 _ (simp differences (omega arith))
 -- `all3` moves the statement to differences, `differences` turns each operation, ≡, ≤ℤ and <ℤ of them into ℕ.
 -- Products up to degree 2 pass too; beyond that use the solver (Ring.antt).
-use mathlib.Core.Path.{_≡_, refl, sym, _∙_, ap, subst}
+use mathlib.Core.Path.{_≡_, sym, ap, subst}
 use mathlib.Core.Logic.{_↔_}
-use Prim.Native.Nat.{ℕ, zero, suc, _+_, _*_, _-_, _<_, _≤_}
+use Prim.Native.Nat.{ℕ, suc, _+_, _*_, _-_, _<_, _≤_}
 use native.Mathlib.Omega.{arith}
 use lib.Dec.{T, leb→le, le→leb, ltb→lt, lt→ltb}
 use lib.Signed.{_≤ℤ_, _<ℤ_, leZ, ltZ, leZ-yes, ltZ-yes}
-use lib.IntN.{ℤ, pos, negsuc, negℤ, subℕ, _+ℤ_, _-ℤ_, _*ℤ_}
+use lib.IntN.{ℤ, pos, negsuc, negℤ, subℕ, _+ℤ_, _*ℤ_}
 use Rattle.integer.specs.Parts.{_⁺, _⁻, same, sub, sum, opposite, product}
 
 -- shut, so that no rule sees through it
@@ -121,9 +121,3 @@ all3 P f = all1 (λ x. (y z : ℤ) → P x y z) (λ a b. all2 (P (D a b)) (f a b
 
 pub all4 : (P : ℤ → ℤ → ℤ → ℤ → Type 0) → ((a b c d e f g h : ℕ) → P (D a b) (D c d) (D e f) (D g h)) → (x y z w : ℤ) → P x y z w
 all4 P f = all1 (λ x. (y z w : ℤ) → P x y z w) (λ a b. all3 (P (D a b)) (f a b))
-
-pub all5 : (P : ℤ → ℤ → ℤ → ℤ → ℤ → Type 0) → ((a b c d e f g h i j : ℕ) → P (D a b) (D c d) (D e f) (D g h) (D i j)) → (x y z w v : ℤ) → P x y z w v
-all5 P f = all1 (λ x. (y z w v : ℤ) → P x y z w v) (λ a b. all4 (P (D a b)) (f a b))
-
-pub all6 : (P : ℤ → ℤ → ℤ → ℤ → ℤ → ℤ → Type 0) → ((a b c d e f g h i j k l : ℕ) → P (D a b) (D c d) (D e f) (D g h) (D i j) (D k l)) → (x y z w v u : ℤ) → P x y z w v u
-all6 P f = all1 (λ x. (y z w v u : ℤ) → P x y z w v u) (λ a b. all5 (P (D a b)) (f a b))

@@ -1,10 +1,10 @@
 -- Loops that write the n elements of a list Z one by one into a list, from place a on.
 use mathlib.Core.Path.{_≡_, refl, ap, _∙_}
-use mathlib.Core.List.{List, _++_}
-use Prim.Native.Nat.{ℕ, _+_, _≤_, _<_}
+use mathlib.Core.List.{List, _++_, append-nil}
+use Prim.Native.Nat.{ℕ, zero, suc, _+_, _-_, _≤_, _<_}
 use native.Mathlib.Omega.{arith}
 use native.Mathlib.Numerals.{add-one}
-use lib.ListN.{length, getD, set, take, drop, length-set}
+use lib.ListN.{length, getD, set, take, drop, replicate, length-set, drop-of-length-le}
 use lib.Seq.{paste, paste-zero, paste-suc, drop-paste, getD-drop, take-all}
 
 -- the invariant after i of them: `start` is the list where the loop begins, `l` the list now
@@ -43,3 +43,18 @@ module _ {A : Type 0} where
       f .is
       ∙ ap (paste start a Z) e
       ∙ ap (λ (t : List A). take a start ++ t ++ drop (a + n) start) (take-all n Z (omega (arith, f .wide)))
+
+  -- a whole list
+  pub whole : {Z start l : List A} {n i : ℕ} → Filling Z start l 0 n i → n ≤ i → length start ≡ n → l ≡ Z
+  whole {Z} {start} {l} {n} f h e = ends f h ∙ rw (drop-of-length-le start {i = 0 + n} (omega arith)) (append-nil Z)
+
+  pub drop-replicate : (m n : ℕ) (d : A) → drop m (replicate n d) ≡ replicate (n - m) d
+  drop-replicate zero n d = let e : n - 0 ≡ n = omega arith in rw e
+  drop-replicate (suc m) zero d = let e : 0 - suc m ≡ 0 = omega arith in rw e
+  drop-replicate (suc m) (suc n) d = let e : suc n - suc m ≡ n - m = omega arith in rw e (drop-replicate m n d)
+
+  -- the first n of m places that held d
+  pub padded : (m : ℕ) (d : A) {Z l : List A} {n i : ℕ} → Filling Z (replicate m d) l 0 n i → n ≤ i → l ≡ Z ++ replicate (m - n) d
+  padded m d {Z} {l} {n} f h =
+      let e : 0 + n ≡ n = omega arith in
+      ends f h ∙ rw (e, drop-replicate n m d)

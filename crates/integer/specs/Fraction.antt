@@ -1,14 +1,14 @@
 -- ℚ, the fractions, as a true quotient: `a /1+ b` is a / (1 + b), and equal fractions are equal (≡), so that `rw` and the
 -- solver serve:  solveℚ (x ∷ y ∷ []) (search reifyℚ depth 20) (search reifyℚ depth 20) tt : a ≡ b
 -- A statement about all fractions is proved at numerators and denominators by `all1ℚ`, `all2ℚ`, `all3ℚ`, or by `represent`.
-use mathlib.Core.Path.{_≡_, refl, sym, _∙_, ap}
+use mathlib.Core.Path.{_≡_, refl, sym, ap}
 use mathlib.Core.List.{List, [], _∷_}
 use mathlib.Core.Quot.{Setoid, Quotient, Quotient·mk, Quotient·sound, Quotient-set, Quotient·lift₂, Quotient·exact, Quotient·ind}
-use Prim.Native.Nat.{ℕ, zero, suc, _+_, _*_, _≤_}
+use Prim.Native.Nat.{ℕ, suc, _+_, _*_, _≤_}
 use native.Mathlib.Omega.{arith}
 use native.Mathlib.Nat.{eq-of-mul-eq-mul-right, le-of-mul-le-mul-right, zero-lt-suc}
 use lib.Dec.{T}
-use lib.IntN.{ℤ, pos, negsuc, negℤ, _+ℤ_, _-ℤ_, _*ℤ_, ℤ-set}
+use lib.IntN.{ℤ, pos, negsuc, _+ℤ_, _*ℤ_, ℤ-set}
 use lib.Signed.{_≤ℤ_}
 use Rattle.integer.specs.Difference.{D, D-lit, D-mul, D-≡, D-≤, all2}
 use Rattle.integer.specs.Polynomial.{_⊖_, normal, vanishes}

@@ -1,15 +1,14 @@
 -- The inverse of a fraction: x · inverse x = 1 for every x ≠ 0 (and inverse 0 = 0), and the quotient of two fractions.
 use mathlib.Core.Path.{_≡_, refl, sym, _∙_, ap}
 use mathlib.Core.HLevel.{Π-prop}
-use mathlib.Core.List.{List, [], _∷_}
+use mathlib.Core.List.{[], _∷_}
 use mathlib.Core.Quot.{Quotient·lift}
 use Prim.Native.Nat.{ℕ, zero, suc, _+_, _*_}
 use native.Mathlib.Omega.{arith}
 use native.Mathlib.Nat.{mul-comm}
 use lib.IntN.{ℤ, pos, negsuc, negℤ, _*ℤ_, zero-*ℤ}
 use Rattle.integer.specs.Parts.{_⁺, _⁻, product}
-use Rattle.integer.specs.Integer.{reifyℤ, solveℤ}
-use Rattle.integer.specs.Fraction.{Pair, pairs, ℚ, ℚ-set, _/1+_, represent, den, den-is, den-product, den-mul, den-zero, _*ℚ_, fraction-mul, fraction-eq, whole, whole-is, reifyℚ, solveℚ}
+use Rattle.integer.specs.Fraction.{pairs, ℚ, ℚ-set, _/1+_, represent, den-is, den-mul, _*ℚ_, fraction-mul, fraction-eq, whole, whole-is, reifyℚ, solveℚ}
 
 invert : ℤ → ℕ → ℚ
 invert (pos zero) b = whole (pos 0)

@@ -2,18 +2,18 @@
 --   lemma : (x y z : ℚ) → x ≤ℚ y → (whole (pos 2) *ℚ y) ≤ℚ z → (whole (pos 2) *ℚ x) ≤ℚ z
 --   lemma = common3 _ (search linear-prop) (λ k. simp (common-literal k, common) (all3 _ (simp common-differences (omega arith))))
 -- Coefficients are literals `whole (pos 2)`, `whole (negsuc 4)`, or none.
-use mathlib.Core.Path.{_≡_, refl, ap}
+use mathlib.Core.Path.{_≡_, ap}
 use mathlib.Core.Logic.{_↔_}
 use mathlib.Core.HLevel.{Π-prop}
-use mathlib.Core.List.{List, [], _∷_}
+use mathlib.Core.List.{[], _∷_}
 use Prim.Native.Nat.{ℕ}
-use lib.IntN.{ℤ, pos, negsuc, negℤ, _+ℤ_, _-ℤ_, _*ℤ_}
+use lib.IntN.{ℤ, _+ℤ_, _*ℤ_}
 use lib.Signed.{_≤ℤ_}
 use Rattle.integer.specs.Difference.{differences}
 use Rattle.integer.specs.Integer.{reifyℤ, solveℤ}
 use Rattle.integer.specs.OrderedRing.{mul-left}
 use Rattle.integer.specs.Order.{ℤ-ordered}
-use Rattle.integer.specs.Fraction.{ℚ, ℚ-set, _/1+_, fraction-eq, fraction-exact, fraction-add, fraction-mul, whole, whole-is, -ℚ_, _+ℚ_, _*ℚ_, den, den-D, den-mul, den-zero, den-nonneg, den-product, cancel-den, cancel-den-le, represent}
+use Rattle.integer.specs.Fraction.{ℚ, ℚ-set, _/1+_, fraction-eq, fraction-exact, fraction-add, fraction-mul, whole, whole-is, _+ℚ_, _*ℚ_, den, den-D, den-mul, den-zero, den-nonneg, den-product, cancel-den, cancel-den-le, represent}
 use Rattle.integer.specs.FractionOrder.{_≤ℚ_, fraction-le, fraction-neg, ≤ℚ-prop, represent2}
 
 -- ---- the operations at one denominator

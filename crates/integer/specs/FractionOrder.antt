@@ -4,18 +4,16 @@ use mathlib.Core.Path.{_≡_, refl, sym, _∙_, ap, subst}
 use mathlib.Core.Logic.{_↔_, _⊎_, inl, inr}
 use mathlib.Core.HLevel.{Π-prop}
 use mathlib.Core.Bool.{Bool, true, false, not, Bool-set}
-use mathlib.Core.List.{List, [], _∷_}
+use mathlib.Core.List.{[], _∷_}
 use mathlib.Core.Quot.{Quotient·lift, Quotient·lift₂}
-use Prim.Native.Nat.{ℕ, zero, suc, _+_, _*_}
-use native.Mathlib.Omega.{arith}
+use Prim.Native.Nat.{ℕ, _+_, _*_}
 use lib.Dec.{T, T-prop}
-use lib.IntN.{ℤ, pos, negsuc, negℤ, _+ℤ_, _-ℤ_, _*ℤ_, zero-*ℤ}
+use lib.IntN.{ℤ, pos, negℤ, _+ℤ_, _*ℤ_, zero-*ℤ}
 use lib.Signed.{_≤ℤ_, leZ, leZ-yes}
-use Rattle.integer.specs.Difference.{all2, all3, differences}
 use Rattle.integer.specs.Integer.{reifyℤ, solveℤ, combine1, *-one}
 use Rattle.integer.specs.OrderedRing.{OrderedRing, by-certificate, gap, _⊞_, _⊠_, mul-left, abs-mul, abs-of-nonneg}
 use Rattle.integer.specs.Order.{ℤ-ordered, total, mul-nonneg, cancel, abs-nonneg, abs-cases, ∣_∣}
-use Rattle.integer.specs.Fraction.{Pair, pairs, ℚ, ℚ-set, _/1+_, represent, den, den-is, den-product, den-mul, den-nonneg, den-zero, cancel-den-le, cancel-den, _+ℚ_, _*ℚ_, -ℚ_, _-ℚ_, -ℚ-is, fraction-add, fraction-mul, fraction-eq, fraction-exact, whole, whole-is, ℚ-ring, reifyℚ, solveℚ}
+use Rattle.integer.specs.Fraction.{Pair, pairs, ℚ, ℚ-set, _/1+_, represent, den, den-product, den-mul, den-nonneg, den-zero, cancel-den-le, _+ℚ_, _*ℚ_, -ℚ_, _-ℚ_, -ℚ-is, fraction-add, fraction-mul, fraction-eq, fraction-exact, whole, whole-is, ℚ-ring, reifyℚ, solveℚ}
 
 bool-ext : (x y : Bool) → (T x → T y) → (T y → T x) → x ≡ y
 bool-ext true true f g = refl
@@ -169,12 +167,12 @@ pub fraction-neg : (a : ℤ) (b : ℕ) → -ℚ a /1+ b ≡ negℤ a /1+ b
 fraction-neg a b = simp (-ℚ-is, whole-is, fraction-mul) (fraction-eq _ _ _ _ (rw (den-mul, den-zero) (solveℤ (a ∷ den b ∷ []) (search reifyℤ depth 9) (search reifyℤ depth 9) tt)))
 
 -- |x| is x or −x: which of the two, the order tells
-pub absℚ-of-nonneg : (x : ℚ) → whole (pos 0) ≤ℚ x → ∣ x ∣ℚ ≡ x
+absℚ-of-nonneg : (x : ℚ) → whole (pos 0) ≤ℚ x → ∣ x ∣ℚ ≡ x
 absℚ-of-nonneg =
     represent _ (λ x. Π-prop (λ _. ℚ-set _ _))
     (λ a b h. fraction-abs a b ∙ ap (λ z. z /1+ b) (abs-of-nonneg ℤ-ordered (nonneg-num a b .0 h)))
 
-pub absℚ-neg : (x : ℚ) → ∣ -ℚ x ∣ℚ ≡ ∣ x ∣ℚ
+absℚ-neg : (x : ℚ) → ∣ -ℚ x ∣ℚ ≡ ∣ x ∣ℚ
 absℚ-neg =
     represent _ (λ x. ℚ-set _ _)
     (λ a b. ap ∣_∣ℚ (fraction-neg a b) ∙ fraction-abs (negℤ a) b ∙ ap (λ z. z /1+ b) (Rattle.integer.specs.OrderedRing.abs-neg ℤ-ordered a) ∙ sym (fraction-abs a b))

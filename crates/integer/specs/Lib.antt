@@ -16,7 +16,6 @@ pub mod RoundingSize
 pub mod FractionRounding
 pub mod Archimedean
 pub mod Machine
-pub mod Fill
 pub mod Filling
 pub mod Clearing
 pub mod Examples

@@ -1,17 +1,17 @@
 -- ℤ is an ordered commutative ring: `ℤ-ordered`. Its order is lib.Signed's ≤ℤ and <ℤ, and |z| is `∣ z ∣`, a whole number
 -- (lib.IntN's natAbs is the same as a natural number). Laws for every ordered ring are in OrderedRing.antt, as
 -- `triangle ℤ-ordered x y`; linear facts are one line by Difference.antt.
-use mathlib.Core.Path.{_≡_, refl, sym, _∙_, ap}
+use mathlib.Core.Path.{_≡_, refl}
 use mathlib.Core.Logic.{_⊎_, inl, inr}
 use Prim.Native.Nat.{ℕ, zero, suc, _+_, _*_, _<_, _≤_, zero-le}
 use native.Mathlib.Omega.{arith}
 use native.Mathlib.Nat.{le-of-mul-le-mul-left}
 use native.Mathlib.Decide.{decLe}
 use lib.Dec.{le→leb, leb→le}
-use lib.IntN.{ℤ, pos, negsuc, negℤ, natAbs, _+ℤ_, _-ℤ_, _*ℤ_}
-use lib.Signed.{_≤ℤ_, _<ℤ_, leZ-yes, mag}
-use Rattle.integer.specs.Parts.{_⁺, _⁻, apart}
-use Rattle.integer.specs.Difference.{D, D-lit, D-mul, D-≤, all1, all2, all3, differences, ≤-parts, <-parts}
+use lib.IntN.{ℤ, pos, negsuc, negℤ, natAbs, _*ℤ_}
+use lib.Signed.{_≤ℤ_, _<ℤ_, leZ-yes}
+use Rattle.integer.specs.Parts.{_⁺, _⁻}
+use Rattle.integer.specs.Difference.{D, D-lit, D-mul, D-≤, all2, all3, differences, ≤-parts, <-parts}
 use Rattle.integer.specs.Integer.{ℤ-ring}
 use Rattle.integer.specs.OrderedRing.{OrderedRing}
 

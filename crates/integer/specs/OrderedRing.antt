@@ -7,8 +7,8 @@
 --   box x y z w hx hz hw hy = by-certificate O (⊞ O (⊠ O (gap O hz) hw) (⊠ O hx (gap O hy))) (solve ..)
 use mathlib.Core.Path.{_≡_, refl, sym, _∙_, ap, ap₂, subst}
 use mathlib.Core.Logic.{_↔_, _⊎_, inl, inr}
-use mathlib.Core.List.{List, [], _∷_}
-use lib.IntN.{ℤ, pos, negsuc}
+use mathlib.Core.List.{[], _∷_}
+use lib.IntN.{pos}
 use Rattle.integer.specs.Ring.{CommutativeRing, reify, solve}
 
 pub record OrderedRing : Type 1 where

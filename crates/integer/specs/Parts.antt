@@ -132,9 +132,6 @@ abs-mul (pos a) (negsuc b) = abs-neg (pos (a * suc b))
 abs-mul (negsuc a) (pos b) = abs-neg (pos (suc a * b))
 abs-mul (negsuc a) (negsuc b) = refl
 
--- bounds that compute at numerals
-pub add-within : (A B : ℕ) (a b : ℤ) → natAbs a ≤ A → natAbs b ≤ B → natAbs (a +ℤ b) ≤ A + B
-add-within A B a b p q = let h = abs-add a b in omega arith
-
+-- a bound that computes at numerals
 pub mul-within : (A B : ℕ) (a b : ℤ) → natAbs a ≤ A → natAbs b ≤ B → natAbs (a *ℤ b) ≤ A * B
 mul-within A B a b p q = rw abs-mul (mul-le-mul p q)

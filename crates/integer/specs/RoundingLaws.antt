@@ -1,16 +1,15 @@
 -- The laws of floor, up and near: the bounds that define each, and that nothing else meets them.
-use mathlib.Core.Path.{_≡_, refl, sym, _∙_, ap, subst}
+use mathlib.Core.Path.{_≡_, _∙_, ap}
 use mathlib.Core.Logic.{_⊎_, inl, inr}
-use mathlib.Core.List.{List, [], _∷_}
 use Prim.Native.Nat.{ℕ, zero, suc, _+_, _-_, _*_, _/_, _<_, _≤_}
 use native.Mathlib.Omega.{arith}
-use native.Mathlib.Nat.{mul-div-le, lt-div-mul-add, mul-le-mul-right}
+use native.Mathlib.Nat.{mul-div-le, lt-div-mul-add}
 use lib.IntN.{ℤ, pos, negsuc, negℤ, natAbs, _+ℤ_, _-ℤ_, _*ℤ_}
 use lib.Signed.{_≤ℤ_, _<ℤ_}
-use Rattle.integer.specs.Parts.{_⁺, _⁻, abs, sum, product, opposite, difference, abs-mul, abs-sub, apart}
-use Rattle.integer.specs.Difference.{all1, all2, all3, all4, differences, ≤-parts, <-parts}
+use Rattle.integer.specs.Parts.{abs, sum, product, opposite, difference, apart}
+use Rattle.integer.specs.Difference.{all1, all2, all3, differences, ≤-parts, <-parts}
 use Rattle.integer.specs.OrderedRing.{mul-left}
-use Rattle.integer.specs.Order.{ℤ-ordered, decide, lt→not-le, not-le→lt, pos-le, ∣_∣, ∣∣-is}
+use Rattle.integer.specs.Order.{ℤ-ordered, decide, not-le→lt, pos-le, ∣_∣, ∣∣-is}
 use Rattle.integer.specs.Rounding.{floor, up, upℕ, near}
 
 -- ---- floor: c d ≤ n < c d + d
@@ -92,6 +91,7 @@ pub upℕ-lt : (n d : ℕ) → 0 < d → upℕ n d * d < n + d
 unfolding upℕ
 upℕ-lt n d h = omega (arith, mul-div-le (n + (d - 1)) d)
 
+-- it is `up` of that number
 pub upℕ-is : (n d : ℕ) → 0 < d → pos (upℕ n d) ≡ up (pos n) d
 upℕ-is n d h =
     up-unique (pos n) (pos (upℕ n d)) d h
@@ -99,7 +99,7 @@ upℕ-is n d h =
     (<-parts (pos (upℕ n d) *ℤ pos d) (pos n +ℤ pos d) .1 (omega (arith, product (pos (upℕ n d)) (pos d), upℕ-lt n d h)))
 
 -- c d < c′ d + d gives c ≤ c′
-pub multiplesℕ : (c c′ d : ℕ) → c * d < c′ * d + d → c ≤ c′
+multiplesℕ : (c c′ d : ℕ) → c * d < c′ * d + d → c ≤ c′
 multiplesℕ c c′ d h =
     Rattle.integer.specs.Order.le-pos c c′
     (multiples (pos c) (pos c′) d
@@ -161,6 +161,3 @@ near-closer n d h = go (near n d) (near-error n d h)
 
 pub near-error-abs : (n : ℤ) (d : ℕ) → 0 < d → (pos 2 *ℤ ∣ near n d *ℤ pos d -ℤ n ∣) ≤ℤ pos d
 near-error-abs n d h = rw ∣∣-is (pos-le _ _ (near-error n d h))
-
-pub near-closer-abs : (n : ℤ) (d : ℕ) → 0 < d → ∣ near n d *ℤ pos d -ℤ n ∣ ≤ℤ ∣ n ∣
-near-closer-abs n d h = simp ∣∣-is (pos-le _ _ (near-closer n d h))

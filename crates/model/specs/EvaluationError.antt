@@ -36,7 +36,7 @@ scaled-bound x z n e h =
     abs-scale ℚ-ordered (whole (pos scale)) x (whole (pos n)) (natural-positive scale (omega arith)) .1 (rw (e, ← whole-mul) (abs-whole z (scale * n) .1 h))
 
 -- |p/S| ≤ 1 where |p| ≤ S
-pub point-inside : (p : ℤ) → natAbs p ≤ scale → ∣ point p ∣ℚ ≤ℚ whole (pos 1)
+point-inside : (p : ℤ) → natAbs p ≤ scale → ∣ point p ∣ℚ ≤ℚ whole (pos 1)
 point-inside p h = scaled-bound (point p) p 1 (*ℚ-comm _ _ ∙ point-scale p) (omega arith)
 
 module _ (p : ℤ) (h : natAbs p ≤ scale) where

@@ -1,14 +1,12 @@
--- The walk that forms V and W of an evaluation: one more place, the end, and sizes for machine numbers.
-use mathlib.Core.Path.{_≡_, sym, _∙_}
+-- Sizes of t_k, V and W of an evaluation, and a point that is accepted.
+use mathlib.Core.Path.{_≡_}
 use mathlib.Core.Bool.{true}
 use mathlib.Core.List.{List, [], _∷_}
-use Prim.Native.Nat.{ℕ, suc, _+_, _*_, _-_, _^_, _<_, _≤_}
+use Prim.Native.Nat.{ℕ, suc, _+_, _*_, _-_, _^_, _≤_}
 use native.Mathlib.Nat.{mul-le-mul, mul-le-mul-left}
-use native.Mathlib.Numerals.{add-one}
 use native.Mathlib.Omega.{arith}
-use lib.IntN.{ℤ, pos, natAbs, _+ℤ_, _*ℤ_, +ℤ-assoc, +ℤ-idr}
-use lib.ListN.{length, getD, drop, drop-of-length-le}
-use lib.Seq.{drop-cons}
+use lib.IntN.{ℤ, natAbs, _*ℤ_}
+use lib.ListN.{length}
 use borrow.Author.Tests.{le-ltb}
 use Rattle.integer.specs.Parts.{abs-add, abs-mul}
 use Rattle.chebyshev.specs.Coefficients.{weight}
@@ -16,37 +14,6 @@ use Rattle.model.specs.Models.{scale, good, firstRefusal}
 use Rattle.model.specs.Evaluation.{pointTerm, pointSum, pointError, lowBound, highBound, enclosure, evaluation}
 use Rattle.model.specs.EvaluationError.{term-range}
 use Rattle.model.specs.declared.types.Model.{Model}
-
--- ---- the walk in rest form: what is summed up, and what is left of the list
-
-sum-step : (p : ℤ) (k : ℕ) (a : List ℤ) → k < length a
-    → pointSum p k (drop k a) ≡ getD a k (pos 0) *ℤ pointTerm p k +ℤ pointSum p (k + 1) (drop (k + 1) a)
-unfolding pointSum
-sum-step p k a h = rw (drop-cons a k (pos 0) h, add-one)
-
-pub sum-turn : (p : ℤ) (k : ℕ) (a : List ℤ) (v c t : ℤ) → k < length a → c ≡ getD a k (pos 0) → t ≡ pointTerm p k
-    → v +ℤ pointSum p k (drop k a) ≡ pointSum p 0 a
-    → v +ℤ c *ℤ t +ℤ pointSum p (k + 1) (drop (k + 1) a) ≡ pointSum p 0 a
-sum-turn p k a v c t h e f g =
-    rw (e, f, +ℤ-assoc v (getD a k (pos 0) *ℤ pointTerm p k) (pointSum p (k + 1) (drop (k + 1) a)), ← sum-step p k a h) g
-
-pub sum-end : (p : ℤ) (k : ℕ) (a : List ℤ) (v : ℤ) → length a ≤ k → v +ℤ pointSum p k (drop k a) ≡ pointSum p 0 a → v ≡ pointSum p 0 a
-unfolding pointSum
-sum-end p k a v h e = sym (+ℤ-idr v) ∙ (rw drop-of-length-le at e)
-
-error-step : (k : ℕ) (a : List ℤ) → k < length a
-    → pointError k (drop k a) ≡ natAbs (getD a k (pos 0)) * (k * (k - 1)) + pointError (k + 1) (drop (k + 1) a)
-unfolding pointError
-error-step k a h = rw (drop-cons a k (pos 0) h, add-one)
-
-pub error-turn : (k : ℕ) (a : List ℤ) (w m : ℕ) → k < length a → m ≡ natAbs (getD a k (pos 0))
-    → w + pointError k (drop k a) ≡ pointError 0 a
-    → w + m * (k * (k - 1)) + pointError (k + 1) (drop (k + 1) a) ≡ pointError 0 a
-error-turn k a w m h e f = rw e (omega (arith, error-step k a h))
-
-pub error-end : (k : ℕ) (a : List ℤ) (w : ℕ) → length a ≤ k → w + pointError k (drop k a) ≡ pointError 0 a → w ≡ pointError 0 a
-unfolding pointError
-error-end k a w h e = omega (arith, rw drop-of-length-le at e)
 
 -- ---- sizes, for places up to m
 

@@ -1,11 +1,11 @@
 -- Document 01, of the bounds of an evaluation: "Each allowed value lies between them."
-use mathlib.Core.Path.{_≡_, refl, sym, _∙_, ap, subst}
-use mathlib.Core.Bool.{Bool, true, false, not}
+use mathlib.Core.Path.{_≡_, _∙_, ap}
+use mathlib.Core.Bool.{true, not}
 use mathlib.Core.List.{List, [], _∷_, map}
 use Prim.Native.Nat.{ℕ, suc, _+_, _*_, _-_, _^_, _<_, _≤_}
 use native.Mathlib.Omega.{arith}
-use lib.Dec.{T, ltb}
-use borrow.Author.Tests.{ltb-false}
+use lib.Dec.{ltb}
+use borrow.Author.Tests.{ltb-false, not-false}
 use lib.IntN.{ℤ, pos, negℤ, natAbs, _+ℤ_, _-ℤ_, _*ℤ_}
 use Rattle.integer.specs.FractionRounding.{natural-positive}
 use Rattle.integer.specs.Embedding.{ι-abs}
@@ -17,9 +17,10 @@ use Rattle.integer.specs.FractionOrder.{_≤ℚ_, ∣_∣ℚ, ℚ-ordered, ≤�
 use Rattle.chebyshev.specs.Kinds.{firstKind}
 use Rattle.chebyshev.specs.Coefficients.{valueFrom, value}
 use Rattle.chebyshev.specs.Allows.{allows}
-use Rattle.model.specs.Models.{scale, terms, good, firstRefusal}
-use Rattle.model.specs.Terms.{good-holds, value-terms}
+use Rattle.model.specs.Models.{scale, terms, good}
+use Rattle.model.specs.GoodLaws.{value-terms}
 use Rattle.model.specs.Evaluation.{pointTerm, pointSum, pointError, lowBound, highBound, enclosure, evaluation}
+use Rattle.model.specs.RefusalLaws.{first-refusal-zero}
 use Rattle.model.specs.EvaluationError.{point, term-error}
 use Rattle.model.specs.EvaluationLaws.{evaluation-accepted}
 use Rattle.model.specs.declared.types.Model.{Model}
@@ -83,7 +84,7 @@ module _ (p : ℤ) (h : natAbs p ≤ scale) where
 
 -- ---- the theorem
 
-pub evaluation-sound : (a : Model) (p : ℤ) (v : ℚ) → T (good a) → natAbs p ≤ scale → allows scale (a .coefficients) (a .radius) (point p) v
+pub evaluation-sound : (a : Model) (p : ℤ) (v : ℚ) → good a ≡ true → natAbs p ≤ scale → allows scale (a .coefficients) (a .radius) (point p) v
     → (whole (lowBound a p) ≤ℚ (v *ℚ whole (pos scale))) × ((v *ℚ whole (pos scale)) ≤ℚ whole (highBound a p))
 unfolding allows lowBound highBound value
 evaluation-sound a p v g h l = (
@@ -111,7 +112,7 @@ evaluation-sound a p v g h l = (
     w = pointError 0 (terms a)
 
     near : ∣ u -ℚ y ∣ℚ ≤ℚ e
-    near = rw (value-terms ℚ-ring (point p) a (good-holds a g)) at l
+    near = rw (value-terms a g (point p)) at l
 
     error : ∣ whole s -ℚ whole (pos (2 ^ 32)) *ℚ y ∣ℚ ≤ℚ whole (pos w)
     error = sum-error p h 0 (terms a)
@@ -131,16 +132,13 @@ evaluation-sound a p v g h l = (
 -- ---- the same of the answer
 
 accepted : (a : Model) (p : ℤ) → evaluation a p .number ≡ 0 → (good a ≡ true) × (natAbs p ≤ scale)
-unfolding evaluation enclosure firstRefusal
-accepted a p e = let q = tests (good a) (ltb scale (natAbs p)) e in (q .0, ltb-false scale (natAbs p) (q .1))
-  where
-    tests : (g t : Bool) → firstRefusal ((not g, 2) ∷ (t, 4) ∷ []) ≡ 0 → (g ≡ true) × (t ≡ false)
-    tests true false e = (refl, refl)
-    tests true true e = absurd (omega arith)
-    tests false t e = absurd (omega arith)
+unfolding evaluation enclosure
+accepted a p e =
+    let passed = first-refusal-zero ((not (good a), 2) ∷ (ltb scale (natAbs p), 4) ∷ []) (omega arith) .0 e in
+    (not-false (good a) (passed .0), ltb-false scale (natAbs p) (passed .1 .0))
 
 pub evaluation-answer : (a : Model) (p : ℤ) (v : ℚ) → evaluation a p .number ≡ 0 → allows scale (a .coefficients) (a .radius) (point p) v
     → (whole (evaluation a p .low) ≤ℚ (v *ℚ whole (pos scale))) × ((v *ℚ whole (pos scale)) ≤ℚ whole (evaluation a p .high))
 evaluation-answer a p v e l =
     let q = accepted a p e in
-    rw (evaluation-accepted a p (q .0) (q .1)) (evaluation-sound a p v (subst T (sym (q .0)) tt) (q .1) l)
+    rw (evaluation-accepted a p (q .0) (q .1)) (evaluation-sound a p v (q .0) (q .1) l)

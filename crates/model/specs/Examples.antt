@@ -1,8 +1,7 @@
 -- P1 to P6 of document 01, computed from the definitions. Each is a list of numbers: for an operation the refusal's number,
 -- degree, radius and the first three coefficients; for an evaluation the refusal's number and the bounds.
 use mathlib.Core.Path.{_≡_, refl}
-use mathlib.Core.List.{List, [], _∷_, _++_, map}
-use Prim.Native.Nat.{ℕ, suc, _+_, _*_, _-_}
+use mathlib.Core.List.{List, [], _∷_}
 use lib.IntN.{ℤ, pos, negsuc}
 use lib.ListN.{replicate, take}
 use Rattle.integer.specs.Rounding.{floor, up, upℕ, near}

@@ -1,19 +1,16 @@
--- Of a good model the coefficients beyond the degree are zero, so that its value, its weight and its products may be taken of
+-- Of a good model the coefficients beyond the degree are zero, so that its elements, its value and its products may be taken of
 -- its terms or of all its coefficients.
-use mathlib.Core.Path.{_≡_, refl, sym, _∙_, ap, ap₂, subst}
-use mathlib.Core.Logic.{_↔_}
-use mathlib.Core.Bool.{Bool, true, false}
+use mathlib.Core.Path.{_≡_, refl, sym, _∙_, ap, ap₂}
+use mathlib.Core.Bool.{true}
 use mathlib.Core.List.{List, [], _∷_, _++_}
-use Prim.Native.Nat.{suc, _≤_}
+use Prim.Native.Nat.{ℕ, zero, suc, _≤_}
 use native.Mathlib.Omega.{arith}
-use lib.Dec.{T}
 use lib.IntN.{ℤ, pos}
-use lib.ListN.{length, replicate, length-take, take-append-drop}
+use lib.ListN.{length, getD, replicate, length-take, take-append-drop}
 use Rattle.integer.specs.Parts.{abs, same}
 use Rattle.integer.specs.Integer.{ℤ-ring}
 use Rattle.integer.specs.Fraction.{ℚ, whole, _*ℚ_, ℚ-ring}
 use Rattle.chebyshev.specs.Coefficients.{weight}
-use Rattle.chebyshev.specs.Weight.{weight-split}
 use Rattle.chebyshev.specs.Product.{product}
 use Rattle.chebyshev.specs.ProductSums.{product-zeros-left, product-zeros-right}
 use Rattle.chebyshev.specs.ProductLaws.{value-product-whole}
@@ -29,29 +26,27 @@ unfolding weight
 weight-zero [] e = refl
 weight-zero (c ∷ a) e = ap₂ _∷_ (same c (pos 0) (omega (arith, abs c))) (weight-zero a (omega arith))
 
--- `good m` as a type and as an equation
-pub good-truth : (m : Model) → T (good m) ↔ (good m ≡ true)
-good-truth m = truth (good m)
-  where
-    truth : (t : Bool) → T t ↔ (t ≡ true)
-    truth true = (λ h. refl, λ e. tt)
-    truth false = (λ h. absurd h, λ e. subst T (sym e) tt)
+pub getD-append-zeros : (a : List ℤ) (n i : ℕ) → getD (a ++ replicate n (pos 0)) i (pos 0) ≡ getD a i (pos 0)
+getD-append-zeros [] zero i = refl
+getD-append-zeros [] (suc n) zero = refl
+getD-append-zeros [] (suc n) (suc i) = getD-append-zeros [] n i
+getD-append-zeros (c ∷ a) n zero = refl
+getD-append-zeros (c ∷ a) n (suc i) = getD-append-zeros a n i
 
 module _ (m : Model) (h : good m ≡ true) where
-  pub coefficients-terms : m .coefficients ≡ terms m ++ replicate (length (beyond m)) (pos 0)
+  coefficients-terms : m .coefficients ≡ terms m ++ replicate (length (beyond m)) (pos 0)
   coefficients-terms =
       sym (take-append-drop (suc (m .degree)) (m .coefficients))
       ∙ ap (λ l. terms m ++ l) (weight-zero (beyond m) (good-is m h .beyond-zero))
 
-  pub weight-terms : weight (terms m) ≡ weight (m .coefficients)
-  weight-terms = omega (arith, weight-split (suc (m .degree)) (m .coefficients), good-is m h .beyond-zero)
-
-  pub length-terms : length (terms m) ≤ places
+  length-terms : length (terms m) ≤ places
   length-terms = omega (arith, length-take (suc (m .degree)) (m .coefficients), good-is m h .degree-fits)
 
-  pub value-terms : (x : ℚ) → valueAt x (terms m) ≡ valueAt x (m .coefficients)
-  value-terms x =
-      sym (ap (valueAt x) coefficients-terms ∙ valueAt-append-zeros x (terms m) (length (beyond m)))
+  pub getD-terms : (i : ℕ) → getD (m .coefficients) i (pos 0) ≡ getD (terms m) i (pos 0)
+  getD-terms i = ap (λ a. getD a i (pos 0)) coefficients-terms ∙ getD-append-zeros (terms m) (length (beyond m)) i
+
+  pub value-terms : (x : ℚ) → valueAt x (m .coefficients) ≡ valueAt x (terms m)
+  value-terms x = ap (valueAt x) coefficients-terms ∙ valueAt-append-zeros x (terms m) (length (beyond m))
 
 module _ (a b : Model) (ha : good a ≡ true) (hb : good b ≡ true) where
   -- the list C of two good models is that of all their coefficients
@@ -66,5 +61,5 @@ module _ (a b : Model) (ha : good a ≡ true) (hb : good b ≡ true) where
   pub value-productList : (x : ℚ) → whole (pos 2) *ℚ valueAt x (a .coefficients) *ℚ valueAt x (b .coefficients) ≡ valueAt x (productList a b)
   unfolding productList
   value-productList x =
-      ap₂ (λ u v. whole (pos 2) *ℚ u *ℚ v) (sym (value-terms a ha x)) (sym (value-terms b hb x))
+      ap₂ (λ u v. whole (pos 2) *ℚ u *ℚ v) (value-terms a ha x) (value-terms b hb x)
       ∙ value-product-whole ℚ-ring x productPlaces (terms a) (terms b) (omega (arith, length-terms a ha, length-terms b hb))

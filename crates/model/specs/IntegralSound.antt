@@ -1,12 +1,12 @@
 -- Document 01, of the integral: its radius "bounds the exact primitive of every list of fractions whose coefficients differ from
 -- the model's by at most e units in total absolute difference, again summed over coefficients", and "c_0 makes the value at −1
 -- exactly 0".
-use mathlib.Core.Path.{_≡_, refl, sym, _∙_, ap, ap₂, subst}
-use mathlib.Core.Bool.{Bool, true, false, not}
+use mathlib.Core.Path.{_≡_, refl, sym, _∙_, ap, ap₂}
+use mathlib.Core.Bool.{true, not}
 use mathlib.Core.List.{List, [], _∷_, _++_, map}
 use Prim.Native.Nat.{ℕ, zero, suc, _+_, _*_, _-_, _<_, _≤_}
 use native.Mathlib.Omega.{arith}
-use lib.Dec.{T}
+use borrow.Author.Tests.{not-false}
 use lib.IntN.{ℤ, pos, _-ℤ_, _*ℤ_}
 use lib.ListN.{length, getD, replicate, length-take, List·getD-map, List·getD-eq-default}
 use Rattle.integer.specs.Embedding.{ι-nonneg}
@@ -23,8 +23,9 @@ use Rattle.chebyshev.specs.NormLaws.{value-distance}
 use Rattle.chebyshev.specs.Primitive.{numerator, primitive}
 use Rattle.chebyshev.specs.PrimitiveLaws.{numerator-first, numerator-next}
 use Rattle.chebyshev.specs.PrimitiveNorm.{Rounded, primitive-rounded}
-use Rattle.model.specs.Models.{places, terms, good, tooLarge, firstRefusal, outcome}
-use Rattle.model.specs.Terms.{good-holds, getD-append-zeros, getD-terms}
+use Rattle.model.specs.Models.{places, terms, good, tooLarge}
+use Rattle.model.specs.RefusalLaws.{outcome-zero}
+use Rattle.model.specs.GoodLaws.{getD-append-zeros, getD-terms}
 use Rattle.model.specs.Integral.{doubleFirst, alternating, integralModel, integration}
 use Rattle.model.specs.IntegralLaws.{roundedTail, roundedIntegral, integral-is, length-rounded, getD-rounded}
 use Rattle.model.specs.declared.types.Model.{Model}
@@ -119,14 +120,14 @@ rounded b cs z same = record {
 pub integral-minus-one : (a : Model) → value ℚ-ring (-ℚ whole (pos 1)) (map whole (integralModel a .coefficients)) ≡ whole (pos 0)
 integral-minus-one a = rw (← integral-is a) (value-integral (doubleFirst (terms a)))
 
--- for a list b that has the model's terms up to the degree and zeros beyond
-bounds : (a : Model) (α : List ℚ) (b : List ℤ) → ((i : ℕ) → getD b i (pos 0) ≡ getD (terms a) i (pos 0))
-    → norm ℚ-ordered (subtractLists ℚ-ring α (map whole b)) ≤ℚ whole (pos (a .radius))
+-- the radius bounds the primitive of α, coefficient by coefficient
+pub integral-sound : (a : Model) (α : List ℚ) → good a ≡ true
+    → norm ℚ-ordered (subtractLists ℚ-ring α (map whole (a .coefficients))) ≤ℚ whole (pos (a .radius))
     → norm ℚ-ordered (subtractLists ℚ-ring (primitive α) (map whole (integralModel a .coefficients))) ≤ℚ whole (pos (integralModel a .radius))
 unfolding integralModel roundedIntegral
-bounds a α b same h =
+integral-sound a α g h =
     rw (← integral-is a)
-    (_⟨≼⟩_ ℚ-ordered (primitive-rounded α (map whole b) (map whole (tail ++ replicate zeros (pos 0))) (whole (alternating tail)) (length (terms a)) (rounded b (terms a) zeros same) (value-integral (doubleFirst (terms a))))
+    (_⟨≼⟩_ ℚ-ordered (primitive-rounded α (map whole (a .coefficients)) (map whole (tail ++ replicate zeros (pos 0))) (whole (alternating tail)) (length (terms a)) (rounded (a .coefficients) (terms a) zeros (getD-terms a g)) (value-integral (doubleFirst (terms a))))
     (rw radius (_⟨+⟩_ ℚ-ordered (rw (whole-mul (pos 2) (pos (a .radius))) (mul-left ℚ-ordered (whole (pos 2)) (ι-nonneg ℚ-ordered 2) h)) (whole-le _ _ .1 (pos-le _ _ places-used)))))
   where
     tail : List ℤ
@@ -141,33 +142,18 @@ bounds a α b same h =
     radius : whole (pos (2 * a .radius + a .degree + 1)) ≡ whole (pos (2 * a .radius)) +ℚ whole (pos (a .degree + 1))
     radius = let e : 2 * a .radius + a .degree + 1 ≡ 2 * a .radius + (a .degree + 1) = omega arith in rw e (whole-add (pos (2 * a .radius)) (pos (a .degree + 1)))
 
--- the radius bounds the primitive of α, coefficient by coefficient
-pub integral-sound : (a : Model) (α : List ℚ) → T (good a)
-    → norm ℚ-ordered (subtractLists ℚ-ring α (map whole (a .coefficients))) ≤ℚ whole (pos (a .radius))
-    → norm ℚ-ordered (subtractLists ℚ-ring (primitive α) (map whole (integralModel a .coefficients))) ≤ℚ whole (pos (integralModel a .radius))
-integral-sound a α g = bounds a α (a .coefficients) (λ i. getD-terms a i (good-holds a g))
-
--- the same with the terms up to the degree, for every model
-pub integral-terms : (a : Model) (α : List ℚ)
-    → norm ℚ-ordered (subtractLists ℚ-ring α (map whole (terms a))) ≤ℚ whole (pos (a .radius))
-    → norm ℚ-ordered (subtractLists ℚ-ring (primitive α) (map whole (integralModel a .coefficients))) ≤ℚ whole (pos (integralModel a .radius))
-integral-terms a α = bounds a α (terms a) (λ i. refl)
-
 -- and at every fraction of [−1, 1]
-pub integral-value : (a : Model) (α : List ℚ) (x : ℚ) → T (good a) → ∣ x ∣ℚ ≤ℚ whole (pos 1)
+pub integral-value : (a : Model) (α : List ℚ) (x : ℚ) → good a ≡ true → ∣ x ∣ℚ ≤ℚ whole (pos 1)
     → norm ℚ-ordered (subtractLists ℚ-ring α (map whole (a .coefficients))) ≤ℚ whole (pos (a .radius))
     → ∣ value ℚ-ring x (primitive α) -ℚ value ℚ-ring x (map whole (integralModel a .coefficients)) ∣ℚ ≤ℚ whole (pos (integralModel a .radius))
 integral-value a α x g h l = _⟨≼⟩_ ℚ-ordered (value-distance ℚ-ordered x (primitive α) (map whole (integralModel a .coefficients)) h) (integral-sound a α g l)
 
 -- ---- the same of the answer
 
-accepted : (g t : Bool) → firstRefusal ((not g, 2) ∷ (t, 3) ∷ []) ≡ 0 → g ≡ true
-unfolding firstRefusal
-accepted true t e = refl
-accepted false t e = absurd (omega arith)
-
 pub integration-answer : (a : Model) (α : List ℚ) → integration a .number ≡ 0
     → norm ℚ-ordered (subtractLists ℚ-ring α (map whole (a .coefficients))) ≤ℚ whole (pos (a .radius))
     → norm ℚ-ordered (subtractLists ℚ-ring (primitive α) (map whole (integration a .model .coefficients))) ≤ℚ whole (pos (integration a .model .radius))
-unfolding integration outcome
-integration-answer a α e h = rw e (integral-sound a α (subst T (sym (accepted (good a) (tooLarge (integralModel a)) e)) tt) h)
+unfolding integration
+integration-answer a α e h =
+    let (passed, result) = outcome-zero ((not (good a), 2) ∷ (tooLarge (integralModel a), 3) ∷ []) (integralModel a) (omega arith) e in
+    rw result (integral-sound a α (not-false (good a) (passed .0)) h)

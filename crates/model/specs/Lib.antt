@@ -5,7 +5,6 @@ pub mod ModelLaws
 pub mod RefusalLaws
 pub mod Values
 pub mod ValueLaws
-pub mod Terms
 pub mod Operations
 pub mod GoodLaws
 pub mod OperationsSound

@@ -7,7 +7,7 @@ use native.Mathlib.Numerals.{add-one}
 use lib.IntN.{ℤ, pos, negℤ, natAbs, _-ℤ_, _*ℤ_}
 use lib.ListN.{length, getD, take, drop, replicate, length-map, drop-of-length-le, List·getD-map}
 use lib.Seq.{drop-cons, take-take}
-use Rattle.integer.specs.Parts.{same, abs, abs-neg}
+use Rattle.integer.specs.Parts.{same, abs, apart, difference, abs-neg}
 use Rattle.integer.specs.Difference.{all3, differences}
 use Rattle.integer.specs.Rounding.{near}
 use Rattle.integer.specs.RoundingLaws.{near-closer}
@@ -37,7 +37,13 @@ loss-small c =
     turned : (c q d : ℤ) → c -ℤ d *ℤ q ≡ negℤ (q *ℤ d -ℤ c)
     turned = all3 _ (simp differences (omega arith))
 
-pub rounded-small : (c : ℤ) → natAbs (roundedAt c) ≤ natAbs c
+-- 2S·c is within |C| of C, so at most 2·|C|
+pub product-small : (c : ℤ) → natAbs (pos (2 * scale) *ℤ roundedAt c) ≤ 2 * natAbs c
+product-small c =
+    let m = pos (2 * scale) *ℤ roundedAt c in
+    omega (arith, loss-small c, difference c m, abs c, abs m, abs (c -ℤ m), apart m)
+
+rounded-small : (c : ℤ) → natAbs (roundedAt c) ≤ natAbs c
 rounded-small c = near-size c (2 * scale) (omega arith)
 
 -- ---- the list of the rounded numbers

@@ -1,5 +1,4 @@
 -- What a model allows at a point.
-use Prim.Native.Nat.{ℕ}
 use lib.IntN.{pos}
 use Rattle.integer.specs.Fraction.{ℚ, whole, -ℚ_}
 use Rattle.integer.specs.FractionOrder.{_≤ℚ_}

@@ -7,7 +7,7 @@ use mir.Facts.{toZ-ofZ}
 use Rattle.integer.specs.Parts.{abs}
 use Rattle.integer.specs.Difference.{<-parts}
 use Rattle.integer.specs.Machine.{lt-true, lt-false}
-use Rattle.integer.proofs.Division.{Operands, q, r, t, asks, q-is, r-is, q-fits, q-down-fits, floor-down, floor-at}
+use Rattle.integer.proofs.Division.{Operands, q, r, t, asks, q-is, r-is, q-down-fits, floor-down, floor-at}
 use Rattle.integer.proofs.rounding.floor.Statement.{statement}
 use Rattle.integer.proofs.rounding.floor.Tie as tie
 

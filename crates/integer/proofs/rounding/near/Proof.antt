@@ -10,7 +10,7 @@ use mir.Facts.{toZ-ofZ}
 use Rattle.integer.specs.Parts.{abs, apart, product, difference}
 use Rattle.integer.specs.Difference.{≤-parts, <-parts}
 use Rattle.integer.specs.Machine.{fits, is-positive, positive-is, le-true, le-false, lt-true, lt-false}
-use Rattle.integer.proofs.Division.{Operands, q, r, t, asks, q-is, r-is, q-fits, q-up-fits, q-down-fits, near-above, near-below, near-at}
+use Rattle.integer.proofs.Division.{Operands, q, r, t, asks, q-is, r-is, q-up-fits, q-down-fits, near-above, near-below, near-at}
 use Rattle.integer.proofs.rounding.near.Statement.{statement}
 use Rattle.integer.proofs.rounding.near.Tie as tie
 

@@ -1,6 +1,6 @@
 -- `rounding::up_unsigned` meets its contract: the quotient, plus one where there is a remainder.
 use borrow.Author.Needs.{needs}
-use Prim.Native.Nat.{_+_, _*_, _/_, _%_, _<_, _≤_}
+use Prim.Native.Nat.{_+_, _*_, _/_, _≤_}
 use native.Mathlib.Omega.{arith}
 use native.Mathlib.Nat.{div-add-mod, mod-lt, mul-le-mul-left}
 use Rattle.integer.specs.RoundingLaws.{upℕ-unique}

@@ -1,26 +1,23 @@
--- `evaluate::evaluate` meets its contract: the tests are those of the definition, and V, W and the bounds fit 64 bits.
+-- `evaluate::evaluate` meets its contract: the tests are those of the definition, and V, W and the bounds fit 64 bits
+-- (EvaluationBounds.antt).
 use borrow.Author.Needs.{needs}
 use borrow.Author.Tests.{lt-ltb}
-use mathlib.Core.Path.{_≡_, sym, _∙_, ap, ap₂}
+use mathlib.Core.Path.{_≡_, sym, _∙_}
 use mathlib.Core.Bool.{true}
-use Prim.Native.Nat.{ℕ, suc, _+_, _*_, _^_, _≤_}
+use Prim.Native.Nat.{ℕ, _^_}
 use native.Mathlib.Omega.{arith}
 use lib.IntN.{ℤ, pos, natAbs, _+ℤ_, _-ℤ_, _*ℤ_}
-use lib.ListN.{length, length-take}
 use mir.Syntax.{w64}
-use mir.Val.{SFits, toZ}
-use mir.Facts.{toZ-ofZ, toZ-pos}
-use Rattle.integer.specs.Parts.{abs-add, abs-sub, abs-mul}
+use mir.Val.{SFits}
+use mir.Facts.{toZ-ofZ}
 use Rattle.integer.specs.Machine.{abs-fits, fits-widens, signed-needs}
 use Rattle.integer.specs.Rounding.{floor, up}
-use Rattle.integer.specs.RoundingSize.{floor-size, up-size}
-use Rattle.chebyshev.specs.Coefficients.{weight}
-use Rattle.chebyshev.specs.Weight.{weight-take}
-use Rattle.model.specs.Models.{scale, terms, good, firstRefusal}
+use Rattle.model.specs.Models.{scale, good, firstRefusal}
 use Rattle.model.specs.ModelLaws.{Good, good-is}
-use Rattle.model.specs.Evaluation.{pointSum, pointError, lowBound, highBound, enclosure, evaluation}
-use Rattle.model.specs.EvaluationLaws.{sum-size, error-size, evaluation-accepted}
+use Rattle.model.specs.Evaluation.{enclosure, evaluation}
+use Rattle.model.specs.EvaluationLaws.{evaluation-accepted}
 use Rattle.model.specs.declared.types.Model.{Model}
+use Rattle.model.proofs.EvaluationBounds.{Sums, error-small, error-word, radius-word, fits-value, fits-fourfold, fits-below, fits-above, low, high}
 use Rattle.model.proofs.evaluate.evaluate.Statement.{statement}
 use Rattle.model.proofs.evaluate.evaluate.Tie as tie
 
@@ -60,50 +57,13 @@ module _ (k : tie.After-point-sums) where
   abbrev w : ℕ
   w = k .point-sums .result .error
 
-  inside : natAbs (p c) ≤ scale
-  inside = omega (arith, point-is (k .before .before .before .before))
-
-  v-is : v ≡ pointSum (p c) 0 (terms (a c))
-  v-is = simp (toZ-ofZ (s c .fits .p), toZ-ofZ (fits-p c)) at (k .point-sums .ensures .0)
-
-  w-is : w ≡ pointError 0 (terms (a c))
-  w-is = k .point-sums .ensures .1
-
-  short : length (terms (a c)) ≤ 33
-  short = rw length-take (omega (arith, is-good c))
-
-  light : weight (terms (a c)) ≤ 2 ^ 28
-  light = omega (arith, weight-take (suc (a c .degree)) (a c .coefficients), is-good c .weight-fits)
-
-  v-size : 4 * natAbs v ≤ 2 ^ 61
-  v-size = rw v-is (omega (arith, sum-size (p c) 0 32 (terms (a c)) inside (omega (arith, short)), light))
-
-  w-size : w ≤ 2 ^ 38
-  w-size = omega (arith, w-is, error-size 0 32 (terms (a c)) (omega (arith, short)), light)
-
-  fits-v : SFits w64 v
-  fits-v = abs-fits w64 v (omega (arith, v-size))
-
-  fits-4v : SFits w64 (pos 4 *ℤ v)
-  fits-4v = abs-fits w64 (pos 4 *ℤ v) (omega (arith, abs-mul (pos 4) v, v-size))
-
-  lower : natAbs (pos 4 *ℤ v -ℤ pos w) ≤ 2 ^ 61 + 2 ^ 38
-  lower = omega (arith, abs-sub (pos 4 *ℤ v) (pos w), abs-mul (pos 4) v, v-size, w-size)
-
-  upper : natAbs (pos 4 *ℤ v +ℤ pos w) ≤ 2 ^ 61 + 2 ^ 38
-  upper = omega (arith, abs-add (pos 4 *ℤ v) (pos w), abs-mul (pos 4) v, v-size, w-size)
-
-  fits-lower : SFits w64 (pos 4 *ℤ v -ℤ pos w)
-  fits-lower = abs-fits w64 (pos 4 *ℤ v -ℤ pos w) (omega (arith, lower))
-
-  fits-upper : SFits w64 (pos 4 *ℤ v +ℤ pos w)
-  fits-upper = abs-fits w64 (pos 4 *ℤ v +ℤ pos w) (omega (arith, upper))
-
-  w-word : toZ w64 w ≡ pos w
-  w-word = toZ-pos w64 (omega (arith, w-size))
-
-  e-word : toZ w64 (a c .radius) ≡ pos (a c .radius)
-  e-word = toZ-pos w64 (omega (arith, is-good c))
+  sums : Sums (a c) (p c) v w
+  sums = record {
+    passed = passed c;
+    inside = omega (arith, point-is (k .before .before .before .before));
+    value-is = simp (toZ-ofZ (s c .fits .p), toZ-ofZ (fits-p c)) at (k .point-sums .ensures .0);
+    error-is = k .point-sums .ensures .1;
+  }
 
 module _ (f : tie.After-floor) where
   abbrev k₁ : tie.After-point-sums
@@ -113,19 +73,7 @@ module _ (f : tie.After-floor) where
   fits-floor = record { sfits = f .floor .ok }
 
   floor-is : f .floor .result ≡ floor (pos 4 *ℤ v k₁ -ℤ pos (w k₁)) (2 ^ 32)
-  floor-is = simp (toZ-ofZ (fits-v k₁), toZ-ofZ (fits-4v k₁), w-word k₁, toZ-ofZ (fits-lower k₁)) at (f .floor .ensures)
-
-  fits-low : SFits w64 (f .floor .result -ℤ pos (a (c k₁) .radius))
-  fits-low =
-      abs-fits w64 (f .floor .result -ℤ pos (a (c k₁) .radius))
-      (omega (
-        arith,
-        abs-sub (f .floor .result) (pos (a (c k₁) .radius)),
-        ap natAbs floor-is,
-        floor-size (pos 4 *ℤ v k₁ -ℤ pos (w k₁)) (2 ^ 32),
-        lower k₁,
-        is-good (c k₁),
-      ))
+  floor-is = let n = sums k₁ in simp (toZ-ofZ (fits-value n), toZ-ofZ (fits-fourfold n), error-word n, toZ-ofZ (fits-below n)) at (f .floor .ensures)
 
 module _ (u : tie.After-up) where
   abbrev k₂ : tie.After-point-sums
@@ -135,27 +83,7 @@ module _ (u : tie.After-up) where
   fits-up = record { sfits = u .up .ok }
 
   up-is : u .up .result ≡ up (pos 4 *ℤ v k₂ +ℤ pos (w k₂)) (2 ^ 32)
-  up-is = simp (toZ-ofZ (fits-v k₂), toZ-ofZ (fits-4v k₂), w-word k₂, toZ-ofZ (fits-upper k₂)) at (u .up .ensures)
-
-  fits-high : SFits w64 (u .up .result +ℤ pos (a (c k₂) .radius))
-  fits-high =
-      abs-fits w64 (u .up .result +ℤ pos (a (c k₂) .radius))
-      (omega (
-        arith,
-        abs-add (u .up .result) (pos (a (c k₂) .radius)),
-        ap natAbs up-is,
-        up-size (pos 4 *ℤ v k₂ +ℤ pos (w k₂)) (2 ^ 32),
-        upper k₂,
-        is-good (c k₂),
-      ))
-
-  low-is : u .before .floor .result -ℤ pos (a (c k₂) .radius) ≡ lowBound (a (c k₂)) (p (c k₂))
-  unfolding lowBound
-  low-is = ap (λ z. z -ℤ pos (a (c k₂) .radius)) (floor-is (u .before) ∙ ap₂ (λ x y. floor (pos 4 *ℤ x -ℤ pos y) (2 ^ 32)) (v-is k₂) (w-is k₂))
-
-  high-is : u .up .result +ℤ pos (a (c k₂) .radius) ≡ highBound (a (c k₂)) (p (c k₂))
-  unfolding highBound
-  high-is = ap (λ z. z +ℤ pos (a (c k₂) .radius)) (up-is ∙ ap₂ (λ x y. up (pos 4 *ℤ x +ℤ pos y) (2 ^ 32)) (v-is k₂) (w-is k₂))
+  up-is = let n = sums k₂ in simp (toZ-ofZ (fits-value n), toZ-ofZ (fits-fourfold n), error-word n, toZ-ofZ (fits-above n)) at (u .up .ensures)
 
 is-good-requires : tie.Need-is-good-requires
 is-good-requires c κs = search needs
@@ -177,37 +105,40 @@ point-sums-requires k κs =
     ((search needs, is-good c .degree-fits), (is-good c .weight-fits, omega (arith, point-is m)))
 
 mul-value : tie.Need-mul-value
-mul-value c = let k = c .before .before in simp (toZ-ofZ (fits-v k)) (fits-4v k)
+mul-value c = let n = sums (c .before .before) in simp (toZ-ofZ (fits-value n)) (fits-fourfold n)
 
 cast-error : tie.Need-cast-error
-cast-error c = abs-fits w64 _ (omega (arith, w-size (c .before .before .before)))
+cast-error c = abs-fits w64 _ (omega (arith, error-small (sums (c .before .before .before))))
 
 cast-radius : tie.Need-cast-radius
 cast-radius c = search needs
 
 sub-floor : tie.Need-sub-floor
-sub-floor c = let k = c .before .before .before in simp (toZ-ofZ (fits-v k), toZ-ofZ (fits-4v k), w-word k) (fits-lower k)
+sub-floor c = let n = sums (c .before .before .before) in simp (toZ-ofZ (fits-value n), toZ-ofZ (fits-fourfold n), error-word n) (fits-below n)
 
 floor-requires : tie.Need-floor-requires
 floor-requires c κs = search needs
 
 sub-low : tie.Need-sub-low
-sub-low c = simp (toZ-ofZ (fits-floor c), e-word (k₁ c)) (fits-low c)
+sub-low c = let n = sums (k₁ c) in simp (toZ-ofZ (fits-floor c), radius-word n) (low n _ (floor-is c) .0)
 
 add-up : tie.Need-add-up
-add-up c = let k = k₁ c in simp (toZ-ofZ (fits-v k), toZ-ofZ (fits-4v k), w-word k) (fits-upper k)
+add-up c = let n = sums (k₁ c) in simp (toZ-ofZ (fits-value n), toZ-ofZ (fits-fourfold n), error-word n) (fits-above n)
 
 up-requires : tie.Need-up-requires
 up-requires c κs = search needs
 
 add-high : tie.Need-add-high
-add-high c = simp (toZ-ofZ (fits-up c), e-word (k₂ c)) (fits-high c)
+add-high c = let n = sums (k₂ c) in simp (toZ-ofZ (fits-up c), radius-word n) (high n _ (up-is c) .0)
 
 returns : tie.Need-returns
 returns u =
+    let n = sums (k₂ u) in
+    let (fits-low, low-is) = low n _ (floor-is (u .before)) in
+    let (fits-high, high-is) = high n _ (up-is u) in
     let c = c (k₂ u) in
-    simp (toZ-ofZ (fits-floor (u .before)), toZ-ofZ (fits-up u), e-word (k₂ u), toZ-ofZ (fits-low (u .before)), toZ-ofZ (fits-high u), evaluation-accepted (a c) (p c) (passed c) (inside (k₂ u)))
-    (λ i. record { number = 0; low = low-is u i; high = high-is u i })
+    simp (toZ-ofZ (fits-floor (u .before)), toZ-ofZ (fits-up u), radius-word n, toZ-ofZ fits-low, toZ-ofZ fits-high, evaluation-accepted (a c) (p c) (passed c) (n .inside))
+    (λ i. record { number = 0; low = low-is i; high = high-is i })
 
 returns-2 : tie.Need-returns-2
 unfolding evaluation enclosure firstRefusal

@@ -1,47 +1,52 @@
--- `multiply::round` meets its contract. The loop's invariant in rest form, for the weight and for the loss; the rounded
--- numbers are written as long as their weight is within its limit, so each of them fits.
+-- `multiply::round` meets its contract: a turn is that of the walk (RoundingWalk.antt). A rounded number is written only where the
+-- weight so far is within its limit, so it fits.
 use mathlib.Core.Path.{_≡_, refl, sym, _∙_, ap}
 use mathlib.Core.Logic.{⊎-elim}
-use mathlib.Core.List.{List, _++_}
+use mathlib.Core.List.{List}
 use Prim.Native.Nat.{ℕ, _+_, _-_, _*_, _^_, _<_, _≤_}
 use native.Mathlib.Omega.{arith}
 use lib.IntN.{ℤ, pos, natAbs, _-ℤ_, _*ℤ_}
-use lib.ListN.{length, getD, take, drop, set, replicate, length-drop}
+use lib.ListN.{length, getD, take, drop, set, length-drop}
 use lib.Seq.{length-take-le, getD-take, take-all}
 use lib.Signed.{leZ-yes, ltZ-yes}
 use mir.Syntax.{w64, w32}
 use mir.Val.{SFits}
 use mir.Facts.{toZ-ofZ}
-use Rattle.integer.specs.Parts.{abs, apart, difference}
 use Rattle.integer.specs.Machine.{signed-needs, abs-fits}
-use Rattle.integer.specs.Fill.{pad-step}
 use Rattle.chebyshev.specs.Coefficients.{weight}
-use Rattle.chebyshev.specs.Weight.{weight-step, weight-end, weight-at, weight-drop, weight-split}
-use Rattle.model.specs.Models.{places, maxWeight, scale}
-use Rattle.model.specs.Operations.{rounded, roundingLoss}
-use Rattle.model.specs.RoundingPass.{roundedAt, lossAt, loss-small, rounded-length, rounded-at, rounded-weight, loss-step, loss-end, loss-weight}
+use Rattle.chebyshev.specs.Weight.{weight-at, weight-drop, weight-split}
+use Rattle.model.specs.Models.{maxWeight, scale}
+use Rattle.model.specs.RoundingPass.{roundedAt, lossAt, loss-small, product-small}
+use Rattle.model.proofs.RoundingWalk.{Walk, begins, turn, ends, small}
 use Rattle.model.proofs.multiply.round.Statement.{statement}
 use Rattle.model.proofs.multiply.round.Tie as tie
 
--- the rounded numbers before k, and zeros
-abbrev filled : List ℤ → ℕ → List ℤ
-filled cs k = take k (rounded cs) ++ replicate (places - k) (pos 0)
-
--- k of the numbers cs are rounded, and `dropped` is lost besides
-record Walked (cs : List ℤ) (dropped : ℕ) (out : List ℤ) (total loss k : ℕ) : Type 0 where
-  within : k ≤ length cs
-  weight-rest : total + weight (drop k (rounded cs)) ≡ weight (rounded cs)
-  loss-rest : loss + roundingLoss (drop k cs) ≡ roundingLoss cs + dropped
-  written : total ≤ maxWeight → out ≡ filled cs k
-
-weight-turn : (cs : List ℤ) (k : ℕ) → k < length cs → weight (drop k (rounded cs)) ≡ natAbs (roundedAt (getD cs k (pos 0))) + weight (drop (k + 1) (rounded cs))
-weight-turn cs k h = rw (rounded-at cs k) at (weight-step (rounded cs) k (omega (arith, rounded-length cs)))
-
 abbrev Inv-loop : tie.InvT-loop
-Inv-loop c kept out₀ total₀ loss₀ k₀ out total loss k = Walked (take kept c) (weight (drop kept c)) out total loss k
+Inv-loop c kept out₀ total₀ loss₀ k₀ out total loss k = Walk (take kept c) (weight (drop kept c)) out total loss k
 
 abbrev μ-loop : tie.MeasureT-loop
 μ-loop c kept out₀ total₀ loss₀ k₀ out total loss k = kept - k
+
+-- the list and its kept numbers
+module _ (s : tie.Start Inv-loop μ-loop) where
+  abbrev n : ℕ
+  n = s .args .kept
+
+  abbrev all : List ℤ
+  all = s .args .c .now
+
+  abbrev cs : List ℤ
+  cs = take n all
+
+  cs-length : length cs ≡ n
+  cs-length = length-take-le n all (s .pre .1)
+
+  -- what is lent to `weigh`
+  rest-is : take (length all - n) (drop n all) ≡ drop n all
+  rest-is = take-all (length all - n) (drop n all) (omega (arith, length-drop n all))
+
+  bounded : {out : List ℤ} {total loss k : ℕ} → Walk cs (weight (drop n all)) out total loss k → (total < 2 ^ 62) × (loss < 2 ^ 62)
+  bounded w = let h = small w in omega (arith, weight-split n all, s .pre .2)
 
 mul-weigh : tie.Need-mul-weigh Inv-loop μ-loop
 mul-weigh c = search signed-needs
@@ -55,20 +60,13 @@ part-weigh-start c = search signed-needs
 part-weigh-end : tie.Need-part-weigh-end Inv-loop μ-loop
 part-weigh-end c = search signed-needs
 
--- what is lent to `weigh`
-rest-is : (cs : List ℤ) (n : ℕ) → take (length cs - n) (drop n cs) ≡ drop n cs
-rest-is cs n = take-all (length cs - n) (drop n cs) (omega (arith, length-drop n cs))
-
 weigh-requires : tie.Need-weigh-requires Inv-loop μ-loop
-weigh-requires c κs =
-    let s = c .before in
-    rw (rest-is (s .args .c .now) (s .args .kept)) (omega (arith, weight-drop (s .args .kept) (s .args .c .now), s .pre))
+weigh-requires c κs = let s = c .before in rw (rest-is s) (omega (arith, weight-drop (n s) (all s), s .pre))
 
 loop-holds : tie.Need-loop-holds Inv-loop μ-loop
 loop-holds c =
     let s = c .before .before in
-    let e = rw (rest-is (s .args .c .now) (s .args .kept)) at (c .weigh .ensures) in
-    record { within = omega arith; weight-rest = omega arith; loss-rest = omega arith; written = λ h. refl }
+    rw (rw (rest-is s) at (c .weigh .ensures)) (begins (cs s) (weight (drop (n s) (all s))) (omega (arith, cs-length s, s .pre .0)))
 
 mul-exact : tie.Need-mul-exact Inv-loop μ-loop
 mul-exact c = search signed-needs
@@ -79,43 +77,22 @@ shared-slice-copy-out-exact c = omega (arith, c .before .before .before .before 
 near-requires : tie.Need-near-requires Inv-loop μ-loop
 near-requires c κs = (ltZ-yes tt, leZ-yes tt)
 
--- at the loop's head
-module _ (l : tie.At-loop Inv-loop μ-loop) where
-  abbrev s : tie.Start Inv-loop μ-loop
-  s = l .before .before .before
-
-  abbrev n : ℕ
-  n = s .args .kept
-
-  abbrev all : List ℤ
-  all = s .args .c .now
-
-  abbrev cs : List ℤ
-  cs = take n all
-
-  abbrev k : ℕ
-  k = l .loop .k
-
-  cs-length : length cs ≡ n
-  cs-length = length-take-le n all (s .pre .1)
-
-  -- all of it together
-  bounded : weight cs + weight (drop n all) < 2 ^ 62
-  bounded = omega (arith, weight-split n all, s .pre .2)
-
 -- in a turn, with q rounded
 module _ (c : tie.After-near Inv-loop μ-loop) where
   abbrev l : tie.At-loop Inv-loop μ-loop
   l = c .before .before .before
 
+  abbrev s : tie.Start Inv-loop μ-loop
+  s = l .before .before .before
+
+  abbrev k : ℕ
+  k = l .loop .k
+
   abbrev x : ℤ
-  x = getD (all l) (k l) (pos 0)
+  x = getD (all s) k (pos 0)
 
   abbrev q : ℤ
   q = c .near .result
-
-  x-at : getD (cs l) (k l) (pos 0) ≡ x
-  x-at = getD-take (n l) (all l) (k l) (pos 0) (omega arith)
 
   fits-x : SFits w64 x
   fits-x = record { sfits = c .before .exact .given }
@@ -126,19 +103,22 @@ module _ (c : tie.After-near Inv-loop μ-loop) where
   fits-q : SFits w64 q
   fits-q = record { sfits = c .near .ok }
 
+  x-small : natAbs x < 2 ^ 62
+  x-small = omega (arith, weight-at (all s) k, s .pre .2)
+
+  fits-product : SFits w64 (pos (2 * scale) *ℤ q)
+  fits-product = abs-fits w64 (pos (2 * scale) *ℤ q) (omega (arith, ap (λ (z : ℤ). natAbs (pos (2 * scale) *ℤ z)) q-is, product-small x, x-small))
+
   loss-is : natAbs (x -ℤ pos (2 * scale) *ℤ q) ≡ lossAt x
   loss-is = ap (λ (z : ℤ). natAbs (x -ℤ pos (2 * scale) *ℤ z)) q-is
 
-  x-small : natAbs x < 2 ^ 62
-  x-small = omega (arith, weight-at (all l) (k l), s l .pre .2)
-
-  fits-product : SFits w64 (pos (2 * scale) *ℤ q)
-  fits-product =
-      let m = pos (2 * scale) *ℤ q in
-      abs-fits w64 m (omega (arith, loss-is, loss-small x, x-small, difference x m, abs x, abs m, abs (x -ℤ m), apart m))
-
   fits-loss : SFits w64 (x -ℤ pos (2 * scale) *ℤ q)
   fits-loss = abs-fits w64 (x -ℤ pos (2 * scale) *ℤ q) (omega (arith, loss-is, loss-small x, x-small))
+
+  after : (m n : ℕ) (out : List ℤ) → m ≡ natAbs q → n ≡ lossAt x → (l .loop .weight + m ≤ maxWeight → out ≡ set (l .loop .coefficients) k q)
+      → Walk (cs s) (weight (drop (s .args .kept) (all s))) out (l .loop .weight + m) (l .loop .loss + n) (k + 1)
+  after m n out =
+      turn x q m n out (l .loop .inv) (omega (arith, cs-length s)) (sym (getD-take (s .args .kept) (all s) k (pos 0) (omega arith))) q-is
 
 mul-magnitude : tie.Need-mul-magnitude Inv-loop μ-loop
 mul-magnitude c = simp (toZ-ofZ (fits-q c)) (fits-product c)
@@ -149,48 +129,30 @@ sub-magnitude c = simp (toZ-ofZ (fits-x c), toZ-ofZ (fits-q c), toZ-ofZ (fits-pr
 magnitude-requires : tie.Need-magnitude-requires Inv-loop μ-loop
 magnitude-requires c κs = tt
 
--- what the turn adds to the loss
-loss-turn : (c : tie.After-magnitude Inv-loop μ-loop) → let l = l (c .before) in roundingLoss (drop (k l) (cs l)) ≡ c .magnitude .result + roundingLoss (drop (k l + 1) (cs l))
-loss-turn m =
-    let c = m .before in
-    let e : m .magnitude .result ≡ lossAt (x c) = (simp (toZ-ofZ (fits-x c), toZ-ofZ (fits-q c), toZ-ofZ (fits-product c), toZ-ofZ (fits-loss c)) at (m .magnitude .ensures)) ∙ loss-is c in
-    omega (arith, rw (x-at c) at (loss-step (cs (l c)) (k (l c)) (omega (arith, cs-length (l c)))))
+lost : (m : tie.After-magnitude Inv-loop μ-loop) → m .magnitude .result ≡ lossAt (x (m .before))
+lost m = let c = m .before in (simp (toZ-ofZ (fits-x c), toZ-ofZ (fits-q c), toZ-ofZ (fits-product c), toZ-ofZ (fits-loss c)) at (m .magnitude .ensures)) ∙ loss-is c
 
 add-loss : tie.Need-add-loss Inv-loop μ-loop
-add-loss m = let l = l (m .before) in omega (arith, loss-turn m, loss-weight (cs l), bounded l, l .loop .inv .loss-rest)
+add-loss m = let c = m .before in omega (arith, bounded (s c) (after c (natAbs (q c)) (m .magnitude .result) _ refl (lost m) (λ _. refl)) .1)
 
 magnitude-requires-2 : tie.Need-magnitude-requires-2 Inv-loop μ-loop
 magnitude-requires-2 c κs = tt
 
--- and to the weight
-module _ (c : tie.After-magnitude2 Inv-loop μ-loop) where
-  abbrev r : tie.After-near Inv-loop μ-loop
-  r = c .before .before
+module _ (r : tie.After-magnitude2 Inv-loop μ-loop) where
+  abbrev c : tie.After-near Inv-loop μ-loop
+  c = r .before .before
 
-  size-is : c .magnitude2 .result ≡ natAbs (q r)
-  size-is = rw (toZ-ofZ (fits-q r)) at (c .magnitude2 .ensures)
+  size-is : r .magnitude2 .result ≡ natAbs (q c)
+  size-is = rw (toZ-ofZ (fits-q c)) at (r .magnitude2 .ensures)
 
-  rounded-turn : weight (drop (k (l r)) (rounded (cs (l r)))) ≡ c .magnitude2 .result + weight (drop (k (l r) + 1) (rounded (cs (l r))))
-  rounded-turn = omega (arith, size-is, ap natAbs (q-is r), rw (x-at r) at (weight-turn (cs (l r)) (k (l r)) (omega (arith, cs-length (l r)))))
-
-  -- within the limit of the weight
-  module _ (h : l r .loop .weight + c .magnitude2 .result ≤ maxWeight) where
-    narrows : SFits w32 (q r)
-    narrows = abs-fits w32 (q r) (omega (arith, size-is))
-
-    stored : set (l r .loop .coefficients) (k (l r)) (q r) ≡ filled (cs (l r)) (k (l r) + 1)
-    stored =
-        let cs = cs (l r) in
-        let k = k (l r) in
-        let v : q r ≡ getD (rounded cs) k (pos 0) = q-is r ∙ ap roundedAt (sym (x-at r)) ∙ sym (rounded-at cs k) in
-        let old = l r .loop .inv .written (omega arith) in
-        (λ t. set (old t) k (v t)) ∙ pad-step (pos 0) (rounded cs) places k (omega (arith, rounded-length cs, cs-length (l r))) (omega (arith, s (l r) .pre .0))
+  narrows : l c .loop .weight + r .magnitude2 .result ≤ maxWeight → SFits w32 (q c)
+  narrows h = abs-fits w32 (q c) (omega (arith, size-is))
 
 add-weight : tie.Need-add-weight Inv-loop μ-loop
-add-weight c = let l = l (r c) in omega (arith, rounded-turn c, rounded-weight (cs l), bounded l, l .loop .inv .weight-rest)
+add-weight r = let c = c r in omega (arith, bounded (s c) (after c (r .magnitude2 .result) (r .before .magnitude .result) _ (size-is r) (lost (r .before)) (λ _. refl)) .0)
 
 cast-coefficients : tie.Need-cast-coefficients Inv-loop μ-loop
-cast-coefficients t = simp (toZ-ofZ (fits-q (r (t .before)))) (narrows (t .before) (t .if1 .taken))
+cast-coefficients t = simp (toZ-ofZ (fits-q (c (t .before)))) (narrows (t .before) (t .if1 .taken))
 
 mul-coefficients : tie.Need-mul-coefficients Inv-loop μ-loop
 mul-coefficients c = search signed-needs
@@ -206,24 +168,12 @@ loop-less c = search signed-needs
 
 loop-again : tie.Need-loop-again Inv-loop μ-loop
 loop-again j =
-    let c = j .before in
-    let i = l (r c) .loop .inv in record {
-      within = omega (arith, cs-length (l (r c)));
-      weight-rest = omega (arith, rounded-turn c, i .weight-rest);
-      loss-rest = omega (arith, loss-turn (c .before), i .loss-rest);
-      written = λ h. ⊎-elim (λ w. w .1 ∙ simp (toZ-ofZ (fits-q (r c)), toZ-ofZ (narrows c h)) (stored c h)) (λ w. absurd (omega (arith, w .0))) (j .if1 .came);
-    }
+    let r = j .before in
+    after (c r) (r .magnitude2 .result) (r .before .magnitude .result) (j .if1 .coefficients) (size-is r) (lost (r .before))
+    (λ h. ⊎-elim (λ w. w .1 ∙ simp (toZ-ofZ (fits-q (c r)), toZ-ofZ (narrows r h))) (λ w. absurd (omega (arith, w .0))) (j .if1 .came))
 
 returns : tie.Need-returns Inv-loop μ-loop
-returns c =
-    let l = c .before in
-    let i = l .loop .inv in
-    let e : k l ≡ n l = omega (arith, cs-length l, i .within) in
-    let d : length (rounded (cs l)) ≤ n l = omega (arith, rounded-length (cs l), cs-length l) in record {
-      weight-is = omega (arith, weight-end (rounded (cs l)) (k l) (omega arith), i .weight-rest);
-      loss-is = omega (arith, loss-end (cs l) (k l) (omega (arith, cs-length l)), i .loss-rest);
-      coefficients-are = λ h. i .written h ∙ rw (e, take-all (n l) (rounded (cs l)) d);
-    }
+returns c = let s = c .before .before .before .before in ends (all s) (n s) (s .pre .1) (c .before .loop .inv) (omega arith)
 
 pub round-spec : {M : Type 1} → statement M
 round-spec =

@@ -1,0 +1,84 @@
+-- From V and W to the bounds of an evaluation: the numbers on the way fit 64 bits.
+use mathlib.Core.Path.{_≡_, ap}
+use mathlib.Core.Bool.{true}
+use Prim.Native.Nat.{ℕ, suc, _+_, _*_, _^_, _≤_}
+use native.Mathlib.Omega.{arith}
+use lib.IntN.{ℤ, pos, natAbs, _+ℤ_, _-ℤ_, _*ℤ_}
+use lib.ListN.{length, length-take}
+use mir.Syntax.{w64}
+use mir.Val.{SFits, toZ}
+use mir.Facts.{toZ-pos}
+use Rattle.integer.specs.Parts.{abs-add, abs-sub, abs-mul}
+use Rattle.integer.specs.Machine.{abs-fits}
+use Rattle.integer.specs.Rounding.{floor, up}
+use Rattle.integer.specs.RoundingSize.{floor-size, up-size}
+use Rattle.chebyshev.specs.Coefficients.{weight}
+use Rattle.chebyshev.specs.Weight.{weight-take}
+use Rattle.model.specs.Models.{scale, places, maxWeight, terms, good}
+use Rattle.model.specs.ModelLaws.{Good, good-is}
+use Rattle.model.specs.Evaluation.{pointSum, pointError, lowBound, highBound}
+use Rattle.model.specs.EvaluationLaws.{sum-size, error-size}
+use Rattle.model.specs.declared.types.Model.{Model}
+
+-- v and w are V and W of a good model at a point inside
+pub record Sums (a : Model) (p v : ℤ) (w : ℕ) : Type 0 where
+  pub passed : good a ≡ true
+  pub inside : natAbs p ≤ scale
+  pub value-is : v ≡ pointSum p 0 (terms a)
+  pub error-is : w ≡ pointError 0 (terms a)
+
+module _ {a : Model} {p v : ℤ} {w : ℕ} (s : Sums a p v w) where
+  is-good : Good a
+  is-good = good-is a (s .passed)
+
+  short : length (terms a) ≤ places
+  short = rw length-take (omega (arith, is-good))
+
+  light : weight (terms a) ≤ maxWeight
+  light = omega (arith, weight-take (suc (a .degree)) (a .coefficients), is-good)
+
+  fourfold-size : natAbs (pos 4 *ℤ v) ≤ 2 ^ 61
+  fourfold-size = omega (arith, abs-mul (pos 4) v, ap natAbs (s .value-is), sum-size p 0 32 (terms a) (s .inside) (omega (arith, short)), light)
+
+  pub error-small : w ≤ 2 ^ 38
+  error-small = omega (arith, s .error-is, error-size 0 32 (terms a) (omega (arith, short)), light)
+
+  below-size : natAbs (pos 4 *ℤ v -ℤ pos w) ≤ 2 ^ 61 + 2 ^ 38
+  below-size = omega (arith, abs-sub (pos 4 *ℤ v) (pos w), fourfold-size, error-small)
+
+  above-size : natAbs (pos 4 *ℤ v +ℤ pos w) ≤ 2 ^ 61 + 2 ^ 38
+  above-size = omega (arith, abs-add (pos 4 *ℤ v) (pos w), fourfold-size, error-small)
+
+  pub error-word : toZ w64 w ≡ pos w
+  error-word = toZ-pos w64 (omega (arith, error-small))
+
+  pub radius-word : toZ w64 (a .radius) ≡ pos (a .radius)
+  radius-word = toZ-pos w64 (omega (arith, is-good))
+
+  pub fits-value : SFits w64 v
+  fits-value = abs-fits w64 v (omega (arith, abs-mul (pos 4) v, fourfold-size))
+
+  pub fits-fourfold : SFits w64 (pos 4 *ℤ v)
+  fits-fourfold = abs-fits w64 (pos 4 *ℤ v) (omega (arith, fourfold-size))
+
+  pub fits-below : SFits w64 (pos 4 *ℤ v -ℤ pos w)
+  fits-below = abs-fits w64 (pos 4 *ℤ v -ℤ pos w) (omega (arith, below-size))
+
+  pub fits-above : SFits w64 (pos 4 *ℤ v +ℤ pos w)
+  fits-above = abs-fits w64 (pos 4 *ℤ v +ℤ pos w) (omega (arith, above-size))
+
+  -- the low bound, from q = floor((4V−W)/2^32)
+  pub low : (q : ℤ) → q ≡ floor (pos 4 *ℤ v -ℤ pos w) (2 ^ 32) → SFits w64 (q -ℤ pos (a .radius)) × (q -ℤ pos (a .radius) ≡ lowBound a p)
+  unfolding lowBound
+  low q e = (
+    abs-fits w64 (q -ℤ pos (a .radius)) (omega (arith, abs-sub q (pos (a .radius)), ap natAbs e, floor-size (pos 4 *ℤ v -ℤ pos w) (2 ^ 32), below-size, is-good)),
+    rw (e, s .value-is, s .error-is),
+  )
+
+  -- the high bound, from q = up((4V+W)/2^32)
+  pub high : (q : ℤ) → q ≡ up (pos 4 *ℤ v +ℤ pos w) (2 ^ 32) → SFits w64 (q +ℤ pos (a .radius)) × (q +ℤ pos (a .radius) ≡ highBound a p)
+  unfolding highBound
+  high q e = (
+    abs-fits w64 (q +ℤ pos (a .radius)) (omega (arith, abs-add q (pos (a .radius)), ap natAbs e, up-size (pos 4 *ℤ v +ℤ pos w) (2 ^ 32), above-size, is-good)),
+    rw (e, s .value-is, s .error-is),
+  )

@@ -1,0 +1,83 @@
+-- The walk of `evaluate::point_sums`, which forms V and W of an evaluation place by place.
+use mathlib.Core.Path.{_≡_, refl, sym, _∙_, ap}
+use mathlib.Core.List.{List}
+use Prim.Native.Nat.{ℕ, zero, suc, _+_, _*_, _-_, _^_, _<_, _≤_}
+use native.Mathlib.Numerals.{add-one}
+use native.Mathlib.Omega.{arith}
+use lib.IntN.{ℤ, pos, natAbs, _+ℤ_, _-ℤ_, _*ℤ_, +ℤ-assoc, +ℤ-idl, +ℤ-idr}
+use lib.ListN.{length, getD, drop, length-drop, drop-of-length-le}
+use lib.Seq.{drop-cons}
+use Rattle.integer.specs.Parts.{abs, apart, sum}
+use Rattle.integer.specs.Rounding.{near}
+use Rattle.chebyshev.specs.Coefficients.{weight}
+use Rattle.chebyshev.specs.Weight.{weight-drop}
+use Rattle.model.specs.Models.{scale, places, maxWeight}
+use Rattle.model.specs.Evaluation.{pointTerm, pointSum, pointError}
+use Rattle.model.specs.EvaluationLaws.{term-size, sum-size, error-size}
+
+-- at place k: what is summed up and what is left of cs make V and W, and t and `next` are t_k and t_(k+1)
+pub record Walk (p : ℤ) (cs : List ℤ) (value : ℤ) (error : ℕ) (t next : ℤ) (k : ℕ) : Type 0 where
+  pub within : k ≤ length cs
+  pub value-rest : value +ℤ pointSum p k (drop k cs) ≡ pointSum p 0 cs
+  pub error-rest : error + pointError k (drop k cs) ≡ pointError 0 cs
+  pub t-is : t ≡ pointTerm p k
+  pub next-is : next ≡ pointTerm p (suc k)
+
+pub begins : (p : ℤ) (cs : List ℤ) → Walk p cs (pos 0) 0 (pos (2 ^ 30)) (pos (2 ^ 10) *ℤ p) 0
+unfolding pointTerm
+begins p cs = record { within = omega arith; value-rest = +ℤ-idl (pointSum p 0 cs); error-rest = omega arith; t-is = refl; next-is = refl }
+
+-- k·(k−1), as code has it
+pub pairs-is : (k : ℕ) → (k ≤ k * k) × (k * k - k ≡ k * (k - 1))
+pairs-is zero = omega arith
+pairs-is (suc k) = let e : suc k - 1 ≡ k = omega arith in rw e (omega arith)
+
+sum-step : (p : ℤ) (k : ℕ) (a : List ℤ) → k < length a → pointSum p k (drop k a) ≡ getD a k (pos 0) *ℤ pointTerm p k +ℤ pointSum p (k + 1) (drop (k + 1) a)
+unfolding pointSum
+sum-step p k a h = rw (drop-cons a k (pos 0) h, add-one)
+
+error-step : (k : ℕ) (a : List ℤ) → k < length a → pointError k (drop k a) ≡ natAbs (getD a k (pos 0)) * (k * (k - 1)) + pointError (k + 1) (drop (k + 1) a)
+unfolding pointError
+error-step k a h = rw (drop-cons a k (pos 0) h, add-one)
+
+-- a turn takes c = a_k, of absolute value m, and the rounded u of t_(k+2) = u − t_k
+pub turn : {p : ℤ} {cs : List ℤ} {value : ℤ} {error : ℕ} {t next : ℤ} {k : ℕ} (c : ℤ) (m : ℕ) (u : ℤ) → Walk p cs value error t next k → k < length cs
+    → c ≡ getD cs k (pos 0) → m ≡ natAbs c → u ≡ near (pos 2 *ℤ p *ℤ next) scale
+    → Walk p cs (value +ℤ c *ℤ t) (error + m * (k * k - k)) next (u -ℤ t) (k + 1)
+unfolding pointTerm
+turn {p} {cs} {value} {error} {t} {next} {k} c m u w h e f g = record {
+  within = omega arith;
+  value-rest = rw (e, w .t-is, +ℤ-assoc value (getD cs k (pos 0) *ℤ pointTerm p k) (pointSum p (k + 1) (drop (k + 1) cs)), ← sum-step p k cs h) (w .value-rest);
+  error-rest = rw (f, e, pairs-is k .1) (omega (arith, error-step k cs h, w .error-rest));
+  t-is = rw add-one (w .next-is);
+  next-is = rw (add-one, g, w .next-is, w .t-is);
+}
+
+pub ends : {p : ℤ} {cs : List ℤ} {value : ℤ} {error : ℕ} {t next : ℤ} {k : ℕ} → Walk p cs value error t next k → length cs ≤ k
+    → (value ≡ pointSum p 0 cs) × (error ≡ pointError 0 cs)
+unfolding pointSum pointError
+ends {p} {cs} {value} {k = k} w h =
+    let none = drop-of-length-le cs {i = k} h in
+    (sym (+ℤ-idr value) ∙ (rw none at (w .value-rest)), omega (arith, rw none at (w .error-rest)))
+
+-- |t_k| ≤ 2^30 + k·(k−1)/4 (EvaluationError.antt) keeps every number within 64 bits
+pub record Small (value : ℤ) (error : ℕ) (t next : ℤ) : Type 0 where
+  pub value-small : natAbs value < 2 ^ 61
+  pub error-small : error < 2 ^ 40
+  pub t-small : natAbs t ≤ 2 ^ 31
+  pub next-small : natAbs next ≤ 2 ^ 31
+
+pub small : {p : ℤ} {cs : List ℤ} {value : ℤ} {error : ℕ} {t next : ℤ} {k : ℕ} → Walk p cs value error t next k
+    → natAbs p ≤ scale → length cs ≤ places → weight cs ≤ maxWeight → Small value error t next
+small {p} {cs} {value} {error} {t} {next} {k} w hp hl hw = record {
+  value-small = omega (arith, difference value (pointSum p k (drop k cs)) (pointSum p 0 cs) (w .value-rest), sum-size p 0 32 cs hp (omega arith), rest);
+  error-small = omega (arith, w .error-rest, error-size 0 32 cs (omega arith));
+  t-small = omega (arith, ap natAbs (w .t-is), term-size p k 34 hp (omega (arith, w .within)));
+  next-small = omega (arith, ap natAbs (w .next-is), term-size p (suc k) 34 hp (omega (arith, w .within)));
+}
+  where
+    difference : (a r b : ℤ) → a +ℤ r ≡ b → natAbs a ≤ natAbs b + natAbs r
+    difference a r b e = omega (arith, sum a r, abs a, abs r, abs (a +ℤ r), apart a, ap natAbs e)
+
+    rest : 4 * natAbs (pointSum p k (drop k cs)) ≤ (2 ^ 32 + 32 * 31) * 2 ^ 28
+    rest = omega (arith, sum-size p k 32 (drop k cs) hp (rw length-drop (omega (arith, w .within))), weight-drop k cs)

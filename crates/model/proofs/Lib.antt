@@ -1,0 +1,4 @@
+pub mod IntegralWalk
+pub mod EvaluationWalk
+pub mod EvaluationBounds
+pub mod RoundingWalk
