@@ -12,11 +12,12 @@ use borrow.Author.Tests.{ltb-false, leb-false, not-false, le-ltb, lt-leb}
 use Rattle.integer.specs.Parts.{le-yes, le-no}
 use Rattle.integer.specs.Difference.{<-parts}
 use Rattle.chebyshev.specs.Coefficients.{weight}
+use Rattle.chebyshev.specs.Sign.{coefficientSum}
 use Rattle.model.specs.Models.{scale, maxRadius, good, tooLarge}
 use Rattle.model.specs.RefusalLaws.{Passed, first-refusal-zero}
 use Rattle.model.specs.declared.types.Model.{Model}
 use Rattle.certificate.specs.TestLaws.{tested-zero}
-use Rattle.certificate.specs.Tests.{scratchPlaces, rootOf, rootPlaces, rootModel, rootContraction, rootResidual, displacement, total, tested}
+use Rattle.certificate.specs.Tests.{scratchPlaces, rootOf, rootPlaces, rootModel, rootContraction, rootResidual, displacement, tested}
 
 -- b and the result of the test
 abbrev pub rootDisplacement : Model → Model → Model → ℕ
@@ -36,7 +37,7 @@ pub record RootConditions (len : ℕ) (f h w : Model) : Type 0 where
   pub good-f : good f ≡ true
   pub good-h : good h ≡ true
   pub good-w : good w ≡ true
-  pub helper : pos 0 <ℤ total (w .coefficients)
+  pub helper : pos 0 <ℤ coefficientSum (w .coefficients)
   pub contraction : rootContraction h w < scale
   pub residual : rootResidual f h ≤ maxRadius
   pub discriminant : 8 * rootDisplacement f h w * weight (w .coefficients) ≤ (scale - rootContraction h w) * (scale - rootContraction h w)
@@ -68,7 +69,7 @@ module _ (len : ℕ) (f h w : Model) where
       good-f = not-false (good f) (p .1 .0);
       good-h = not-false (good h) (p .1 .1 .0);
       good-w = not-false (good w) (p .1 .1 .1 .0);
-      helper = above-positive (total (w .coefficients)) (p .1 .1 .1 .1 .0);
+      helper = above-positive (coefficientSum (w .coefficients)) (p .1 .1 .1 .1 .0);
       contraction = leb-false scale (rootContraction h w) (p .1 .1 .1 .1 .1 .0);
       residual = ltb-false maxRadius (rootResidual f h) (p .1 .1 .1 .1 .1 .1 .0);
       discriminant = ltb-false _ _ (p .1 .1 .1 .1 .1 .1 .1 .0);

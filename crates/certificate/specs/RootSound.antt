@@ -1,11 +1,11 @@
 -- The root test is sound: where it passes, every value v that f allows at a fraction x of [−1, 1] is above 0, and its root
 -- lies between y − ρ and y + ρ, where y is h(x) and ρ the radius. No square root is taken: squares are compared.
-use mathlib.Core.Path.{_≡_, refl, sym, _∙_, ap}
+use mathlib.Core.Path.{_≡_, sym, _∙_, ap}
 use mathlib.Core.Logic.{_⊎_, inl, inr}
-use mathlib.Core.List.{List, [], _∷_}
+use mathlib.Core.List.{[], _∷_}
 use Prim.Native.Nat.{ℕ, _+_, _*_, _-_}
 use native.Mathlib.Omega.{arith}
-use lib.IntN.{ℤ, pos, _+ℤ_}
+use lib.IntN.{pos}
 use Rattle.integer.specs.Embedding.{ι-nonneg}
 use Rattle.integer.specs.Integer.{ℤ-ring}
 use Rattle.integer.specs.OrderedRing.{_⟨≼⟩_, by-certificate, gap, abs-le, abs-upper, abs-lower, le-of-eq}
@@ -18,14 +18,14 @@ use Rattle.integer.specs.RoundingLaws.{le-upℕ}
 use Rattle.chebyshev.specs.Coefficients.{weight, subtractLists, scaleList}
 use Rattle.chebyshev.specs.CoefficientLaws.{value-constant}
 use Rattle.chebyshev.specs.Allows.{allows, allows-quotient}
-use Rattle.chebyshev.specs.Sign.{coefficientSum, helper-positive}
+use Rattle.chebyshev.specs.Sign.{helper-positive}
 use Rattle.model.specs.Models.{scale}
 use Rattle.model.specs.Values.{Allows, OnInterval}
 use Rattle.model.specs.ValueLaws.{valueAt, valueAt-scale, valueAt-weight, valueAt-difference}
 use Rattle.model.specs.GoodLaws.{value-productList}
 use Rattle.model.specs.Operations.{productList}
 use Rattle.model.specs.declared.types.Model.{Model}
-use Rattle.certificate.specs.Tests.{Test, rootOf, rootModel, rootContraction, rootResidual, displacement, total}
+use Rattle.certificate.specs.Tests.{Test, rootOf, rootModel, rootContraction, rootResidual, displacement}
 use Rattle.certificate.specs.RootAlgebra.{helper-bound, residual-bound, root-algebra, root-choice}
 use Rattle.certificate.specs.RootConditions.{RootConditions, rootDisplacement, rootResult, root-passes, root-result}
 
@@ -64,12 +64,6 @@ between-allows m x r above below =
 
 -- ---- the two residuals at x
 
--- Σ w_k
-total-sum : (a : List ℤ) → total a ≡ coefficientSum a
-unfolding total coefficientSum
-total-sum [] = refl
-total-sum (c ∷ a) = ap (λ s. c +ℤ s) (total-sum a)
-
 module _ (len : ℕ) (f h w : Model) (c : RootConditions len f h w) where
   -- weight(S² − C(w,h)) and weight(C(h,h) − 2S·f)
   abbrev helperWeight : ℕ
@@ -89,7 +83,7 @@ module _ (len : ℕ) (f h w : Model) (c : RootConditions len f h w) where
   unfolding rootContraction
   helper-value x on =
       helper-positive (whole (pos scale) *ℚ whole (pos scale)) (whole (pos helperWeight)) (w .coefficients) (h .coefficients)
-      (rw total-sum at (c .helper))
+      (c .helper)
       (λ k. omega (arith, le-pos (scale * scale) helperWeight (whole-le _ _ .0 (rw (← natural-mul scale scale) at k)), le-upℕ helperWeight scale (omega arith), c .contraction))
       (λ y k. helper-distance y (record { above = abs-lower ℚ-ordered k; below = abs-upper ℚ-ordered k }))
       x (abs-le ℚ-ordered (on .below) (on .above))
