@@ -11,7 +11,7 @@ use Rattle.model.specs.Models.{scale, maxRadius, good, tooLarge, firstRefusal}
 use Rattle.model.specs.RefusalLaws.{Passed, first-refusal-zero}
 use Rattle.model.specs.declared.types.Model.{Model}
 use Rattle.certificate.specs.Tests.{scratchPlaces, testPlaces, quotientOf, quotientModel, quotientContraction, quotientResidual, displacement, tested}
-use Rattle.certificate.specs.TestLaws.{tested-zero}
+use Rattle.certificate.specs.Stages.{tested-zero}
 
 -- b and the result of the test
 abbrev pub quotientDisplacement : Model → Model → Model → Model → ℕ

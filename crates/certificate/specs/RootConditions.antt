@@ -16,7 +16,7 @@ use Rattle.chebyshev.specs.Sign.{coefficientSum}
 use Rattle.model.specs.Models.{scale, maxRadius, good, tooLarge}
 use Rattle.model.specs.RefusalLaws.{Passed, first-refusal-zero}
 use Rattle.model.specs.declared.types.Model.{Model}
-use Rattle.certificate.specs.TestLaws.{tested-zero}
+use Rattle.certificate.specs.Stages.{tested-zero}
 use Rattle.certificate.specs.Tests.{scratchPlaces, rootOf, rootPlaces, rootModel, rootContraction, rootResidual, displacement, tested}
 
 -- b and the result of the test

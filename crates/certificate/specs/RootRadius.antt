@@ -1,5 +1,5 @@
 -- 01, of the root's radius: "which these limits keep at or below 2^27". So the place of the result never refuses a root.
-use mathlib.Core.Path.{_≡_, refl, ap}
+use mathlib.Core.Path.{_≡_, refl, _∙_, ap}
 use mathlib.Core.Logic.{_≢_}
 use mathlib.Core.Bool.{Bool, true, false, cond}
 use mathlib.Core.List.{List, [], _∷_, _++_}
@@ -8,6 +8,7 @@ use native.Mathlib.Omega.{arith}
 use native.Mathlib.Nat.{mul-le-mul, mul-le-mul-left, le-of-mul-le-mul-left}
 use lib.IntN.{pos, natAbs, _-ℤ_}
 use lib.ListN.{getD}
+use borrow.Author.Tests.{le-ltb}
 use Rattle.integer.specs.Parts.{abs, difference}
 use Rattle.integer.specs.Integer.{ℤ-ring}
 use Rattle.integer.specs.RoundingLaws.{le-upℕ, upℕ-least}
@@ -15,13 +16,13 @@ use Rattle.chebyshev.specs.Coefficients.{weight, subtractLists}
 use Rattle.chebyshev.specs.CoefficientLaws.{getD-subtract}
 use Rattle.chebyshev.specs.Weight.{weight-at, weight-take}
 use Rattle.chebyshev.specs.ProductWeight.{weight-product}
-use Rattle.model.specs.Models.{scale, productPlaces, terms, tooLarge, firstRefusal}
+use Rattle.model.specs.Models.{scale, maxRadius, productPlaces, terms, tooLarge, firstRefusal}
 use Rattle.model.specs.ModelLaws.{good-is}
 use Rattle.model.specs.RefusalLaws.{Passed}
 use Rattle.model.specs.Operations.{productList}
 use Rattle.model.specs.declared.types.Model.{Model}
 use Rattle.certificate.specs.Tests.{rootOf, rootPlaces, rootModel, rootContraction, tested}
-use Rattle.certificate.specs.TestLaws.{radius-fits}
+use Rattle.certificate.specs.Stages.{large-radius}
 use Rattle.certificate.specs.RootConditions.{RootConditions, rootDisplacement, rootResult, negativeDiscriminant, root-conditions, root-passes, root-result}
 
 -- S² ≤ m·S + 2·M·H: the place 0 of S² − C(w,h)
@@ -79,7 +80,7 @@ module _ (len : ℕ) (f h w : Model) where
   -- the result of a test whose other places pass is not too large
   pub root-fits : RootConditions len f h w → tooLarge (rootResult f h w) ≡ false
   unfolding rootModel
-  root-fits c = radius-fits h ((rootResult f h w) .radius) (c .good-h) .1 (omega (arith, root-radius-bound c))
+  root-fits c = let radius = (rootResult f h w) .radius in large-radius h radius (c .good-h) ∙ le-ltb maxRadius radius (omega (arith, root-radius-bound c))
 
   pub root-radius : (rootOf len f h w) .number ≡ 0 → (rootOf len f h w) .model .radius ≤ 2 ^ 27
   root-radius e = rw (root-result len f h w e) (root-radius-bound (root-passes len f h w .0 e .0))

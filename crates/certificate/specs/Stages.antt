@@ -1,6 +1,6 @@
 -- The answers of the two tests, place by place.
 use mathlib.Core.Path.{_≡_, refl, _∙_}
-use mathlib.Core.Bool.{Bool, true, false, not, _&&_, _||_, cond}
+use mathlib.Core.Bool.{Bool, true, false, not, _&&_, cond, or-false}
 use mathlib.Core.List.{List, [], _∷_, _++_}
 use Prim.Native.Nat.{ℕ, _≤_, _<_}
 use native.Mathlib.Omega.{arith}
@@ -28,6 +28,10 @@ refusedTest k = record { number = k; model = zeroModel; m = 0; N = 0; b = 0 }
 -- the answer of a test that passes
 abbrev pub passedTest : Model → ℕ → ℕ → ℕ → Test
 passedTest r m n b = record { number = 0; model = r; m = m; N = n; b = b }
+
+pub tested-zero : (ps : List (Bool × ℕ)) (r : Model) (m n b : ℕ) → firstRefusal ps ≡ 0 → tested ps r m n b ≡ passedTest r m n b
+unfolding tested
+tested-zero ps r m n b e = rw e
 
 pub tested-none : (r : Model) (m n b : ℕ) → tested [] r m n b ≡ passedTest r m n b
 unfolding tested firstRefusal
@@ -59,16 +63,12 @@ module _ (m n : ℕ) (ps : List (Bool × ℕ)) (r : Model) (i j k : ℕ) where
 
 -- ---- the place of the result
 
--- a good model with another radius
+-- of a good model with another radius only the radius can be too large
 pub large-radius : (h : Model) (r : ℕ) → good h ≡ true → tooLarge (modelOf (h .degree) (h .coefficients) r) ≡ ltb maxRadius r
 unfolding tooLarge
 large-radius h r g =
     let p = good-is h g in
     rw (le-ltb maxWeight (weight (h .coefficients)) (p .weight-fits), le-ltb maxDegree (h .degree) (p .degree-fits)) (or-false (ltb maxRadius r))
-  where
-    or-false : (t : Bool) → (t || false) ≡ t
-    or-false true = refl
-    or-false false = refl
 
 -- ---- the scratch
 
