@@ -9,8 +9,9 @@ use lib.Dec.{ltb}
 use lib.IntN.{ℤ, pos}
 use lib.Signed.{_<ℤ_, leZ}
 use borrow.Author.Tests.{ltb-false, leb-false, not-false, le-ltb, lt-leb}
-use Rattle.integer.specs.Parts.{le-yes, le-no}
+use Rattle.integer.specs.Parts.{le-yes}
 use Rattle.integer.specs.Difference.{<-parts}
+use Rattle.integer.specs.Machine.{le-false}
 use Rattle.chebyshev.specs.Coefficients.{weight}
 use Rattle.chebyshev.specs.Sign.{coefficientSum}
 use Rattle.model.specs.Models.{scale, maxRadius, good, tooLarge}
@@ -45,9 +46,6 @@ pub record RootConditions (len : ℕ) (f h w : Model) : Type 0 where
 not-of-true : (t : Bool) → t ≡ true → not t ≡ false
 not-of-true t e = ap not e
 
-above-positive : (z : ℤ) → leZ z (pos 0) ≡ false → pos 0 <ℤ z
-above-positive z e = <-parts (pos 0) z .1 (omega (arith, le-no z (pos 0) e))
-
 positive-above : (z : ℤ) → pos 0 <ℤ z → leZ z (pos 0) ≡ false
 positive-above z h = pick (leZ z (pos 0)) refl
   where
@@ -69,7 +67,7 @@ module _ (len : ℕ) (f h w : Model) where
       good-f = not-false (good f) (p .1 .0);
       good-h = not-false (good h) (p .1 .1 .0);
       good-w = not-false (good w) (p .1 .1 .1 .0);
-      helper = above-positive (coefficientSum (w .coefficients)) (p .1 .1 .1 .1 .0);
+      helper = le-false (coefficientSum (w .coefficients)) (pos 0) (p .1 .1 .1 .1 .0);
       contraction = leb-false scale (rootContraction h w) (p .1 .1 .1 .1 .1 .0);
       residual = ltb-false maxRadius (rootResidual f h) (p .1 .1 .1 .1 .1 .1 .0);
       discriminant = ltb-false _ _ (p .1 .1 .1 .1 .1 .1 .1 .0);
