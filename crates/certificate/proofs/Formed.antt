@@ -15,13 +15,9 @@ use Rattle.chebyshev.specs.ProductLaws.{length-product}
 use Rattle.chebyshev.specs.ProductWeight.{weight-product}
 use Rattle.certificate.specs.Tests.{scratchPlaces}
 
-pub record Cleared (part : List ℤ) : Type 0 where
-  pub wide : length part ≡ scratchPlaces
-  pub light : weight part ≡ 0
-
-pub cleared : {part : List ℤ} → part ≡ zeros scratchPlaces → Cleared part
+pub cleared : {part : List ℤ} → part ≡ zeros scratchPlaces → (length part ≡ scratchPlaces) × (weight part ≡ 0)
 unfolding zeros
-cleared e = record { wide = ap length e ∙ length-zeros scratchPlaces; light = ap weight e ∙ weight-zeros scratchPlaces }
+cleared e = (ap length e ∙ length-zeros scratchPlaces, ap weight e ∙ weight-zeros scratchPlaces)
 
 -- the walk starts from zeros
 pub from-zeros : (a b : List ℤ) → addRows ℤ-ring (zeros scratchPlaces) 0 a b ≡ product ℤ-ring scratchPlaces a b

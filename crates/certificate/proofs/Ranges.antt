@@ -19,7 +19,7 @@ module _ (a b : Model) (ha : good a ≡ true) (hb : good b ≡ true) where
   pub weights-range : weight (a .coefficients) * weight (b .coefficients) ≤ 2 ^ 56
   weights-range = mul-le-mul (good-is a ha .weight-fits) (good-is b hb .weight-fits)
 
-  pub product-range : weight (productList a b) ≤ 2 ^ 57
+  product-range : weight (productList a b) ≤ 2 ^ 57
   unfolding productList
   product-range = omega (arith, weights-range, formed (suc (a .degree)) (a .coefficients) (suc (b .degree)) (b .coefficients) _ refl)
 

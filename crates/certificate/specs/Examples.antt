@@ -1,8 +1,8 @@
 -- P7 to P10 of document 01, computed from the definitions: number, m, N, b, degree, radius and the first coefficient.
 use mathlib.Core.Path.{_≡_, refl}
 use mathlib.Core.List.{List, [], _∷_}
-use lib.IntN.{ℤ, pos, negsuc}
-use lib.ListN.{replicate, getD}
+use lib.IntN.{ℤ, pos}
+use lib.ListN.{getD}
 use Rattle.integer.specs.Rounding.{upℕ}
 use Rattle.chebyshev.specs.Coefficients.{weight, addLists, subtractLists, scaleList}
 use Rattle.chebyshev.specs.Product.{addAt, addPair, addRow, addRows, product}

@@ -77,7 +77,7 @@ module _ (len : ℕ) (f g h w : Model) (passes : (quotientOf len f g h w) .numbe
   conditions = quotient-passes len f g h w .0 passes
 
   -- S − m ≤ M·|v|, where S − m > 0
-  pub quotient-divisor : (v : ℚ) → Allows g x v → whole (pos (scale - quotientContraction g w)) ≤ℚ (whole (pos (weight (w .coefficients))) *ℚ ∣ v ∣ℚ)
+  quotient-divisor : (v : ℚ) → Allows g x v → whole (pos (scale - quotientContraction g w)) ≤ℚ (whole (pos (weight (w .coefficients))) *ℚ ∣ v ∣ℚ)
   quotient-divisor v hv =
       divisor-away ℚ-ordered (valueAt x (w .coefficients)) v
       (sym (natural-add (scale - quotientContraction g w) (quotientContraction g w)) ∙ ap (λ (n : ℕ). whole (pos n)) (omega (arith, conditions .contraction)))

@@ -41,11 +41,11 @@ quotientB f g h w = upℕ (weight (w .coefficients) * quotientN f g h) scale
 unfoldable pub quotientRadius : Model → Model → Model → Model → ℕ
 quotientRadius f g h w = upℕ (quotientB f g h w * scale) (scale - quotientM g w)
 
-pub contraction-is : (g w : Model) → good g ≡ true → good w ≡ true → quotientContraction g w ≡ quotientM g w
+contraction-is : (g w : Model) → good g ≡ true → good w ≡ true → quotientContraction g w ≡ quotientM g w
 unfolding quotientM quotientContraction
 contraction-is g w gg gw = rw (productList-good w g gw gg)
 
-pub residual-is : (f g h : Model) → good g ≡ true → good h ≡ true → quotientResidual f g h ≡ quotientN f g h
+residual-is : (f g h : Model) → good g ≡ true → good h ≡ true → quotientResidual f g h ≡ quotientN f g h
 unfolding quotientN quotientResidual
 residual-is f g h gg gh = rw (productList-good g h gg gh)
 

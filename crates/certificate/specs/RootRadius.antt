@@ -23,7 +23,7 @@ use Rattle.model.specs.Operations.{productList}
 use Rattle.model.specs.declared.types.Model.{Model}
 use Rattle.certificate.specs.Tests.{rootOf, rootPlaces, rootModel, rootContraction, tested}
 use Rattle.certificate.specs.Stages.{large-radius}
-use Rattle.certificate.specs.RootConditions.{RootConditions, rootDisplacement, rootResult, negativeDiscriminant, root-conditions, root-passes, root-result}
+use Rattle.certificate.specs.RootConditions.{RootConditions, rootDisplacement, rootResult, negativeDiscriminant, root-conditions}
 
 -- S² ≤ m·S + 2·M·H: the place 0 of S² − C(w,h)
 pub square-bound : (h w : Model) → scale * scale ≤ rootContraction h w * scale + 2 * weight (w .coefficients) * weight (h .coefficients)
@@ -81,9 +81,6 @@ module _ (len : ℕ) (f h w : Model) where
   pub root-fits : RootConditions len f h w → tooLarge (rootResult f h w) ≡ false
   unfolding rootModel
   root-fits c = let radius = (rootResult f h w) .radius in large-radius h radius (c .good-h) ∙ le-ltb maxRadius radius (omega (arith, root-radius-bound c))
-
-  pub root-radius : (rootOf len f h w) .number ≡ 0 → (rootOf len f h w) .model .radius ≤ 2 ^ 27
-  root-radius e = rw (root-result len f h w e) (root-radius-bound (root-passes len f h w .0 e .0))
 
   -- refusal 3 is never answered
   pub root-never-large : (rootOf len f h w) .number ≢ 3

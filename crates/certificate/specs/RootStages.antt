@@ -54,7 +54,6 @@ module _ (len : ℕ) (f h w : Model) where
     pub small : n ≤ maxRadius
     pub is-M : M ≡ weight (w .coefficients)
     pub is-m : m ≡ rootContraction h w
-    pub is-n : n ≡ rootResidual f h
     pub is-b : b ≡ displacement w n
     pub last : rootOf len f h w ≡ tested (lastPlaces m b) (rootModel h m b) m n b
 
@@ -74,7 +73,6 @@ module _ (len : ℕ) (f h w : Model) where
         small = rw en (ltb-false maxRadius (rootResidual f h) (p .1 .1 .1 .1 .1 .1 .0));
         is-M = cc;
         is-m = em;
-        is-n = en;
         is-b = eb;
         last = rw (eb, en, em) (tested-same (rootPlaces len f h w ++ _) _ _ _ _ _ (first-passed (rootPlaces len f h w) _ p));
       }

@@ -52,7 +52,7 @@ module _ (m n : ℕ) (ps : List (Bool × ℕ)) (r : Model) (i j k : ℕ) where
   pub not-contracting : scale ≤ m → tested (testPlaces m n ++ ps) r i j k ≡ refusedTest 5
   not-contracting e = tested-refuse _ 5 _ r i j k (le-leb scale m e) (omega arith)
 
-  pub contracting : m < scale → tested (testPlaces m n ++ ps) r i j k ≡ tested ((ltb maxRadius n, 6) ∷ ps) r i j k
+  contracting : m < scale → tested (testPlaces m n ++ ps) r i j k ≡ tested ((ltb maxRadius n, 6) ∷ ps) r i j k
   contracting e = tested-pass _ 5 _ r i j k (lt-leb scale m e)
 
   pub large-residual : m < scale → maxRadius < n → tested (testPlaces m n ++ ps) r i j k ≡ refusedTest 6
