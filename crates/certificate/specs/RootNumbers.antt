@@ -37,7 +37,7 @@ module _ (len : ℕ) (f h w : Model) where
   root-short e = rw (lt-ltb len scratchPlaces e)
 
   module _ (room : scratchPlaces ≤ len) where
-    -- any room is as good
+    -- a scratch that is long enough plays no further part
     pub root-room : rootOutcome len f h w ≡ rootOutcome scratchPlaces f h w
     unfolding rootOutcome rootPlaces
     root-room = rw (le-ltb len scratchPlaces room)

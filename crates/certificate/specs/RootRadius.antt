@@ -47,8 +47,8 @@ square-bound h w =
     )
 
 -- 8·b·p·S ≤ 2^29·8·b·M ≤ 2^29·p²
-pub quotient-bound : (p b M : ℕ) → 0 < p → p * scale ≤ 2 ^ 29 * M → 8 * b * M ≤ p * p → 2 * b * scale ≤ 2 ^ 27 * p
-quotient-bound p b M h k d = le-of-mul-le-mul-left {m = 2 * b * scale} {n = 2 ^ 27 * p} {k = p} (omega (arith, mul-le-mul-left (8 * b) k)) h
+pub numerator-bound : (p b M : ℕ) → 0 < p → p * scale ≤ 2 ^ 29 * M → 8 * b * M ≤ p * p → 2 * b * scale ≤ 2 ^ 27 * p
+numerator-bound p b M h k d = le-of-mul-le-mul-left {m = 2 * b * scale} {n = 2 ^ 27 * p} {k = p} (omega (arith, mul-le-mul-left (8 * b) k)) h
 
 -- ---- a last place that is never used
 
@@ -73,7 +73,7 @@ module _ (len : ℕ) (f h w : Model) where
   root-radius-bound c =
       let p = scale - rootContraction h w in
       upℕ-least (2 * rootDisplacement f h w * scale) p (2 ^ 27) (omega (arith, c .contraction))
-      (quotient-bound p (rootDisplacement f h w) (weight (w .coefficients)) (omega (arith, c .contraction))
+      (numerator-bound p (rootDisplacement f h w) (weight (w .coefficients)) (omega (arith, c .contraction))
       (omega (arith, square-bound h w, mul-le-mul-left (2 * weight (w .coefficients)) (good-is h (c .good-h) .weight-fits), c .contraction))
       (c .discriminant))
 

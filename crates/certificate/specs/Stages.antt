@@ -96,7 +96,7 @@ module _ (len : ℕ) (f g h w : Model) where
   quotient-short e = tested-refuse _ 1 _ _ _ _ _ (lt-ltb len scratchPlaces e) (omega arith)
 
   module _ (room : scratchPlaces ≤ len) where
-    -- any room is as good
+    -- a scratch that is long enough plays no further part
     pub quotient-room : quotientOf len f g h w ≡ quotientOf scratchPlaces f g h w
     unfolding quotientOf
     quotient-room = rw (le-ltb len scratchPlaces room)

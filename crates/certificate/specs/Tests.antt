@@ -31,7 +31,7 @@ scratchAfter s = cond (leb scratchPlaces (length s)) (replicate scratchPlaces (p
 
 -- ---- the numbers of the tests; "inside weight( ) a bare number stands at place 0"
 
--- b = up(M·N/S)
+-- "b = up(M·N/S)"
 unfoldable pub displacement : Model → ℕ → ℕ
 displacement w n = upℕ (weight (w .coefficients) * n) scale
 
@@ -95,7 +95,7 @@ tested ps r m n b = record {
 abbrev pub testPlaces : ℕ → ℕ → List (Bool × ℕ)
 testPlaces m n = (leb scale m, 5) ∷ (ltb maxRadius n, 6) ∷ []
 
--- Quotient f/g. "The test: m < S and N ≤ 2^28."
+-- Quotient f/g. "each model, in operand order, h then w"; "The test: m < S and N ≤ 2^28."
 abbrev pub quotientPlaces : ℕ → Model → Model → Model → Model → List (Bool × ℕ)
 quotientPlaces len f g h w =
     let m = quotientContraction g w in
