@@ -11,25 +11,25 @@ use Rattle.chebyshev.specs.Weight.{weight-step, weight-end}
 
 -- the invariant after k places: what is summed and what is left of the weight is the whole of it, and k numbers are zero
 pub record Draining (D start part : List ℤ) (sum k : ℕ) : Type 0 where
-  pub wide : length D ≡ length start
+  pub width : length D ≡ length start
   pub rest : sum + weight (drop k D) ≡ weight D
   pub cleared : Clearing (length start) start part k
 
 module _ {D start : List ℤ} where
   pub draining-begins : length D ≡ length start → Draining D start start 0 0
-  draining-begins e = record { wide = e; rest = omega arith; cleared = clearing-begins (length start) start (omega arith) }
+  draining-begins e = record { width = e; rest = omega arith; cleared = clearing-begins (length start) start (omega arith) }
 
   module _ {part : List ℤ} {sum k : ℕ} (d : Draining D start part sum k) where
     -- the sum of a turn is at most the weight
     pub draining-fits : (v : ℕ) → k < length start → v ≡ natAbs (getD D k (pos 0)) → sum + v ≤ weight D
-    draining-fits v h e = omega (arith, d .rest, weight-step D k (omega (arith, d .wide)))
+    draining-fits v h e = omega (arith, d .rest, weight-step D k (omega (arith, d .width)))
 
     pub draining-turn : (v : ℕ) → k < length start → v ≡ natAbs (getD D k (pos 0)) → Draining D start (set part k (pos 0)) (sum + v) (k + 1)
     draining-turn v h e = record {
-      wide = d .wide;
-      rest = omega (arith, d .rest, weight-step D k (omega (arith, d .wide)));
+      width = d .width;
+      rest = omega (arith, d .rest, weight-step D k (omega (arith, d .width)));
       cleared = clearing-turn (d .cleared) h;
     }
 
     pub draining-ends : length start ≤ k → (sum ≡ weight D) × (part ≡ zeros (length start))
-    draining-ends h = (omega (arith, d .rest, weight-end D k (omega (arith, d .wide))), clearing-ends (d .cleared) h refl)
+    draining-ends h = (omega (arith, d .rest, weight-end D k (omega (arith, d .width))), clearing-ends (d .cleared) h refl)

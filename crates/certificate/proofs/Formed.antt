@@ -15,13 +15,9 @@ use Rattle.chebyshev.specs.ProductLaws.{length-product}
 use Rattle.chebyshev.specs.ProductWeight.{weight-product}
 use Rattle.certificate.specs.Tests.{scratchPlaces}
 
-pub record Cleared (part : List ℤ) : Type 0 where
-  pub wide : length part ≡ scratchPlaces
-  pub light : weight part ≡ 0
-
-pub cleared : {part : List ℤ} → part ≡ zeros scratchPlaces → Cleared part
+pub cleared : {part : List ℤ} → part ≡ zeros scratchPlaces → (length part ≡ scratchPlaces) × (weight part ≡ 0)
 unfolding zeros
-cleared e = record { wide = ap length e ∙ length-zeros scratchPlaces; light = ap weight e ∙ weight-zeros scratchPlaces }
+cleared e = (ap length e ∙ length-zeros scratchPlaces, ap weight e ∙ weight-zeros scratchPlaces)
 
 -- the walk starts from zeros
 pub from-zeros : (a b : List ℤ) → addRows ℤ-ring (zeros scratchPlaces) 0 a b ≡ product ℤ-ring scratchPlaces a b
@@ -29,11 +25,11 @@ unfolding product zeros
 from-zeros a b = refl
 
 pub record Formed (a b c : List ℤ) : Type 0 where
-  pub wide : length c ≡ scratchPlaces
-  pub light : weight c ≤ 2 * weight a * weight b
+  pub width : length c ≡ scratchPlaces
+  pub weight-le : weight c ≤ 2 * weight a * weight b
 
 pub formed : (n : ℕ) (a : List ℤ) (k : ℕ) (b c : List ℤ) → c ≡ product ℤ-ring scratchPlaces (take n a) (take k b) → Formed a b c
 formed n a k b c e = record {
-  wide = ap length e ∙ length-product ℤ-ring scratchPlaces (take n a) (take k b);
-  light = omega (arith, ap weight e, weight-product scratchPlaces (take n a) (take k b), mul-le-mul (weight-take n a) (weight-take k b));
+  width = ap length e ∙ length-product ℤ-ring scratchPlaces (take n a) (take k b);
+  weight-le = omega (arith, ap weight e, weight-product scratchPlaces (take n a) (take k b), mul-le-mul (weight-take n a) (weight-take k b));
 }

@@ -1,5 +1,5 @@
 -- How large the numbers of the tests become, for good models.
-use mathlib.Core.Path.{_≡_, refl}
+use mathlib.Core.Path.{_≡_, refl, ap}
 use mathlib.Core.Bool.{true}
 use Prim.Native.Nat.{ℕ, suc, _+_, _*_, _^_, _≤_}
 use native.Mathlib.Omega.{arith}
@@ -19,7 +19,7 @@ module _ (a b : Model) (ha : good a ≡ true) (hb : good b ≡ true) where
   pub weights-range : weight (a .coefficients) * weight (b .coefficients) ≤ 2 ^ 56
   weights-range = mul-le-mul (good-is a ha .weight-fits) (good-is b hb .weight-fits)
 
-  pub product-range : weight (productList a b) ≤ 2 ^ 57
+  product-range : weight (productList a b) ≤ 2 ^ 57
   unfolding productList
   product-range = omega (arith, weights-range, formed (suc (a .degree)) (a .coefficients) (suc (b .degree)) (b .coefficients) _ refl)
 
@@ -29,9 +29,19 @@ module _ (a b : Model) (ha : good a ≡ true) (hb : good b ≡ true) where
   pub residual-range : (f : Model) → good f ≡ true → weight (residualList (productList a b) (f .coefficients)) ≤ 2 ^ 57 + 2 ^ 49
   residual-range f hf = omega (arith, product-range, weight-residual (productList a b) (f .coefficients), good-is f hf .weight-fits)
 
--- a weight times a radius
-pub error-range : (a b : Model) → good a ≡ true → good b ≡ true → weight (a .coefficients) * b .radius ≤ 2 ^ 56
-error-range a b ha hb = mul-le-mul (good-is a ha .weight-fits) (good-is b hb .radius-fits)
+-- the error term M·e, where code holds a's weight as a number M and e is b's radius
+pub record ErrorTerm (M : ℕ) (a b : Model) : Type 0 where
+  pub is : M * b .radius ≡ weight (a .coefficients) * b .radius
+  pub factor : M ≤ 2 ^ 28
+  pub term : M * b .radius ≤ 2 ^ 56
+
+pub error-term : (M : ℕ) (a b : Model) → good a ≡ true → good b ≡ true → M ≡ weight (a .coefficients) → ErrorTerm M a b
+error-term M a b ha hb e =
+    let same = ap (λ (k : ℕ). k * b .radius) e in record {
+      is = same;
+      factor = omega (arith, good-is a ha .weight-fits);
+      term = omega (arith, same, mul-le-mul (good-is a ha .weight-fits) (good-is b hb .radius-fits));
+    }
 
 -- b
 pub displacement-range : (M n : ℕ) → M ≤ maxWeight → n ≤ maxRadius → upℕ (M * n) scale ≤ 2 ^ 36

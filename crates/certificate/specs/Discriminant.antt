@@ -17,9 +17,10 @@ use Rattle.integer.specs.Difference.{<-parts}
 use Rattle.integer.specs.Rounding.{upℕ}
 use Rattle.chebyshev.specs.Coefficients.{weight, addLists, subtractLists, scaleList}
 use Rattle.chebyshev.specs.Product.{addAt, addPair, addRow, addRows, product}
+use Rattle.chebyshev.specs.Sign.{coefficientSum}
 use Rattle.model.specs.Models.{scale, firstRefusal, good, tooLarge, modelOf, constantModel, zeroModel}
 use Rattle.model.specs.Operations.{productList}
-use Rattle.certificate.specs.Tests.{rootOf, rootPlaces, rootContraction, rootResidual, rootModel, displacement, total, tested}
+use Rattle.certificate.specs.Tests.{rootOf, rootPlaces, rootContraction, rootResidual, rootModel, displacement, tested}
 
 pub discriminant-quotient : (b M m : ℕ) → 0 < M → (8 * b * M ≤ (scale - m) * (scale - m)) ↔ (b ≤ (scale - m) * (scale - m) / (8 * M))
 discriminant-quotient b M m h =
@@ -37,14 +38,14 @@ discriminant-test b M m h = pick (decLe (8 * b * M) ((scale - m) * (scale - m)))
         lt-ltb ((scale - m) * (scale - m)) (8 * b * M) (omega arith) ∙ sym (lt-ltb ((scale - m) * (scale - m) / (8 * M)) b (omega arith))
 
 -- Σ w_k ≤ M
-total-weight : (a : List ℤ) → (total a) ⁺ ≤ weight a
-unfolding total weight
-total-weight [] = omega arith
-total-weight (c ∷ a) = omega (arith, total-weight a, abs c, sum c (total a))
+sum-weight : (a : List ℤ) → (coefficientSum a) ⁺ ≤ weight a
+unfolding coefficientSum weight
+sum-weight [] = omega arith
+sum-weight (c ∷ a) = omega (arith, sum-weight a, abs c, sum c (coefficientSum a))
 
 -- M ≥ 1
-pub weight-positive : (a : List ℤ) → pos 0 <ℤ total a → 0 < weight a
-weight-positive a h = omega (arith, total-weight a, <-parts (pos 0) (total a) .0 h)
+pub weight-positive : (a : List ℤ) → pos 0 <ℤ coefficientSum a → 0 < weight a
+weight-positive a h = omega (arith, sum-weight a, <-parts (pos 0) (coefficientSum a) .0 h)
 
 -- ---- A test of 8·b·M in 64 bits would be wrong: f = 2^28, h = 2^11, w = 2^28, all constants, is refused with 8. There 8·b·M
 -- is 2^67 − 2^41, in signed 64 bits −2^41, which is below (S−m)² = 2^40. With radius 4 it is 2^67, in 64 bits 0.
@@ -65,5 +66,5 @@ pub wrapped-discriminant : (numbers 0 ∷ numbers 4 ∷ [])
     ≡ (0 ∷ (2 ^ 28 - 4) ∷ (2 ^ 36 - 2 ^ 10) ∷ (2 ^ 67 - 2 ^ 41) ∷ (2 ^ 64 - 2 ^ 41) ∷ 2 ^ 40 ∷ 8 ∷ [])
     ∷ (0 ∷ 2 ^ 28 ∷ 2 ^ 36 ∷ 2 ^ 67 ∷ 0 ∷ 2 ^ 40 ∷ 8 ∷ [])
     ∷ []
-unfolding rootOf rootPlaces tested rootContraction rootResidual rootModel displacement total productList firstRefusal good tooLarge constantModel zeroModel weight addLists subtractLists scaleList addAt addPair addRow addRows product upℕ
+unfolding rootOf rootPlaces tested rootContraction rootResidual rootModel displacement coefficientSum productList firstRefusal good tooLarge constantModel zeroModel weight addLists subtractLists scaleList addAt addPair addRow addRows product upℕ
 wrapped-discriminant = refl

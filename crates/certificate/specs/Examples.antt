@@ -1,14 +1,15 @@
 -- P7 to P10 of document 01, computed from the definitions: number, m, N, b, degree, radius and the first coefficient.
 use mathlib.Core.Path.{_≡_, refl}
 use mathlib.Core.List.{List, [], _∷_}
-use lib.IntN.{ℤ, pos, negsuc}
-use lib.ListN.{replicate, getD}
+use lib.IntN.{ℤ, pos}
+use lib.ListN.{getD}
 use Rattle.integer.specs.Rounding.{upℕ}
 use Rattle.chebyshev.specs.Coefficients.{weight, addLists, subtractLists, scaleList}
 use Rattle.chebyshev.specs.Product.{addAt, addPair, addRow, addRows, product}
+use Rattle.chebyshev.specs.Sign.{coefficientSum}
 use Rattle.model.specs.Models.{firstRefusal, good, tooLarge, constantModel, zeroModel}
 use Rattle.model.specs.Operations.{productList}
-use Rattle.certificate.specs.Tests.{Test, tested, quotientOf, rootOf, rootPlaces, quotientContraction, quotientResidual, quotientModel, rootContraction, rootResidual, rootModel, displacement, total}
+use Rattle.certificate.specs.Tests.{Test, tested, quotientOf, rootOf, rootPlaces, quotientContraction, quotientResidual, quotientModel, rootContraction, rootResidual, rootModel, displacement}
 
 abbrev pub shown : Test → List ℤ
 shown r = pos (r .number) ∷ pos (r .m) ∷ pos (r .N) ∷ pos (r .b) ∷ pos (r .model .degree) ∷ pos (r .model .radius) ∷ getD (r .model .coefficients) 0 (pos 0) ∷ []
@@ -30,5 +31,5 @@ expected =
     ∷ []
 
 pub benchmarks : given ≡ expected
-unfolding quotientOf rootOf rootPlaces tested quotientContraction quotientResidual quotientModel rootContraction rootResidual rootModel displacement total productList firstRefusal good tooLarge constantModel zeroModel weight addLists subtractLists scaleList addAt addPair addRow addRows product upℕ
+unfolding quotientOf rootOf rootPlaces tested quotientContraction quotientResidual quotientModel rootContraction rootResidual rootModel displacement coefficientSum productList firstRefusal good tooLarge constantModel zeroModel weight addLists subtractLists scaleList addAt addPair addRow addRows product upℕ
 benchmarks = refl

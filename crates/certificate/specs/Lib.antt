@@ -1,6 +1,5 @@
 pub mod Tests
 pub mod TwoSums
-pub mod TestLaws
 pub mod TestFits
 pub mod Stages
 pub mod Residuals

@@ -2,16 +2,15 @@
 use mathlib.Core.Path.{_≡_, ap}
 use mathlib.Core.Logic.{_↔_}
 use mathlib.Core.Bool.{Bool, true, false, not}
-use mathlib.Core.List.{List, [], _∷_, _++_}
+use mathlib.Core.List.{List}
 use Prim.Native.Nat.{ℕ, _≤_, _<_}
 use native.Mathlib.Omega.{arith}
-use lib.Dec.{ltb}
 use borrow.Author.Tests.{ltb-false, leb-false, not-false, le-ltb, lt-leb}
 use Rattle.model.specs.Models.{scale, maxRadius, good, tooLarge, firstRefusal}
 use Rattle.model.specs.RefusalLaws.{Passed, first-refusal-zero}
 use Rattle.model.specs.declared.types.Model.{Model}
-use Rattle.certificate.specs.Tests.{scratchPlaces, testPlaces, quotientOf, quotientModel, quotientContraction, quotientResidual, displacement, tested}
-use Rattle.certificate.specs.TestLaws.{tested-zero}
+use Rattle.certificate.specs.Tests.{scratchPlaces, quotientPlaces, quotientOf, quotientModel, quotientContraction, quotientResidual, displacement, tested}
+use Rattle.certificate.specs.Stages.{tested-zero}
 
 -- b and the result of the test
 abbrev pub quotientDisplacement : Model → Model → Model → Model → ℕ
@@ -31,19 +30,17 @@ pub record QuotientConditions (len : ℕ) (f g h w : Model) : Type 0 where
   pub result : tooLarge (quotientResult f g h w) ≡ false
 
 module _ (len : ℕ) (f g h w : Model) where
-  abbrev quotientPlaces : List (Bool × ℕ)
-  quotientPlaces =
-      (ltb len scratchPlaces, 1) ∷ (not (good f), 2) ∷ (not (good g), 2) ∷ (not (good h), 2) ∷ (not (good w), 2)
-      ∷ (testPlaces (quotientContraction g w) (quotientResidual f g h) ++ ((tooLarge (quotientResult f g h w), 3) ∷ []))
+  abbrev places : List (Bool × ℕ)
+  places = quotientPlaces len f g h w
 
   pub quotient-passes : ((quotientOf len f g h w) .number ≡ 0) ↔ QuotientConditions len f g h w
   unfolding quotientOf tested
   quotient-passes = (λ e. facts (passes .0 e), λ c. passes .1 (tests c))
     where
-      passes : (firstRefusal quotientPlaces ≡ 0) ↔ Passed quotientPlaces
-      passes = first-refusal-zero quotientPlaces (omega arith)
+      passes : (firstRefusal places ≡ 0) ↔ Passed places
+      passes = first-refusal-zero places (omega arith)
 
-      facts : Passed quotientPlaces → QuotientConditions len f g h w
+      facts : Passed places → QuotientConditions len f g h w
       facts p = record {
         scratch = ltb-false len scratchPlaces (p .0);
         good-f = not-false (good f) (p .1 .0);
@@ -55,7 +52,7 @@ module _ (len : ℕ) (f g h w : Model) where
         result = p .1 .1 .1 .1 .1 .1 .1 .0;
       }
 
-      tests : QuotientConditions len f g h w → Passed quotientPlaces
+      tests : QuotientConditions len f g h w → Passed places
       tests c =
           let enough = le-ltb len scratchPlaces (c .scratch) in
           let good-f = ap not (c .good-f) in
@@ -70,4 +67,4 @@ module _ (len : ℕ) (f g h w : Model) where
   pub quotient-result : (quotientOf len f g h w) .number ≡ 0
       → quotientOf len f g h w ≡ record { number = 0; model = quotientResult f g h w; m = quotientContraction g w; N = quotientResidual f g h; b = quotientDisplacement f g h w }
   unfolding quotientOf tested
-  quotient-result e = tested-zero quotientPlaces (quotientResult f g h w) (quotientContraction g w) (quotientResidual f g h) (quotientDisplacement f g h w) e
+  quotient-result e = tested-zero places (quotientResult f g h w) (quotientContraction g w) (quotientResidual f g h) (quotientDisplacement f g h w) e

@@ -32,14 +32,14 @@ contraction-sound : (g w : Model) → good g ≡ true → good w ≡ true → (x
     → ∣ whole (pos scale) -ℚ valueAt x (w .coefficients) *ℚ v ∣ℚ ≤ℚ whole (pos (quotientContraction g w))
 unfolding quotientContraction Allows allows
 contraction-sound g w gg gw x v on hv =
-    up-bound (apart + 2 * weight (w .coefficients) * g .radius) (2 * scale) (whole (pos scale) -ℚ valueAt x (w .coefficients) *ℚ v) (omega arith)
-    (rw (natural-mul 2 scale, sum apart (weight (w .coefficients)) (g .radius))
+    up-bound (distance + 2 * weight (w .coefficients) * g .radius) (2 * scale) (whole (pos scale) -ℚ valueAt x (w .coefficients) *ℚ v) (omega arith)
+    (rw (natural-mul 2 scale, sum distance (weight (w .coefficients)) (g .radius))
     (contraction-bound ℚ-ordered (whole (pos scale)) (valueAt x (w .coefficients)) (valueAt x (g .coefficients)) v
     (rw (twice-square, value-productList w g gw gg x) (valueAt-difference on (pos (2 * scale * scale) ∷ []) (productList w g)))
     (valueAt-weight on (w .coefficients)) hv))
   where
-    apart : ℕ
-    apart = weight (subtractLists ℤ-ring (pos (2 * scale * scale) ∷ []) (productList w g))
+    distance : ℕ
+    distance = weight (subtractLists ℤ-ring (pos (2 * scale * scale) ∷ []) (productList w g))
 
     sum : (l M e : ℕ) → whole (pos (l + 2 * M * e)) ≡ whole (pos l) +ℚ whole (pos 2) *ℚ whole (pos M) *ℚ whole (pos e)
     sum l M e = simp (natural-add, natural-mul)
@@ -52,14 +52,14 @@ residual-sound : (f g h : Model) → good g ≡ true → good h ≡ true → (x 
     → ∣ v *ℚ valueAt x (h .coefficients) -ℚ whole (pos scale) *ℚ u ∣ℚ ≤ℚ whole (pos (quotientResidual f g h))
 unfolding quotientResidual Allows allows
 residual-sound f g h gg gh x u v on hu hv =
-    up-bound (apart + 2 * scale * f .radius + 2 * weight (h .coefficients) * g .radius) (2 * scale) (v *ℚ valueAt x (h .coefficients) -ℚ whole (pos scale) *ℚ u) (omega arith)
-    (rw (natural-mul 2 scale, sum apart scale (f .radius) (weight (h .coefficients)) (g .radius))
+    up-bound (distance + 2 * scale * f .radius + 2 * weight (h .coefficients) * g .radius) (2 * scale) (v *ℚ valueAt x (h .coefficients) -ℚ whole (pos scale) *ℚ u) (omega arith)
+    (rw (natural-mul 2 scale, sum distance scale (f .radius) (weight (h .coefficients)) (g .radius))
     (residual-bound ℚ-ordered (whole (pos scale)) (valueAt x (f .coefficients)) (valueAt x (g .coefficients)) (valueAt x (h .coefficients)) u v (ι-nonneg ℚ-ordered scale)
     (rw (value-productList g h gg gh x, ← natural-mul 2 scale, ← valueAt-scale x (pos (2 * scale)) (f .coefficients)) (valueAt-difference on (productList g h) (scaleList ℤ-ring (pos (2 * scale)) (f .coefficients))))
     (valueAt-weight on (h .coefficients)) hu hv))
   where
-    apart : ℕ
-    apart = weight (subtractLists ℤ-ring (productList g h) (scaleList ℤ-ring (pos (2 * scale)) (f .coefficients)))
+    distance : ℕ
+    distance = weight (subtractLists ℤ-ring (productList g h) (scaleList ℤ-ring (pos (2 * scale)) (f .coefficients)))
 
     sum : (l s e B k : ℕ) → whole (pos (l + 2 * s * e + 2 * B * k)) ≡ whole (pos l) +ℚ whole (pos 2) *ℚ whole (pos s) *ℚ whole (pos e) +ℚ whole (pos 2) *ℚ whole (pos B) *ℚ whole (pos k)
     sum l s e B k = simp (natural-add, natural-mul)
@@ -77,7 +77,7 @@ module _ (len : ℕ) (f g h w : Model) (passes : (quotientOf len f g h w) .numbe
   conditions = quotient-passes len f g h w .0 passes
 
   -- S − m ≤ M·|v|, where S − m > 0
-  pub quotient-divisor : (v : ℚ) → Allows g x v → whole (pos (scale - quotientContraction g w)) ≤ℚ (whole (pos (weight (w .coefficients))) *ℚ ∣ v ∣ℚ)
+  quotient-divisor : (v : ℚ) → Allows g x v → whole (pos (scale - quotientContraction g w)) ≤ℚ (whole (pos (weight (w .coefficients))) *ℚ ∣ v ∣ℚ)
   quotient-divisor v hv =
       divisor-away ℚ-ordered (valueAt x (w .coefficients)) v
       (sym (natural-add (scale - quotientContraction g w) (quotientContraction g w)) ∙ ap (λ (n : ℕ). whole (pos n)) (omega (arith, conditions .contraction)))

@@ -1,19 +1,20 @@
 -- The quotient test in 01's whole numbers, with C( , ) formed by its two sums: for good models, good candidates and enough
 -- scratch, a candidate is accepted exactly where the test holds and the stated radius is within 2^28, with exactly that radius.
-use mathlib.Core.Path.{_≡_}
+use mathlib.Core.Path.{_≡_, sym, _∙_}
 use mathlib.Core.Logic.{_↔_}
 use mathlib.Core.Bool.{true}
 use mathlib.Core.List.{[], _∷_}
 use Prim.Native.Nat.{ℕ, _+_, _*_, _-_, _^_, _≤_, _<_}
 use lib.IntN.{pos}
+use borrow.Author.Tests.{ltb-false, le-ltb}
 use Rattle.integer.specs.Integer.{ℤ-ring}
 use Rattle.integer.specs.Rounding.{upℕ}
 use Rattle.chebyshev.specs.Coefficients.{weight, subtractLists, scaleList}
-use Rattle.model.specs.Models.{scale, productPlaces, good, modelOf}
+use Rattle.model.specs.Models.{scale, productPlaces, maxRadius, good, modelOf}
 use Rattle.model.specs.declared.types.Model.{Model}
 use Rattle.certificate.specs.Tests.{scratchPlaces, quotientOf, quotientContraction, quotientResidual, quotientModel, displacement}
 use Rattle.certificate.specs.TwoSums.{twoSumsList, productList-good}
-use Rattle.certificate.specs.TestLaws.{radius-fits}
+use Rattle.certificate.specs.Stages.{large-radius}
 use Rattle.certificate.specs.QuotientConditions.{quotientResult, quotient-passes, quotient-result}
 
 -- "m = up((weight(2S² − C(w,g)) + 2·M·e_g)/(2S))"
@@ -40,11 +41,11 @@ quotientB f g h w = upℕ (weight (w .coefficients) * quotientN f g h) scale
 unfoldable pub quotientRadius : Model → Model → Model → Model → ℕ
 quotientRadius f g h w = upℕ (quotientB f g h w * scale) (scale - quotientM g w)
 
-pub contraction-is : (g w : Model) → good g ≡ true → good w ≡ true → quotientContraction g w ≡ quotientM g w
+contraction-is : (g w : Model) → good g ≡ true → good w ≡ true → quotientContraction g w ≡ quotientM g w
 unfolding quotientM quotientContraction
 contraction-is g w gg gw = rw (productList-good w g gw gg)
 
-pub residual-is : (f g h : Model) → good g ≡ true → good h ≡ true → quotientResidual f g h ≡ quotientN f g h
+residual-is : (f g h : Model) → good g ≡ true → good h ≡ true → quotientResidual f g h ≡ quotientN f g h
 unfolding quotientN quotientResidual
 residual-is f g h gg gh = rw (productList-good g h gg gh)
 
@@ -54,10 +55,11 @@ module _ (len : ℕ) (f g h w : Model) (enough : scratchPlaces ≤ len) (gf : go
   unfolding quotientRadius quotientB displacement quotientModel
   quotient-accepted =
       let passes = quotient-passes len f g h w in
-      let fits = radius-fits h ((quotientResult f g h w) .radius) gh in
+      let radius = (quotientResult f g h w) .radius in
+      let large = large-radius h radius gh in
       rw (← contraction-is g w gg gw, ← residual-is f g h gg gh) (
-        λ e. let c = passes .0 e in (c .contraction, c .residual, fits .0 (c .result)),
-        λ t. passes .1 (record { scratch = enough; good-f = gf; good-g = gg; good-h = gh; good-w = gw; contraction = t .0; residual = t .1; result = fits .1 (t .2) }),
+        λ e. let c = passes .0 e in (c .contraction, c .residual, ltb-false maxRadius radius (sym large ∙ c .result)),
+        λ t. passes .1 (record { scratch = enough; good-f = gf; good-g = gg; good-h = gh; good-w = gw; contraction = t .0; residual = t .1; result = large ∙ le-ltb maxRadius radius (t .2) }),
       )
 
   pub quotient-accepted-result : (quotientOf len f g h w) .number ≡ 0

@@ -1,17 +1,15 @@
 -- The lists whose weights the two tests take, over a part of the list C.
 use mathlib.Core.Path.{_≡_, ap, _∙_}
-use mathlib.Core.List.{List, [], _∷_, map}
+use mathlib.Core.List.{List, [], _∷_}
 use Prim.Native.Nat.{ℕ, _+_, _*_, _≤_, _<_, max}
 use native.Mathlib.Omega.{arith}
-use lib.IntN.{ℤ, pos, negℤ, natAbs, _-ℤ_, _*ℤ_}
+use lib.IntN.{ℤ, pos, natAbs, _-ℤ_, _*ℤ_}
 use lib.ListN.{length, getD, take, drop, set, drop-of-length-le}
-use Rattle.integer.specs.Parts.{_⁺, abs, apart, difference}
+use Rattle.integer.specs.Parts.{abs, apart, difference}
 use Rattle.integer.specs.Integer.{ℤ-ring}
-use Rattle.integer.specs.Order.{ℤ-ordered}
 use Rattle.chebyshev.specs.Coefficients.{weight, addLists, subtractLists, scaleList}
 use Rattle.chebyshev.specs.CoefficientLaws.{length-subtract, length-scale, getD-subtract, getD-scale, subtract-split}
-use Rattle.chebyshev.specs.NormLaws.{norm-opposite}
-use Rattle.chebyshev.specs.Weight.{norm-weight, weight-subtract, weight-scale, weight-append, weight-drop}
+use Rattle.chebyshev.specs.Weight.{weight-subtract, weight-scale, weight-append, weight-drop, weight-opposite}
 use Rattle.model.specs.Models.{scale}
 
 -- C − 2S·f
@@ -35,9 +33,6 @@ module _ (c f : List ℤ) where
       ∙ weight-append (residualList (take (length f) c) f) (drop (length f) c)
 
 -- ---- a number at place 0
-
-weight-opposite : (c : List ℤ) → weight (map negℤ c) ≡ weight c
-weight-opposite c = ap _⁺ (simp norm-weight at (norm-opposite ℤ-ordered c))
 
 -- z − C, from place `start` on; z stands at place 0
 abbrev pub constantResidual : ℕ → ℤ → List ℤ → List ℤ

@@ -37,7 +37,7 @@ module _ (O : OrderedRing) where
   -- s is the scale, m, n and b are the test's m, N and b, k = s − m, M is the weight of w and W its value, y is the value of h
   -- and ρ the radius, both over s, and v is allowed by f
   module _ (s m n b k M W y ρ v : A)
-      (scale-positive : ¬ (s ≼ ι (pos 0))) (room : k ⊕ m ≡ s) (contracting : ¬ (k ≼ ι (pos 0))) (ρ-nonneg : ι (pos 0) ≼ ρ)
+      (scale-positive : ¬ (s ≼ ι (pos 0))) (split : k ⊕ m ≡ s) (contracting : ¬ (k ≼ ι (pos 0))) (ρ-nonneg : ι (pos 0) ≼ ρ)
       (helper-residual : abs (s ⊕ ⊖ (ι (pos 2) ⊗ W ⊗ y)) ≼ m) (root-residual : abs (s ⊗ (y ⊗ y ⊕ ⊖ v)) ≼ n)
       (helper-positive : ¬ (W ≼ ι (pos 0))) (helper-weight : W ≼ M)
       (displaced : M ⊗ n ≼ b ⊗ s) (radius : ι (pos 2) ⊗ b ⊗ s ≼ ρ ⊗ s ⊗ k) where
@@ -52,7 +52,7 @@ module _ (O : OrderedRing) where
 
     -- k ≤ 2·W·y
     product-low : k ≼ ι (pos 2) ⊗ W ⊗ y
-    product-low = by-certificate O (gap O (abs-upper O helper-residual)) (rw (← room) (solve ring (m ∷ k ∷ W ∷ y ∷ []) (search reify depth 20) (search reify depth 20) tt))
+    product-low = by-certificate O (gap O (abs-upper O helper-residual)) (rw (← split) (solve ring (m ∷ k ∷ W ∷ y ∷ []) (search reify depth 20) (search reify depth 20) tt))
 
     root-positive : ¬ (y ≼ ι (pos 0))
     root-positive below = contracting (by-certificate O (_⊞_ O (gap O product-low) (_⊠_ O (_⊠_ O two (lt-le O helper-positive)) (gap O below))) (solve ring (k ∷ W ∷ y ∷ []) (search reify depth 20) (search reify depth 20) tt))

@@ -9,14 +9,16 @@ use lib.Dec.{ltb}
 use lib.IntN.{ℤ, pos}
 use lib.Signed.{_<ℤ_, leZ}
 use borrow.Author.Tests.{ltb-false, leb-false, not-false, le-ltb, lt-leb}
-use Rattle.integer.specs.Parts.{le-yes, le-no}
+use Rattle.integer.specs.Parts.{le-yes}
 use Rattle.integer.specs.Difference.{<-parts}
+use Rattle.integer.specs.Machine.{le-false}
 use Rattle.chebyshev.specs.Coefficients.{weight}
+use Rattle.chebyshev.specs.Sign.{coefficientSum}
 use Rattle.model.specs.Models.{scale, maxRadius, good, tooLarge}
 use Rattle.model.specs.RefusalLaws.{Passed, first-refusal-zero}
 use Rattle.model.specs.declared.types.Model.{Model}
-use Rattle.certificate.specs.TestLaws.{tested-zero}
-use Rattle.certificate.specs.Tests.{scratchPlaces, rootOf, rootPlaces, rootModel, rootContraction, rootResidual, displacement, total, tested}
+use Rattle.certificate.specs.Stages.{tested-zero}
+use Rattle.certificate.specs.Tests.{scratchPlaces, rootOf, rootPlaces, rootModel, rootContraction, rootResidual, displacement, tested}
 
 -- b and the result of the test
 abbrev pub rootDisplacement : Model → Model → Model → ℕ
@@ -36,16 +38,13 @@ pub record RootConditions (len : ℕ) (f h w : Model) : Type 0 where
   pub good-f : good f ≡ true
   pub good-h : good h ≡ true
   pub good-w : good w ≡ true
-  pub helper : pos 0 <ℤ total (w .coefficients)
+  pub helper : pos 0 <ℤ coefficientSum (w .coefficients)
   pub contraction : rootContraction h w < scale
   pub residual : rootResidual f h ≤ maxRadius
   pub discriminant : 8 * rootDisplacement f h w * weight (w .coefficients) ≤ (scale - rootContraction h w) * (scale - rootContraction h w)
 
 not-of-true : (t : Bool) → t ≡ true → not t ≡ false
 not-of-true t e = ap not e
-
-above-positive : (z : ℤ) → leZ z (pos 0) ≡ false → pos 0 <ℤ z
-above-positive z e = <-parts (pos 0) z .1 (omega (arith, le-no z (pos 0) e))
 
 positive-above : (z : ℤ) → pos 0 <ℤ z → leZ z (pos 0) ≡ false
 positive-above z h = pick (leZ z (pos 0)) refl
@@ -68,7 +67,7 @@ module _ (len : ℕ) (f h w : Model) where
       good-f = not-false (good f) (p .1 .0);
       good-h = not-false (good h) (p .1 .1 .0);
       good-w = not-false (good w) (p .1 .1 .1 .0);
-      helper = above-positive (total (w .coefficients)) (p .1 .1 .1 .1 .0);
+      helper = le-false (coefficientSum (w .coefficients)) (pos 0) (p .1 .1 .1 .1 .0);
       contraction = leb-false scale (rootContraction h w) (p .1 .1 .1 .1 .1 .0);
       residual = ltb-false maxRadius (rootResidual f h) (p .1 .1 .1 .1 .1 .1 .0);
       discriminant = ltb-false _ _ (p .1 .1 .1 .1 .1 .1 .1 .0);

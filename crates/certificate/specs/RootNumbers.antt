@@ -7,9 +7,10 @@ use lib.IntN.{pos}
 use lib.Signed.{leZ}
 use borrow.Author.Tests.{lt-ltb, le-ltb, le-leb, lt-leb}
 use Rattle.chebyshev.specs.Coefficients.{weight}
+use Rattle.chebyshev.specs.Sign.{coefficientSum}
 use Rattle.model.specs.Models.{scale, maxRadius, good, numberOf, firstRefusal}
 use Rattle.model.specs.declared.types.Model.{Model}
-use Rattle.certificate.specs.Tests.{scratchPlaces, total, rootPlaces, rootContraction, rootResidual, displacement}
+use Rattle.certificate.specs.Tests.{scratchPlaces, rootPlaces, rootContraction, rootResidual, displacement}
 use Rattle.certificate.specs.Stages.{bad-model}
 use Rattle.certificate.specs.declared.types.RootNumbers.{RootNumbers}
 use Rattle.certificate.specs.declared.types.RootNumbers.the-variants.{Refused, Reached}
@@ -36,7 +37,7 @@ module _ (len : ℕ) (f h w : Model) where
   root-short e = rw (lt-ltb len scratchPlaces e)
 
   module _ (room : scratchPlaces ≤ len) where
-    -- any room is as good
+    -- a scratch that is long enough plays no further part
     pub root-room : rootOutcome len f h w ≡ rootOutcome scratchPlaces f h w
     unfolding rootOutcome rootPlaces
     root-room = rw (le-ltb len scratchPlaces room)
@@ -46,11 +47,11 @@ module _ (len : ℕ) (f h w : Model) where
     root-bad e = rw (le-ltb len scratchPlaces room, bad-model true (good f) (good h) (good w) _ e)
 
     module _ (gf : good f ≡ true) (gh : good h ≡ true) (gw : good w ≡ true) where
-      pub root-helper : leZ (total (w .coefficients)) (pos 0) ≡ true → rootOutcome len f h w ≡ refused 7
+      pub root-helper : leZ (coefficientSum (w .coefficients)) (pos 0) ≡ true → rootOutcome len f h w ≡ refused 7
       unfolding rootOutcome rootPlaces firstRefusal
       root-helper e = rw (le-ltb len scratchPlaces room, gf, gh, gw, e)
 
-      module _ (positive : leZ (total (w .coefficients)) (pos 0) ≡ false) where
+      module _ (positive : leZ (coefficientSum (w .coefficients)) (pos 0) ≡ false) where
         pub root-not-contracting : scale ≤ rootContraction h w → rootOutcome len f h w ≡ refused 5
         unfolding rootOutcome rootPlaces firstRefusal
         root-not-contracting e = rw (le-ltb len scratchPlaces room, gf, gh, gw, positive, le-leb scale (rootContraction h w) e)

@@ -1,5 +1,5 @@
 -- 01, of the root's radius: "which these limits keep at or below 2^27". So the place of the result never refuses a root.
-use mathlib.Core.Path.{_≡_, refl, ap}
+use mathlib.Core.Path.{_≡_, refl, _∙_, ap}
 use mathlib.Core.Logic.{_≢_}
 use mathlib.Core.Bool.{Bool, true, false, cond}
 use mathlib.Core.List.{List, [], _∷_, _++_}
@@ -8,6 +8,7 @@ use native.Mathlib.Omega.{arith}
 use native.Mathlib.Nat.{mul-le-mul, mul-le-mul-left, le-of-mul-le-mul-left}
 use lib.IntN.{pos, natAbs, _-ℤ_}
 use lib.ListN.{getD}
+use borrow.Author.Tests.{le-ltb}
 use Rattle.integer.specs.Parts.{abs, difference}
 use Rattle.integer.specs.Integer.{ℤ-ring}
 use Rattle.integer.specs.RoundingLaws.{le-upℕ, upℕ-least}
@@ -15,14 +16,14 @@ use Rattle.chebyshev.specs.Coefficients.{weight, subtractLists}
 use Rattle.chebyshev.specs.CoefficientLaws.{getD-subtract}
 use Rattle.chebyshev.specs.Weight.{weight-at, weight-take}
 use Rattle.chebyshev.specs.ProductWeight.{weight-product}
-use Rattle.model.specs.Models.{scale, productPlaces, terms, tooLarge, firstRefusal}
+use Rattle.model.specs.Models.{scale, maxRadius, productPlaces, terms, tooLarge, firstRefusal}
 use Rattle.model.specs.ModelLaws.{good-is}
 use Rattle.model.specs.RefusalLaws.{Passed}
 use Rattle.model.specs.Operations.{productList}
 use Rattle.model.specs.declared.types.Model.{Model}
 use Rattle.certificate.specs.Tests.{rootOf, rootPlaces, rootModel, rootContraction, tested}
-use Rattle.certificate.specs.TestLaws.{radius-fits}
-use Rattle.certificate.specs.RootConditions.{RootConditions, rootDisplacement, rootResult, negativeDiscriminant, root-conditions, root-passes, root-result}
+use Rattle.certificate.specs.Stages.{large-radius}
+use Rattle.certificate.specs.RootConditions.{RootConditions, rootDisplacement, rootResult, negativeDiscriminant, root-conditions}
 
 -- S² ≤ m·S + 2·M·H: the place 0 of S² − C(w,h)
 pub square-bound : (h w : Model) → scale * scale ≤ rootContraction h w * scale + 2 * weight (w .coefficients) * weight (h .coefficients)
@@ -46,8 +47,8 @@ square-bound h w =
     )
 
 -- 8·b·p·S ≤ 2^29·8·b·M ≤ 2^29·p²
-pub quotient-bound : (p b M : ℕ) → 0 < p → p * scale ≤ 2 ^ 29 * M → 8 * b * M ≤ p * p → 2 * b * scale ≤ 2 ^ 27 * p
-quotient-bound p b M h k d = le-of-mul-le-mul-left {m = 2 * b * scale} {n = 2 ^ 27 * p} {k = p} (omega (arith, mul-le-mul-left (8 * b) k)) h
+pub numerator-bound : (p b M : ℕ) → 0 < p → p * scale ≤ 2 ^ 29 * M → 8 * b * M ≤ p * p → 2 * b * scale ≤ 2 ^ 27 * p
+numerator-bound p b M h k d = le-of-mul-le-mul-left {m = 2 * b * scale} {n = 2 ^ 27 * p} {k = p} (omega (arith, mul-le-mul-left (8 * b) k)) h
 
 -- ---- a last place that is never used
 
@@ -72,17 +73,14 @@ module _ (len : ℕ) (f h w : Model) where
   root-radius-bound c =
       let p = scale - rootContraction h w in
       upℕ-least (2 * rootDisplacement f h w * scale) p (2 ^ 27) (omega (arith, c .contraction))
-      (quotient-bound p (rootDisplacement f h w) (weight (w .coefficients)) (omega (arith, c .contraction))
+      (numerator-bound p (rootDisplacement f h w) (weight (w .coefficients)) (omega (arith, c .contraction))
       (omega (arith, square-bound h w, mul-le-mul-left (2 * weight (w .coefficients)) (good-is h (c .good-h) .weight-fits), c .contraction))
       (c .discriminant))
 
   -- the result of a test whose other places pass is not too large
   pub root-fits : RootConditions len f h w → tooLarge (rootResult f h w) ≡ false
   unfolding rootModel
-  root-fits c = radius-fits h ((rootResult f h w) .radius) (c .good-h) .1 (omega (arith, root-radius-bound c))
-
-  pub root-radius : (rootOf len f h w) .number ≡ 0 → (rootOf len f h w) .model .radius ≤ 2 ^ 27
-  root-radius e = rw (root-result len f h w e) (root-radius-bound (root-passes len f h w .0 e .0))
+  root-fits c = let radius = (rootResult f h w) .radius in large-radius h radius (c .good-h) ∙ le-ltb maxRadius radius (omega (arith, root-radius-bound c))
 
   -- refusal 3 is never answered
   pub root-never-large : (rootOf len f h w) .number ≢ 3

@@ -1,11 +1,11 @@
 -- The root test is sound: where it passes, every value v that f allows at a fraction x of [−1, 1] is above 0, and its root
 -- lies between y − ρ and y + ρ, where y is h(x) and ρ the radius. No square root is taken: squares are compared.
-use mathlib.Core.Path.{_≡_, refl, sym, _∙_, ap}
+use mathlib.Core.Path.{_≡_, sym, _∙_, ap}
 use mathlib.Core.Logic.{_⊎_, inl, inr}
-use mathlib.Core.List.{List, [], _∷_}
+use mathlib.Core.List.{[], _∷_}
 use Prim.Native.Nat.{ℕ, _+_, _*_, _-_}
 use native.Mathlib.Omega.{arith}
-use lib.IntN.{ℤ, pos, _+ℤ_}
+use lib.IntN.{pos}
 use Rattle.integer.specs.Embedding.{ι-nonneg}
 use Rattle.integer.specs.Integer.{ℤ-ring}
 use Rattle.integer.specs.OrderedRing.{_⟨≼⟩_, by-certificate, gap, abs-le, abs-upper, abs-lower, le-of-eq}
@@ -18,14 +18,14 @@ use Rattle.integer.specs.RoundingLaws.{le-upℕ}
 use Rattle.chebyshev.specs.Coefficients.{weight, subtractLists, scaleList}
 use Rattle.chebyshev.specs.CoefficientLaws.{value-constant}
 use Rattle.chebyshev.specs.Allows.{allows, allows-quotient}
-use Rattle.chebyshev.specs.Sign.{coefficientSum, helper-positive}
+use Rattle.chebyshev.specs.Sign.{helper-positive}
 use Rattle.model.specs.Models.{scale}
 use Rattle.model.specs.Values.{Allows, OnInterval}
 use Rattle.model.specs.ValueLaws.{valueAt, valueAt-scale, valueAt-weight, valueAt-difference}
 use Rattle.model.specs.GoodLaws.{value-productList}
 use Rattle.model.specs.Operations.{productList}
 use Rattle.model.specs.declared.types.Model.{Model}
-use Rattle.certificate.specs.Tests.{Test, rootOf, rootModel, rootContraction, rootResidual, displacement, total}
+use Rattle.certificate.specs.Tests.{Test, rootOf, rootModel, rootContraction, rootResidual, displacement}
 use Rattle.certificate.specs.RootAlgebra.{helper-bound, residual-bound, root-algebra, root-choice}
 use Rattle.certificate.specs.RootConditions.{RootConditions, rootDisplacement, rootResult, root-passes, root-result}
 
@@ -64,22 +64,16 @@ between-allows m x r above below =
 
 -- ---- the two residuals at x
 
--- Σ w_k
-total-sum : (a : List ℤ) → total a ≡ coefficientSum a
-unfolding total coefficientSum
-total-sum [] = refl
-total-sum (c ∷ a) = ap (λ s. c +ℤ s) (total-sum a)
-
 module _ (len : ℕ) (f h w : Model) (c : RootConditions len f h w) where
   -- weight(S² − C(w,h)) and weight(C(h,h) − 2S·f)
-  abbrev helperWeight : ℕ
-  helperWeight = weight (subtractLists ℤ-ring (pos (scale * scale) ∷ []) (productList w h))
+  abbrev contractionWeight : ℕ
+  contractionWeight = weight (subtractLists ℤ-ring (pos (scale * scale) ∷ []) (productList w h))
 
-  abbrev rootWeight : ℕ
-  rootWeight = weight (subtractLists ℤ-ring (productList h h) (scaleList ℤ-ring (pos (2 * scale)) (f .coefficients)))
+  abbrev residualWeight : ℕ
+  residualWeight = weight (subtractLists ℤ-ring (productList h h) (scaleList ℤ-ring (pos (2 * scale)) (f .coefficients)))
 
   helper-distance : (x : ℚ) → OnInterval x
-      → ∣ whole (pos scale) *ℚ whole (pos scale) -ℚ whole (pos 2) *ℚ valueAt x (w .coefficients) *ℚ valueAt x (h .coefficients) ∣ℚ ≤ℚ whole (pos helperWeight)
+      → ∣ whole (pos scale) *ℚ whole (pos scale) -ℚ whole (pos 2) *ℚ valueAt x (w .coefficients) *ℚ valueAt x (h .coefficients) ∣ℚ ≤ℚ whole (pos contractionWeight)
   helper-distance x on =
       rw (← natural-mul scale scale, value-productList w h (c .good-w) (c .good-h) x)
       (rw (value-constant ℚ-ring x (whole (pos (scale * scale)))) at (valueAt-difference on (pos (scale * scale) ∷ []) (productList w h)))
@@ -88,9 +82,9 @@ module _ (len : ℕ) (f h w : Model) (c : RootConditions len f h w) where
   helper-value : (x : ℚ) → OnInterval x → whole (pos 0) <ℚ valueAt x (w .coefficients)
   unfolding rootContraction
   helper-value x on =
-      helper-positive (whole (pos scale) *ℚ whole (pos scale)) (whole (pos helperWeight)) (w .coefficients) (h .coefficients)
-      (rw total-sum at (c .helper))
-      (λ k. omega (arith, le-pos (scale * scale) helperWeight (whole-le _ _ .0 (rw (← natural-mul scale scale) at k)), le-upℕ helperWeight scale (omega arith), c .contraction))
+      helper-positive (whole (pos scale) *ℚ whole (pos scale)) (whole (pos contractionWeight)) (w .coefficients) (h .coefficients)
+      (c .helper)
+      (λ k. omega (arith, le-pos (scale * scale) contractionWeight (whole-le _ _ .0 (rw (← natural-mul scale scale) at k)), le-upℕ contractionWeight scale (omega arith), c .contraction))
       (λ y k. helper-distance y (record { above = abs-lower ℚ-ordered k; below = abs-upper ℚ-ordered k }))
       x (abs-le ℚ-ordered (on .below) (on .above))
 
@@ -102,16 +96,16 @@ module _ (len : ℕ) (f h w : Model) (c : RootConditions len f h w) where
     helper-residual : ∣ whole (pos scale) -ℚ whole (pos 2) *ℚ valueAt x (w .coefficients) *ℚ y ∣ℚ ≤ℚ whole (pos (rootContraction h w))
     unfolding rootContraction
     helper-residual =
-        up-bound helperWeight scale (whole (pos scale) -ℚ whole (pos 2) *ℚ valueAt x (w .coefficients) *ℚ y) (omega arith)
-        (helper-bound ℚ-ordered (whole (pos scale)) (valueAt x (w .coefficients)) (valueAt x (h .coefficients)) y (whole (pos helperWeight)) (units-scale (valueAt x (h .coefficients))) (helper-distance x on))
+        up-bound contractionWeight scale (whole (pos scale) -ℚ whole (pos 2) *ℚ valueAt x (w .coefficients) *ℚ y) (omega arith)
+        (helper-bound ℚ-ordered (whole (pos scale)) (valueAt x (w .coefficients)) (valueAt x (h .coefficients)) y (whole (pos contractionWeight)) (units-scale (valueAt x (h .coefficients))) (helper-distance x on))
 
     -- S·|y² − v| ≤ N
     root-residual : ∣ whole (pos scale) *ℚ (y *ℚ y -ℚ v) ∣ℚ ≤ℚ whole (pos (rootResidual f h))
     unfolding rootResidual Allows allows
     root-residual =
-        up-bound (rootWeight + 2 * scale * f .radius) (2 * scale) (whole (pos scale) *ℚ (y *ℚ y -ℚ v)) (omega arith)
-        (rw (natural-add rootWeight (2 * scale * f .radius), natural-mul (2 * scale) (f .radius), natural-mul 2 scale)
-        (residual-bound ℚ-ordered (whole (pos scale)) (valueAt x (f .coefficients)) (valueAt x (h .coefficients)) y v (whole (pos rootWeight)) (whole (pos (f .radius)))
+        up-bound (residualWeight + 2 * scale * f .radius) (2 * scale) (whole (pos scale) *ℚ (y *ℚ y -ℚ v)) (omega arith)
+        (rw (natural-add residualWeight (2 * scale * f .radius), natural-mul (2 * scale) (f .radius), natural-mul 2 scale)
+        (residual-bound ℚ-ordered (whole (pos scale)) (valueAt x (f .coefficients)) (valueAt x (h .coefficients)) y v (whole (pos residualWeight)) (whole (pos (f .radius)))
         (ι-nonneg ℚ-ordered scale) (units-scale (valueAt x (h .coefficients)))
         (rw (value-productList h h (c .good-h) (c .good-h) x, ← natural-mul 2 scale, ← valueAt-scale x (pos (2 * scale)) (f .coefficients)) (valueAt-difference on (productList h h) (scaleList ℤ-ring (pos (2 * scale)) (f .coefficients))))
         allowed))

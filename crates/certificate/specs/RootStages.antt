@@ -10,10 +10,11 @@ use lib.Signed.{_<ℤ_}
 use borrow.Author.Tests.{ltb-false, leb-false, not-false, ne-eqb}
 use Rattle.integer.specs.Machine.{le-false}
 use Rattle.chebyshev.specs.Coefficients.{weight}
+use Rattle.chebyshev.specs.Sign.{coefficientSum}
 use Rattle.model.specs.Models.{scale, maxRadius, good, tooLarge, firstRefusal}
 use Rattle.model.specs.RefusalLaws.{Passed, first-refusal-zero}
 use Rattle.model.specs.declared.types.Model.{Model}
-use Rattle.certificate.specs.Tests.{tested, total, rootOf, rootPlaces, rootContraction, rootResidual, rootModel, displacement}
+use Rattle.certificate.specs.Tests.{tested, rootOf, rootPlaces, rootContraction, rootResidual, rootModel, displacement}
 use Rattle.certificate.specs.Stages.{refusedTest}
 use Rattle.certificate.specs.RootNumbers.{refused, reached, rootOutcome}
 
@@ -48,12 +49,11 @@ module _ (len : ℕ) (f h w : Model) where
   pub record RootReached (M m n b : ℕ) : Type 0 where
     pub good-h : good h ≡ true
     pub good-w : good w ≡ true
-    pub positive : pos 0 <ℤ total (w .coefficients)
+    pub positive : pos 0 <ℤ coefficientSum (w .coefficients)
     pub contracting : m < scale
     pub small : n ≤ maxRadius
     pub is-M : M ≡ weight (w .coefficients)
     pub is-m : m ≡ rootContraction h w
-    pub is-n : n ≡ rootResidual f h
     pub is-b : b ≡ displacement w n
     pub last : rootOf len f h w ≡ tested (lastPlaces m b) (rootModel h m b) m n b
 
@@ -68,12 +68,11 @@ module _ (len : ℕ) (f h w : Model) where
       let eb : b ≡ displacement w n = cc in record {
         good-h = not-false (good h) (p .1 .1 .0);
         good-w = not-false (good w) (p .1 .1 .1 .0);
-        positive = le-false (total (w .coefficients)) (pos 0) (p .1 .1 .1 .1 .0);
+        positive = le-false (coefficientSum (w .coefficients)) (pos 0) (p .1 .1 .1 .1 .0);
         contracting = rw em (leb-false scale (rootContraction h w) (p .1 .1 .1 .1 .1 .0));
         small = rw en (ltb-false maxRadius (rootResidual f h) (p .1 .1 .1 .1 .1 .1 .0));
         is-M = cc;
         is-m = em;
-        is-n = en;
         is-b = eb;
         last = rw (eb, en, em) (tested-same (rootPlaces len f h w ++ _) _ _ _ _ _ (first-passed (rootPlaces len f h w) _ p));
       }

@@ -12,9 +12,10 @@ use lib.Signed.{_<ℤ_}
 use Rattle.integer.specs.Integer.{ℤ-ring}
 use Rattle.integer.specs.Rounding.{upℕ}
 use Rattle.chebyshev.specs.Coefficients.{weight, subtractLists, scaleList}
+use Rattle.chebyshev.specs.Sign.{coefficientSum}
 use Rattle.model.specs.Models.{scale, productPlaces, good, modelOf}
 use Rattle.model.specs.declared.types.Model.{Model}
-use Rattle.certificate.specs.Tests.{scratchPlaces, rootOf, rootModel, rootContraction, rootResidual, displacement, total}
+use Rattle.certificate.specs.Tests.{scratchPlaces, rootOf, rootModel, rootContraction, rootResidual, displacement}
 use Rattle.certificate.specs.TwoSums.{twoSumsList, productList-good}
 use Rattle.certificate.specs.RootConditions.{RootConditions, root-passes, root-result}
 use Rattle.certificate.specs.RootRadius.{root-radius-bound, root-fits}
@@ -42,7 +43,7 @@ rootRadius f h w = upℕ (2 * rootB f h w * scale) (scale - rootM h w)
 -- "The test: Σ w_k > 0, m < S, N ≤ 2^28, (S−m)² ≥ 8·b·M."
 abbrev pub RootHolds : Model → Model → Model → Type 0
 RootHolds f h w =
-    (pos 0 <ℤ total (w .coefficients)) × (rootM h w < scale) × (rootN f h ≤ 2 ^ 28)
+    (pos 0 <ℤ coefficientSum (w .coefficients)) × (rootM h w < scale) × (rootN f h ≤ 2 ^ 28)
     × (8 * rootB f h w * weight (w .coefficients) ≤ (scale - rootM h w) * (scale - rootM h w))
 
 contraction-is : (h w : Model) → good h ≡ true → good w ≡ true → rootContraction h w ≡ rootM h w

@@ -1,6 +1,6 @@
 -- The answers of the two tests, place by place.
 use mathlib.Core.Path.{_≡_, refl, _∙_}
-use mathlib.Core.Bool.{Bool, true, false, not, _&&_, _||_, cond}
+use mathlib.Core.Bool.{Bool, true, false, not, _&&_, cond, or-false}
 use mathlib.Core.List.{List, [], _∷_, _++_}
 use Prim.Native.Nat.{ℕ, _≤_, _<_}
 use native.Mathlib.Omega.{arith}
@@ -29,6 +29,10 @@ refusedTest k = record { number = k; model = zeroModel; m = 0; N = 0; b = 0 }
 abbrev pub passedTest : Model → ℕ → ℕ → ℕ → Test
 passedTest r m n b = record { number = 0; model = r; m = m; N = n; b = b }
 
+pub tested-zero : (ps : List (Bool × ℕ)) (r : Model) (m n b : ℕ) → firstRefusal ps ≡ 0 → tested ps r m n b ≡ passedTest r m n b
+unfolding tested
+tested-zero ps r m n b e = rw e
+
 pub tested-none : (r : Model) (m n b : ℕ) → tested [] r m n b ≡ passedTest r m n b
 unfolding tested firstRefusal
 tested-none r m n b = refl
@@ -48,7 +52,7 @@ module _ (m n : ℕ) (ps : List (Bool × ℕ)) (r : Model) (i j k : ℕ) where
   pub not-contracting : scale ≤ m → tested (testPlaces m n ++ ps) r i j k ≡ refusedTest 5
   not-contracting e = tested-refuse _ 5 _ r i j k (le-leb scale m e) (omega arith)
 
-  pub contracting : m < scale → tested (testPlaces m n ++ ps) r i j k ≡ tested ((ltb maxRadius n, 6) ∷ ps) r i j k
+  contracting : m < scale → tested (testPlaces m n ++ ps) r i j k ≡ tested ((ltb maxRadius n, 6) ∷ ps) r i j k
   contracting e = tested-pass _ 5 _ r i j k (lt-leb scale m e)
 
   pub large-residual : m < scale → maxRadius < n → tested (testPlaces m n ++ ps) r i j k ≡ refusedTest 6
@@ -59,16 +63,12 @@ module _ (m n : ℕ) (ps : List (Bool × ℕ)) (r : Model) (i j k : ℕ) where
 
 -- ---- the place of the result
 
--- a good model with another radius
+-- of a good model with another radius only the radius can be too large
 pub large-radius : (h : Model) (r : ℕ) → good h ≡ true → tooLarge (modelOf (h .degree) (h .coefficients) r) ≡ ltb maxRadius r
 unfolding tooLarge
 large-radius h r g =
     let p = good-is h g in
     rw (le-ltb maxWeight (weight (h .coefficients)) (p .weight-fits), le-ltb maxDegree (h .degree) (p .degree-fits)) (or-false (ltb maxRadius r))
-  where
-    or-false : (t : Bool) → (t || false) ≡ t
-    or-false true = refl
-    or-false false = refl
 
 -- ---- the scratch
 
@@ -96,7 +96,7 @@ module _ (len : ℕ) (f g h w : Model) where
   quotient-short e = tested-refuse _ 1 _ _ _ _ _ (lt-ltb len scratchPlaces e) (omega arith)
 
   module _ (room : scratchPlaces ≤ len) where
-    -- any room is as good
+    -- a scratch that is long enough plays no further part
     pub quotient-room : quotientOf len f g h w ≡ quotientOf scratchPlaces f g h w
     unfolding quotientOf
     quotient-room = rw (le-ltb len scratchPlaces room)

@@ -4,13 +4,16 @@ use mathlib.Core.Bool.{Bool, not, cond}
 use mathlib.Core.List.{List, [], _∷_, _++_}
 use Prim.Native.Nat.{ℕ, suc, _+_, _*_, _-_}
 use lib.Dec.{leb, ltb, eqb}
-use lib.IntN.{ℤ, pos, _+ℤ_}
+use lib.IntN.{ℤ, pos}
 use lib.Signed.{leZ}
 use lib.ListN.{replicate, drop, length}
 use Rattle.integer.specs.Integer.{ℤ-ring}
 use Rattle.integer.specs.Rounding.{upℕ}
 use Rattle.chebyshev.specs.Coefficients.{weight, subtractLists, scaleList}
-use Rattle.model.specs.Models.{scale, productPlaces, maxRadius, terms, good, tooLarge, modelOf, zeroModel, numberOf, firstRefusal, candidateModel}
+use Rattle.chebyshev.specs.Sign.{coefficientSum}
+-- the name by which job's example unfolds it
+unfoldable pub use Rattle.chebyshev.specs.Sign.{coefficientSum as total}
+use Rattle.model.specs.Models.{scale, productPlaces, maxRadius, good, tooLarge, modelOf, zeroModel, numberOf, firstRefusal, candidateModel}
 use Rattle.model.specs.Operations.{productList}
 use Rattle.model.specs.declared.types.Model.{Model}
 use Rattle.model.specs.declared.types.Candidate.{Candidate}
@@ -28,7 +31,7 @@ scratchAfter s = cond (leb scratchPlaces (length s)) (replicate scratchPlaces (p
 
 -- ---- the numbers of the tests; "inside weight( ) a bare number stands at place 0"
 
--- b = up(M·N/S)
+-- "b = up(M·N/S)"
 unfoldable pub displacement : Model → ℕ → ℕ
 displacement w n = upℕ (weight (w .coefficients) * n) scale
 
@@ -67,11 +70,6 @@ rootResidual f h =
 unfoldable pub rootModel : Model → ℕ → ℕ → Model
 rootModel h m b = modelOf (h .degree) (h .coefficients) (upℕ (2 * b * scale) (scale - m))
 
--- Σ w_k
-unfoldable pub total : List ℤ → ℤ
-total [] = pos 0
-total (c ∷ cs) = c +ℤ total cs
-
 -- ---- the answers: number, model, m, N and b, all zero on refusal
 
 pub record Test : Type 0 where
@@ -97,7 +95,7 @@ tested ps r m n b = record {
 abbrev pub testPlaces : ℕ → ℕ → List (Bool × ℕ)
 testPlaces m n = (leb scale m, 5) ∷ (ltb maxRadius n, 6) ∷ []
 
--- Quotient f/g. "The test: m < S and N ≤ 2^28."
+-- Quotient f/g. "each model, in operand order, h then w"; "The test: m < S and N ≤ 2^28."
 abbrev pub quotientPlaces : ℕ → Model → Model → Model → Model → List (Bool × ℕ)
 quotientPlaces len f g h w =
     let m = quotientContraction g w in
@@ -112,11 +110,11 @@ quotientOf len f g h w =
     let b = displacement w n in
     tested (quotientPlaces len f g h w) (quotientModel h m b) m n b
 
--- Root of f, through N: the places that every root command shares
+-- Root of f, through N: the places that every root command shares; "root: helper", 7, "Σ w_k ≤ 0"
 unfoldable pub rootPlaces : ℕ → Model → Model → Model → List (Bool × ℕ)
 rootPlaces len f h w =
     (ltb len scratchPlaces, 1) ∷ (not (good f), 2) ∷ (not (good h), 2) ∷ (not (good w), 2)
-    ∷ (leZ (total (w .coefficients)) (pos 0), 7) ∷ testPlaces (rootContraction h w) (rootResidual f h)
+    ∷ (leZ (coefficientSum (w .coefficients)) (pos 0), 7) ∷ testPlaces (rootContraction h w) (rootResidual f h)
 
 -- "The test: Σ w_k > 0, m < S, N ≤ 2^28, (S−m)² ≥ 8·b·M."
 abbrev pub rootTestPlaces : ℕ → Model → Model → Model → List (Bool × ℕ)

@@ -11,7 +11,7 @@ use Rattle.integer.specs.Integer.{ℤ-ring}
 use Rattle.chebyshev.specs.Product.{product}
 use Rattle.chebyshev.specs.ProductLaws.{length-product}
 use Rattle.chebyshev.specs.ProductSums.{twoSums, product-two-sums}
-use Rattle.model.specs.Models.{productPlaces, terms, good}
+use Rattle.model.specs.Models.{productPlaces, good}
 use Rattle.model.specs.GoodLaws.{product-coefficients}
 use Rattle.model.specs.Operations.{productList}
 use Rattle.model.specs.declared.types.Model.{Model}
@@ -37,7 +37,7 @@ at-tabulate zero f k h = absurd (omega arith)
 at-tabulate (suc n) f zero h = refl
 at-tabulate (suc n) f (suc k) h = at-tabulate n (λ k. f (suc k)) k (omega arith)
 
-pub product-two-sums-list : (width : ℕ) (a b : List ℤ) → product ℤ-ring width a b ≡ twoSumsList width a b
+product-two-sums-list : (width : ℕ) (a b : List ℤ) → product ℤ-ring width a b ≡ twoSumsList width a b
 unfolding twoSumsList
 product-two-sums-list width a b =
     ext-getD (pos 0) (product ℤ-ring width a b) (tabulate width (λ k. twoSums ℤ-ring k a b))
@@ -45,11 +45,6 @@ product-two-sums-list width a b =
     (λ k h.
     let l : k < width = rw (length-product ℤ-ring) at h in
     product-two-sums ℤ-ring width a b k l ∙ sym (at-tabulate width (λ k. twoSums ℤ-ring k a b) k l))
-
--- up to the degrees
-pub productList-two-sums : (a b : Model) → productList a b ≡ twoSumsList productPlaces (terms a) (terms b)
-unfolding productList
-productList-two-sums a b = product-two-sums-list productPlaces (terms a) (terms b)
 
 -- of good models, over all coefficients
 pub productList-good : (a b : Model) → good a ≡ true → good b ≡ true → productList a b ≡ twoSumsList productPlaces (a .coefficients) (b .coefficients)

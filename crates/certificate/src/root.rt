@@ -7,8 +7,9 @@ ghost use lib.Dec.{ltb};
 ghost use lib.ListN.{length};
 ghost use Rattle.integer.specs.Clearing.{zeros};
 ghost use Rattle.chebyshev.specs.Coefficients.{weight as weightOf};
+ghost use Rattle.chebyshev.specs.Sign.{coefficientSum};
 ghost use Rattle.model.specs.Models.{scale, places, maxWeight, good, tooLarge, candidateModel};
-ghost use Rattle.certificate.specs.Tests.{scratchPlaces, scratchAfter, total as totalOf, testOf, tested, rootModel, rootTest};
+ghost use Rattle.certificate.specs.Tests.{scratchPlaces, scratchAfter, testOf, tested, rootModel, rootTest};
 ghost use Rattle.certificate.specs.RootNumbers.{rootOutcomeOf, rootOutcome};
 use crate::numbers::SCALE;
 use crate::numbers::displacement;
@@ -29,7 +30,7 @@ use model::types::Verdict;
 // Σ w_k
 fn total(coefficients: &[i32; PLACES]) -> i64
     requires { ⌜ length (now coefficients) ≡ places ⌝ }
-    ensures { λ r. ⌜ r ≡ totalOf (now (coefficients .entry)) ⌝ }
+    ensures { λ r. ⌜ r ≡ coefficientSum (now (coefficients .entry)) ⌝ }
 {
     let mut sum: i64 = 0;
     let mut k = 0;

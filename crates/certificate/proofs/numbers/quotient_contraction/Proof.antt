@@ -12,7 +12,7 @@ use Rattle.model.specs.Operations.{productList}
 use Rattle.model.specs.declared.types.Model.{Model}
 use Rattle.certificate.specs.Tests.{quotientContraction}
 use Rattle.certificate.specs.Residuals.{constantResidual}
-use Rattle.certificate.proofs.Ranges.{weights-range, constant-range, error-range}
+use Rattle.certificate.proofs.Ranges.{weights-range, constant-range, ErrorTerm, error-term}
 use Rattle.certificate.proofs.numbers.quotient_contraction.Statement.{statement}
 use Rattle.certificate.proofs.numbers.quotient_contraction.Tie as tie
 
@@ -23,8 +23,8 @@ module _ (s : tie.Start) where
   abbrev w : Model
   w = candidateModel (s .args .t3)
 
-  error-is : s .args .weight * g .radius ≡ weight (w .coefficients) * g .radius
-  error-is = ap (λ (k : ℕ). k * g .radius) (s .pre .3)
+  error : ErrorTerm (s .args .weight) w g
+  error = error-term (s .args .weight) w g (s .pre .2) (s .pre .1) (s .pre .3)
 
 mul-constant-residual : tie.Need-mul-constant-residual
 mul-constant-residual c = search needs
@@ -45,29 +45,20 @@ module _ (c : tie.After-part) where
   unfolding productList
   distance-is = c .before .constant-residual .ensures .0
 
-  record Small : Type 0 where
-    distance : c .before .constant-residual .result ≤ 2 ^ 58
-    helper : s .args .weight ≤ 2 ^ 28
-    error : s .args .weight * g s .radius ≤ 2 ^ 56
-
-  small : Small
-  small = record {
-    distance = omega (arith, distance-is, constant-range (w s) (g s) (s .pre .2) (s .pre .1) (pos (2 ^ 41)));
-    helper = omega (arith, s .pre .3, good-is (w s) (s .pre .2) .weight-fits);
-    error = omega (arith, error-is s, error-range (w s) (g s) (s .pre .2) (s .pre .1));
-  }
+  distance-range : c .before .constant-residual .result ≤ 2 ^ 58
+  distance-range = omega (arith, distance-is, constant-range (w s) (g s) (s .pre .2) (s .pre .1) (pos (2 ^ 41)))
 
 mul-up-unsigned : tie.Need-mul-up-unsigned
-mul-up-unsigned c = omega (arith, small c)
+mul-up-unsigned c = omega (arith, error (s c))
 
 cast-up-unsigned : tie.Need-cast-up-unsigned
 cast-up-unsigned c = search needs
 
 mul-up-unsigned-2 : tie.Need-mul-up-unsigned-2
-mul-up-unsigned-2 c = omega (arith, small c)
+mul-up-unsigned-2 c = omega (arith, error (s c))
 
 add-up-unsigned : tie.Need-add-up-unsigned
-add-up-unsigned c = omega (arith, small c)
+add-up-unsigned c = omega (arith, distance-range c, error (s c))
 
 up-unsigned-requires : tie.Need-up-unsigned-requires
 up-unsigned-requires c κs = search needs
@@ -81,7 +72,7 @@ returns c =
     let d = c .before in
     let p = s d in
     let numerator : d .before .constant-residual .result + 2 * p .args .weight * g p .radius
-    ≡ weight (constantResidual 0 (pos (2 ^ 41)) (productList (w p) (g p))) + 2 * weight (w p .coefficients) * g p .radius = omega (arith, distance-is d, error-is p) in
+    ≡ weight (constantResidual 0 (pos (2 ^ 41)) (productList (w p) (g p))) + 2 * weight (w p .coefficients) * g p .radius = omega (arith, distance-is d, error p) in
     (c .up-unsigned .ensures ∙ ap (λ (n : ℕ). upℕ n (2 ^ 21)) numerator, d .before .constant-residual .ensures .1)
 
 pub quotient-contraction-spec : {M : Type 1} → statement M

@@ -11,7 +11,7 @@ use Rattle.model.specs.Operations.{productList}
 use Rattle.model.specs.declared.types.Model.{Model}
 use Rattle.certificate.specs.Tests.{quotientResidual}
 use Rattle.certificate.specs.Residuals.{residualList}
-use Rattle.certificate.proofs.Ranges.{weights-range, residual-range, error-range}
+use Rattle.certificate.proofs.Ranges.{weights-range, residual-range, ErrorTerm, error-term}
 use Rattle.certificate.proofs.numbers.quotient_residual.Statement.{statement}
 use Rattle.certificate.proofs.numbers.quotient_residual.Tie as tie
 
@@ -25,8 +25,11 @@ module _ (s : tie.Start) where
   abbrev h : Model
   h = candidateModel (s .args .t4)
 
-  error-is : s .args .weight * g .radius ≡ weight (h .coefficients) * g .radius
-  error-is = ap (λ (k : ℕ). k * g .radius) (s .pre .4)
+  error : ErrorTerm (s .args .weight) h g
+  error = error-term (s .args .weight) h g (s .pre .3) (s .pre .2) (s .pre .4)
+
+  radius-range : f .radius ≤ 2 ^ 28
+  radius-range = good-is f (s .pre .1) .radius-fits
 
 product-residual-requires : tie.Need-product-residual-requires
 product-residual-requires c κs =
@@ -44,40 +47,29 @@ module _ (c : tie.After-part) where
   unfolding productList
   distance-is = c .before .product-residual .ensures .0
 
-  record Small : Type 0 where
-    distance : c .before .product-residual .result ≤ 2 ^ 58
-    radius : f s .radius ≤ 2 ^ 28
-    answer : s .args .weight ≤ 2 ^ 28
-    error : s .args .weight * g s .radius ≤ 2 ^ 56
-
-  small : Small
-  small = record {
-    distance = omega (arith, distance-is, residual-range (g s) (h s) (s .pre .2) (s .pre .3) (f s) (s .pre .1));
-    radius = good-is (f s) (s .pre .1) .radius-fits;
-    answer = omega (arith, s .pre .4, good-is (h s) (s .pre .3) .weight-fits);
-    error = omega (arith, error-is s, error-range (h s) (g s) (s .pre .3) (s .pre .2));
-  }
+  distance-range : c .before .product-residual .result ≤ 2 ^ 58
+  distance-range = omega (arith, distance-is, residual-range (g s) (h s) (s .pre .2) (s .pre .3) (f s) (s .pre .1))
 
 cast-up-unsigned : tie.Need-cast-up-unsigned
 cast-up-unsigned c = search needs
 
 mul-up-unsigned : tie.Need-mul-up-unsigned
-mul-up-unsigned c = omega (arith, small c)
+mul-up-unsigned c = omega (arith, radius-range (s c))
 
 add-up-unsigned : tie.Need-add-up-unsigned
-add-up-unsigned c = omega (arith, small c)
+add-up-unsigned c = omega (arith, distance-range c, radius-range (s c))
 
 mul-up-unsigned-2 : tie.Need-mul-up-unsigned-2
-mul-up-unsigned-2 c = omega (arith, small c)
+mul-up-unsigned-2 c = omega (arith, error (s c))
 
 cast-up-unsigned-2 : tie.Need-cast-up-unsigned-2
 cast-up-unsigned-2 c = search needs
 
 mul-up-unsigned-3 : tie.Need-mul-up-unsigned-3
-mul-up-unsigned-3 c = omega (arith, small c)
+mul-up-unsigned-3 c = omega (arith, error (s c))
 
 add-up-unsigned-2 : tie.Need-add-up-unsigned-2
-add-up-unsigned-2 c = omega (arith, small c)
+add-up-unsigned-2 c = omega (arith, distance-range c, radius-range (s c), error (s c))
 
 up-unsigned-requires : tie.Need-up-unsigned-requires
 up-unsigned-requires c κs = search needs
@@ -91,7 +83,7 @@ returns c =
     let d = c .before in
     let p = s d in
     let numerator : d .before .product-residual .result + 2 ^ 21 * f p .radius + 2 * p .args .weight * g p .radius
-    ≡ weight (residualList (productList (g p) (h p)) (f p .coefficients)) + 2 ^ 21 * f p .radius + 2 * weight (h p .coefficients) * g p .radius = omega (arith, distance-is d, error-is p) in
+    ≡ weight (residualList (productList (g p) (h p)) (f p .coefficients)) + 2 ^ 21 * f p .radius + 2 * weight (h p .coefficients) * g p .radius = omega (arith, distance-is d, error p) in
     (c .up-unsigned .ensures ∙ ap (λ (n : ℕ). upℕ n (2 ^ 21)) numerator, d .before .product-residual .ensures .1)
 
 pub quotient-residual-spec : {M : Type 1} → statement M

@@ -34,7 +34,7 @@ returns c =
     let s = d .before .before in
     let e : toZ w64 (ofZ w64 (s .args .c)) ≡ s .args .c = toZ-ofZ (s .fits .c) in (
       c .before .drain-constant .ensures .0 ∙ ap₂ (λ z l. weight (constantResidual 0 z l)) e (d .form .ensures),
-      c .before .drain-constant .ensures .1 ∙ ap zeros (is-formed d .wide),
+      c .before .drain-constant .ensures .1 ∙ ap zeros (is-formed d .width),
     )
 
 pub constant-residual-spec : {M : Type 1} → statement M

@@ -9,7 +9,7 @@ use lib.ListN.{length, getD}
 use mir.Syntax.{w32, w64}
 use mir.Val.{SFits}
 use mir.Facts.{toZ-ofZ}
-use Rattle.integer.specs.Parts.{abs-sub, abs-mul}
+use Rattle.integer.specs.Parts.{abs-mul}
 use Rattle.integer.specs.Machine.{signed-needs, abs-fits, fits-widens}
 use Rattle.integer.specs.Clearing.{clearing-next}
 use Rattle.chebyshev.specs.Weight.{weight-at}
@@ -64,8 +64,8 @@ module _ (c : tie.After-magnitude-arg2 Inv-loop μ-loop) where
   inside : k < length C
   inside = omega arith
 
-  x-is : x ≡ getD C k (pos 0)
-  x-is = clearing-next (l .loop .inv .cleared)
+  difference-is : x -ℤ p ≡ getD (residualList C f) k (pos 0)
+  difference-is = ap (λ z. z -ℤ p) (clearing-next (l .loop .inv .cleared)) ∙ sym (at-residual C f k)
 
   fits-x : SFits w64 x
   fits-x = record { sfits = c .before .magnitude-arg .given }
@@ -77,9 +77,7 @@ module _ (c : tie.After-magnitude-arg2 Inv-loop μ-loop) where
   fits-p = abs-fits w64 p (omega (arith, abs-mul (pos 2097152) y, weight-at f k, l .before .pre))
 
   fits-d : SFits w64 (x -ℤ p)
-  fits-d =
-      abs-fits w64 (x -ℤ p)
-      (omega (arith, abs-sub x p, abs-mul (pos 2097152) y, weight-at f k, weight-at C k, ap natAbs x-is, l .before .pre))
+  fits-d = abs-fits w64 (x -ℤ p) (omega (arith, ap natAbs difference-is, weight-at (residualList C f) k, weight-residual C f, l .before .pre))
 
 cast-magnitude : tie.Need-cast-magnitude Inv-loop μ-loop
 cast-magnitude c = search signed-needs
@@ -97,8 +95,7 @@ size-is : (c : tie.After-magnitude Inv-loop μ-loop) → let b = c .before in c 
 size-is c =
     let b = c .before in
     (simp (toZ-ofZ (fits-y b), toZ-ofZ (fits-widens (fits-y b)), toZ-ofZ (fits-p b), toZ-ofZ (fits-x b), toZ-ofZ (fits-d b)) at (c .magnitude .ensures))
-    ∙ ap (λ z. natAbs (z -ℤ p b)) (x-is b)
-    ∙ ap natAbs (sym (at-residual (C b) (f b) (k b)))
+    ∙ ap natAbs (difference-is b)
 
 add-sum : tie.Need-add-sum Inv-loop μ-loop
 add-sum c = let b = c .before in omega (arith, draining-fits (l b .loop .inv) _ (inside b) (size-is c), weight-residual (C b) (f b), l b .before .pre)

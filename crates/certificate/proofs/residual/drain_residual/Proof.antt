@@ -32,8 +32,8 @@ module _ (c : tie.After-window) where
   first-length : length (take (length own) P) ≡ length own
   first-length = length-take-le (length own) P short
 
-  light : weight P + 2 * scale * weight own < 2 ^ 63
-  light =
+  weight-small : weight P + 2 * scale * weight own < 2 ^ 63
+  weight-small =
       omega (
         arith,
         c .before .pre,
@@ -50,7 +50,7 @@ slice-aggregate-drain-difference c = sym (first-length (c .before))
 
 drain-difference-requires : tie.Need-drain-difference-requires
 drain-difference-requires c κs =
-    let b = c .before in (sym (first-length b), omega (arith, light b, weight-take (length (own b)) (P b)))
+    let b = c .before in (sym (first-length b), omega (arith, weight-small b, weight-take (length (own b)) (P b)))
 
 mul-drain : tie.Need-mul-drain
 mul-drain c = search needs
@@ -81,7 +81,7 @@ drain-requires : tie.Need-drain-requires
 drain-requires c κs =
     let d = c .before in
     rw (second-part (P (b d)) (Z d) (length (own (b d))) (short (b d)) (length-Z d))
-    (omega (arith, light (b d), weight-drop (length (own (b d))) (P (b d))))
+    (omega (arith, weight-small (b d), weight-drop (length (own (b d))) (P (b d))))
 
 module _ (c : tie.After-part2) where
   abbrev d : tie.After-part
@@ -97,7 +97,7 @@ module _ (c : tie.After-part2) where
   sum-is = omega (arith, rest-is, d .before .drain-difference .ensures .0, weight-residual-split (P (b d)) (own (b d)) (short (b d)))
 
 add-result : tie.Need-add-result
-add-result c = omega (arith, sum-is c, weight-residual (P (b (d c))) (own (b (d c))), light (b (d c)))
+add-result c = omega (arith, sum-is c, weight-residual (P (b (d c))) (own (b (d c))), weight-small (b (d c)))
 
 same-length : tie.Need-same-length
 same-length c = search needs

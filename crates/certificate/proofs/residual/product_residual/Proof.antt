@@ -31,7 +31,7 @@ returns c =
     let f = s .args .f .now in
     let whole : take (length (d .form .last .0)) f ≡ f = take-all (length (d .form .last .0)) f (omega (arith, is-formed d, s .pre)) in (
       c .before .drain-residual .ensures .0 ∙ ap₂ (λ l k. weight (residualList l k)) (d .form .ensures) whole,
-      c .before .drain-residual .ensures .1 ∙ ap zeros (is-formed d .wide),
+      c .before .drain-residual .ensures .1 ∙ ap zeros (is-formed d .width),
     )
 
 pub product-residual-spec : {M : Type 1} → statement M

@@ -10,10 +10,11 @@ use mir.Syntax.{w64}
 use mir.Val.{SFits, toZ, ofZ}
 use mir.Facts.{toZ-ofZ}
 use Rattle.integer.specs.Rounding.{upℕ}
+use Rattle.chebyshev.specs.Sign.{coefficientSum}
 use Rattle.model.specs.Models.{scale, maxWeight, candidateModel}
 use Rattle.model.specs.ModelLaws.{good-is}
 use Rattle.model.specs.declared.types.Model.{Model}
-use Rattle.certificate.specs.Tests.{scratchPlaces, total, rootContraction, rootResidual, displacement}
+use Rattle.certificate.specs.Tests.{scratchPlaces, rootContraction, rootResidual, displacement}
 use Rattle.certificate.specs.RootNumbers.{reached, root-helper, root-not-contracting, root-large-residual, root-reached}
 use Rattle.certificate.proofs.root.numbers_of_good.Statement.{statement}
 use Rattle.certificate.proofs.root.numbers_of_good.Tie as tie
@@ -36,15 +37,15 @@ module _ (c : tie.After-total) where
   abbrev s : tie.Start
   s = c .before .before .before
 
-  sign-is : leZ (toZ w64 (ofZ w64 (c .total .result))) (pos 0) ≡ leZ (total (w s .coefficients)) (pos 0)
+  sign-is : leZ (toZ w64 (ofZ w64 (c .total .result))) (pos 0) ≡ leZ (coefficientSum (w s .coefficients)) (pos 0)
   sign-is =
       let fits : SFits w64 (c .total .result) = record { sfits = c .total .ok } in
       ap (λ z. leZ z (pos 0)) (toZ-ofZ fits ∙ c .total .ensures)
 
-not-positive : (c : tie.Then1) → leZ (total (w (s (c .before)) .coefficients)) (pos 0) ≡ true
+not-positive : (c : tie.Then1) → leZ (coefficientSum (w (s (c .before)) .coefficients)) (pos 0) ≡ true
 not-positive c = sym (sign-is (c .before)) ∙ c .if1 .taken
 
-positive : (c : tie.Else1) → leZ (total (w (s (c .before)) .coefficients)) (pos 0) ≡ false
+positive : (c : tie.Else1) → leZ (coefficientSum (w (s (c .before)) .coefficients)) (pos 0) ≡ false
 positive c = sym (sign-is (c .before)) ∙ c .if1 .left
 
 returns : tie.Need-returns

@@ -11,7 +11,7 @@ use Rattle.integer.specs.RoundingLaws.{upℕ-least}
 use Rattle.model.specs.Models.{scale, maxRadius, candidateModel, modelOf}
 use Rattle.certificate.specs.Tests.{testOf, rootModel}
 use Rattle.certificate.specs.Stages.{passedTest, tested-pass, tested-refuse, tested-none, large-radius}
-use Rattle.certificate.specs.RootRadius.{quotient-bound}
+use Rattle.certificate.specs.RootRadius.{numerator-bound}
 use Rattle.certificate.specs.Discriminant.{discriminant-quotient, discriminant-test}
 use Rattle.certificate.proofs.root.root_result.Statement.{statement}
 use Rattle.certificate.proofs.root.root_result.Tie as tie
@@ -37,7 +37,7 @@ radius-small c =
     let p = scale - s .args .m in
     let q = discriminant-quotient (s .args .b) (s .args .weight) (s .args .m) (s .pre .0 .1) .1 (c .before .if1 .taken) in
     rw (c .root-radius .ensures)
-    (upℕ-least (2 * s .args .b * scale) p (2 ^ 27) (omega arith) (quotient-bound p (s .args .b) (s .args .weight) (omega arith) (s .pre .1) q))
+    (upℕ-least (2 * s .args .b * scale) p (2 ^ 27) (omega arith) (numerator-bound p (s .args .b) (s .args .weight) (omega arith) (s .pre .1) q))
 
 cast-accepted : tie.Need-cast-accepted
 cast-accepted c = omega (arith, radius-small c)
