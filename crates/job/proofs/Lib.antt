@@ -1,5 +1,4 @@
 pub mod ByteLaws
-pub mod Stretches
 pub mod Results
 pub mod Loop
 pub mod OperationFits

@@ -8,13 +8,13 @@ use borrow.Author.Tests.{ltb-false, eqb-true, not-false}
 use lib.Dec.{ltb, eqb}
 use Rattle.chebyshev.specs.Coefficients.{weight}
 use Rattle.model.specs.Models.{maxDegree, maxWeight, maxRadius, good, tooLarge, zeroModel, firstRefusal, outcome}
+use Rattle.model.specs.Areas.{Storable}
 use Rattle.model.specs.ModelLaws.{good-is}
 use Rattle.model.specs.Operations.{sumModel, additionPlaces, addition, differenceModel, subtractionPlaces, subtraction, productModel, multiplicationPlaces, multiplication}
 use Rattle.model.specs.RefusalLaws.{Passed, Numbered, first-refusal-zero}
 use Rattle.certificate.specs.Tests.{tested, quotientPlaces, quotientOf, rootPlaces, rootTestPlaces, rootOf}
 use Rattle.model.specs.declared.types.Model.{Model}
 use Rattle.job.specs.Booleans.{or-false}
-use Rattle.job.specs.Work.{Storable}
 
 small-storable : (m : Model) → tooLarge m ≡ false → Storable m
 unfolding tooLarge

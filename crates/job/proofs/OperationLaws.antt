@@ -9,6 +9,7 @@ use lib.Dec.{eqb, leb}
 use lib.IntN.{ℤ}
 use lib.ListN.{length}
 use Rattle.model.specs.Models.{good, zeroModel, firstRefusal, Outcome, outcome}
+use Rattle.model.specs.Areas.{Storable}
 use Rattle.model.specs.Operations.{multiplication, productModel}
 use Rattle.certificate.specs.Tests.{scratchPlaces, quotientOf, rootPlaces, rootOf}
 use Rattle.model.specs.declared.types.Model.{Model}
@@ -16,7 +17,7 @@ use Rattle.job.specs.Booleans.{or-false}
 use Rattle.job.specs.Bytes.{byteAt}
 use Rattle.job.specs.Commands.{Command, maxResults, keptByte, badNames}
 use Rattle.job.specs.Jobs.{resultAt, operation}
-use Rattle.job.specs.Work.{workPlaces, stretch, Storable}
+use Rattle.job.specs.Work.{workPlaces, stretch}
 use Rattle.job.specs.Steps.{Holds, Performs}
 use Rattle.job.proofs.Results.{result-held}
 
