@@ -1,21 +1,22 @@
 -- The operations of commands on the results that a work area holds.
-use mathlib.Core.Path.{_≡_, refl, ap, ap₂, subst⁻¹, _∙_}
-use mathlib.Core.Bool.{Bool, true, false, not, _||_}
+use mathlib.Core.Path.{_≡_, ap, ap₂, subst⁻¹, _∙_}
+use mathlib.Core.Bool.{true, false, not, _||_}
 use mathlib.Core.List.{List, [], _∷_}
 use Prim.Native.Nat.{ℕ, _+_, _≤_, _<_}
-use borrow.Author.Tests.{leb-false, eqb-true, le-ltb}
+use borrow.Author.Tests.{leb-false, le-ltb, not-false}
 use native.Mathlib.Omega.{arith}
-use lib.Dec.{eqb, leb}
+use lib.Dec.{leb}
 use lib.IntN.{ℤ}
 use lib.ListN.{length}
 use Rattle.model.specs.Models.{good, zeroModel, firstRefusal, Outcome, outcome}
+use Rattle.model.specs.ModelLaws.{good-is}
 use Rattle.model.specs.Areas.{Storable}
-use Rattle.model.specs.Operations.{multiplication, productModel}
+use Rattle.model.specs.OutcomeFits.{answer-storable}
 use Rattle.certificate.specs.Tests.{scratchPlaces, quotientOf, rootPlaces, rootOf}
 use Rattle.model.specs.declared.types.Model.{Model}
 use Rattle.job.specs.Booleans.{or-false}
 use Rattle.job.specs.Bytes.{byteAt}
-use Rattle.job.specs.Commands.{Command, maxResults, keptByte, badNames}
+use Rattle.job.specs.Commands.{Command, maxResults, badNames}
 use Rattle.job.specs.Jobs.{resultAt, operation}
 use Rattle.job.specs.Work.{workPlaces, stretch}
 use Rattle.job.specs.Steps.{Holds, Performs}
@@ -35,6 +36,12 @@ performs e s g = record {
 -- the places and the answer of a load
 abbrev pub loaded : Model → Outcome
 loaded m = outcome ((not (good m), 2) ∷ []) m
+
+pub loaded-storable : (m : Model) → Storable (loaded m .model)
+unfolding outcome
+loaded-storable m =
+    answer-storable ((not (good m), 2) ∷ []) m (omega arith)
+    (λ p. let g = good-is m (not-false (good m) (p .0)) in (g .degree-fits, g .radius-fits))
 
 pub loaded-good : (m : Model) → good m ≡ true → record { number = 0; model = m } ≡ loaded m
 unfolding outcome firstRefusal

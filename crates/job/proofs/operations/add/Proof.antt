@@ -3,11 +3,11 @@ use Prim.Native.Nat.{_+_}
 use native.Mathlib.Omega.{arith}
 use denote.Ref.{now}
 use Rattle.model.specs.Operations.{addition}
+use Rattle.model.specs.OutcomeFits.{addition-storable}
 use Rattle.job.specs.Bytes.{byteAt}
 use Rattle.job.specs.Commands.{commandAt}
 use Rattle.job.specs.Jobs.{operation}
 use Rattle.job.proofs.OperationLaws.{performs, pair-named, held-two}
-use Rattle.job.proofs.OperationFits.{addition-storable}
 use borrow.Author.Needs.{needs}
 use Rattle.job.proofs.operations.add.Statement.{statement}
 use Rattle.job.proofs.operations.add.Tie as tie

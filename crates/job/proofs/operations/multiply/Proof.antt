@@ -4,11 +4,11 @@ use Prim.Native.Nat.{ℕ, _+_}
 use native.Mathlib.Omega.{arith}
 use denote.Ref.{now}
 use Rattle.model.specs.Operations.{multiplication}
+use Rattle.model.specs.OutcomeFits.{multiplication-storable}
 use Rattle.job.specs.Bytes.{byteAt}
 use Rattle.job.specs.Commands.{commandAt, keptByte}
 use Rattle.job.specs.Jobs.{operation}
 use Rattle.job.proofs.OperationLaws.{performs, pair-named, held-two}
-use Rattle.job.proofs.OperationFits.{multiplication-storable}
 use borrow.Author.Needs.{needs}
 use Rattle.job.proofs.operations.multiply.Statement.{statement}
 use Rattle.job.proofs.operations.multiply.Tie as tie

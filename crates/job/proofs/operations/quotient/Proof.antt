@@ -5,11 +5,11 @@ use native.Mathlib.Omega.{arith}
 use lib.ListN.{length}
 use denote.Ref.{now}
 use Rattle.certificate.specs.Tests.{scratchPlaces, quotientOf}
+use Rattle.certificate.specs.TestFits.{quotient-storable}
 use Rattle.job.specs.Bytes.{byteAt, blockAt}
 use Rattle.job.specs.Commands.{commandAt}
 use Rattle.job.specs.Jobs.{fromTest, operation}
 use Rattle.job.proofs.OperationLaws.{performs, pair-named, held-two, quotient-long}
-use Rattle.job.proofs.OperationFits.{quotient-storable}
 use borrow.Author.Needs.{needs}
 use Rattle.job.proofs.operations.quotient.Statement.{statement}
 use Rattle.job.proofs.operations.quotient.Tie as tie

@@ -3,11 +3,11 @@ use Prim.Native.Nat.{_+_}
 use native.Mathlib.Omega.{arith}
 use denote.Ref.{now}
 use Rattle.model.specs.Operations.{subtraction}
+use Rattle.model.specs.OutcomeFits.{subtraction-storable}
 use Rattle.job.specs.Bytes.{byteAt}
 use Rattle.job.specs.Commands.{commandAt}
 use Rattle.job.specs.Jobs.{operation}
 use Rattle.job.proofs.OperationLaws.{performs, pair-named, held-two}
-use Rattle.job.proofs.OperationFits.{subtraction-storable}
 use borrow.Author.Needs.{needs}
 use Rattle.job.proofs.operations.subtract.Statement.{statement}
 use Rattle.job.proofs.operations.subtract.Tie as tie
