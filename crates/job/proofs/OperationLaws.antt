@@ -14,10 +14,10 @@ use Rattle.model.specs.Areas.{Storable}
 use Rattle.model.specs.OutcomeFits.{answer-storable}
 use Rattle.certificate.specs.Tests.{scratchPlaces, quotientOf, rootPlaces, rootOf}
 use Rattle.model.specs.declared.types.Model.{Model}
-use Rattle.job.specs.Booleans.{or-false}
 use Rattle.job.specs.Bytes.{byteAt}
 use Rattle.job.specs.Commands.{Command, maxResults, badNames}
 use Rattle.job.specs.Jobs.{resultAt, operation}
+use Rattle.job.specs.CommandLaws.{both-below}
 use Rattle.job.specs.Work.{workPlaces, stretch}
 use Rattle.job.specs.Steps.{Holds, Performs}
 use Rattle.job.proofs.Results.{result-held}
@@ -52,9 +52,6 @@ unfolding outcome firstRefusal
 loaded-bad m e = rw e
 
 -- ---- the results that a command names
-
-pub both-below : (count i j : ℕ) → (leb count i || leb count j) ≡ false → (i < count) × (j < count)
-both-below count i j h = let o = or-false (leb count i) (leb count j) h in (leb-false count i (o .0), leb-false count j (o .1))
 
 -- the bytes after a command name two results: what reading them asks
 pub pair-named : (job : List ℕ) (at : ℕ) (work : List ℤ) → (leb maxResults (byteAt job (at + 1)) || leb maxResults (byteAt job (at + 2))) ≡ false

@@ -19,11 +19,10 @@ use Rattle.model.proofs.types.Verdict.{the-type}
 use Rattle.job.specs.Bytes.{byteAt}
 use Rattle.job.specs.Commands.{Command, edition, load, add, subtract, multiply, quotient, root, finish, maxResults, shapeAt, nextAt, commandAt, badNames, makesResult, widthOf, readingPlaces, readingNumber, ReadOutcome, found, refusal, readOutcome}
 use Rattle.job.specs.Jobs.{operation, no, resulting, performed, command}
-use Rattle.job.specs.CommandLaws.{Readable, readable, reading-numbered}
+use Rattle.job.specs.CommandLaws.{both-below, Readable, readable, reading-numbered}
 use Rattle.job.specs.Work.{workPlaces}
 use Rattle.job.specs.Steps.{Performable}
 use Rattle.job.specs.declared.types.Kind.{Kind}
-use Rattle.job.proofs.OperationLaws.{both-below}
 use Rattle.job.proofs.ReadingLaws.{width-is}
 
 -- ---- what a reading says of the command
