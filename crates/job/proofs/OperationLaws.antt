@@ -2,23 +2,21 @@
 use mathlib.Core.Path.{_≡_, ap, ap₂, subst⁻¹, _∙_}
 use mathlib.Core.Bool.{true, false, not, _||_}
 use mathlib.Core.List.{List, [], _∷_}
-use Prim.Native.Nat.{ℕ, _+_, _≤_, _<_}
+use Prim.Native.Nat.{ℕ, _≤_}
 use borrow.Author.Tests.{leb-false, le-ltb, not-false}
 use native.Mathlib.Omega.{arith}
 use lib.Dec.{leb}
 use lib.IntN.{ℤ}
-use lib.ListN.{length}
 use Rattle.model.specs.Models.{good, zeroModel, firstRefusal, Outcome, outcome}
 use Rattle.model.specs.ModelLaws.{good-is}
 use Rattle.model.specs.Areas.{Storable}
 use Rattle.model.specs.OutcomeFits.{answer-storable}
 use Rattle.certificate.specs.Tests.{scratchPlaces, quotientOf, rootPlaces, rootOf}
 use Rattle.model.specs.declared.types.Model.{Model}
-use Rattle.job.specs.Bytes.{byteAt}
-use Rattle.job.specs.Commands.{Command, maxResults, badNames}
+use Rattle.job.specs.Commands.{Command, badNames}
 use Rattle.job.specs.Jobs.{resultAt, operation}
 use Rattle.job.specs.CommandLaws.{both-below}
-use Rattle.job.specs.Work.{workPlaces, stretch}
+use Rattle.job.specs.Work.{stretch}
 use Rattle.job.specs.Steps.{Holds, Performs}
 use Rattle.job.proofs.Results.{result-held}
 
@@ -52,15 +50,6 @@ unfolding outcome firstRefusal
 loaded-bad m e = rw e
 
 -- ---- the results that a command names
-
--- the bytes after a command name two results: what reading them asks
-pub pair-named : (job : List ℕ) (at : ℕ) (work : List ℤ) → (leb maxResults (byteAt job (at + 1)) || leb maxResults (byteAt job (at + 2))) ≡ false
-    → at + 1 + 2 ≤ length job → workPlaces ≤ length work
-    → ((at + 1 < length job) × ((byteAt job (at + 1) < maxResults) × (workPlaces ≤ length work)))
-    × ((at + 2 < length job) × ((byteAt job (at + 2) < maxResults) × (workPlaces ≤ length work)))
-pair-named job at work n room long =
-    let b = both-below maxResults (byteAt job (at + 1)) (byteAt job (at + 2)) n in
-    omega (arith, b)
 
 module _ {w : List ℤ} {count : ℕ} {rs : List Model} {t : List ℤ} (h : Holds w count rs t) where
   pub held-one : (f : Model → Outcome) (m : Model) (i : ℕ) → m ≡ stretch w i → leb count i ≡ false → f m ≡ f (resultAt rs i)
