@@ -57,7 +57,7 @@ drop-zeros n k t h =
     ∙ ap (λ (l : List ℤ). drop k l) (append-assoc (replicate k (pos 0)) (replicate (n - k) (pos 0)) t)
     ∙ drop-at (replicate k (pos 0)) (replicate (n - k) (pos 0) ++ t) k (length-replicate k (pos 0))
 
-pub length-workOf : (rs : List Model) → Sized rs → length rs ≤ maxResults → length (workOf rs) ≡ workPlaces
+length-workOf : (rs : List Model) → Sized rs → length rs ≤ maxResults → length (workOf rs) ≡ workPlaces
 unfolding workOf
 length-workOf rs s few =
     length-append (stretches rs) (zeros (workPlaces - modelPlaces * length rs))
