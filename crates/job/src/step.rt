@@ -27,7 +27,8 @@ fn add_result(work: &mut [i32], count: usize, next: usize, a: Answer) -> Done
         Verdict::Accepted => {
             let m = a.model;
             store(work, count, m);
-            Done::More(next, count + 1)
+            let results = count + 1;
+            Done::More(next, results)
         }
         _ => Done::Refused(verdict),
     }
