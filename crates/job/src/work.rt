@@ -8,14 +8,13 @@ ghost use Rattle.model.specs.Areas.{Storable};
 ghost use Rattle.certificate.specs.Tests.{scratchPlaces};
 ghost use Rattle.job.specs.Commands.{maxResults};
 ghost use Rattle.job.specs.Work.{workPlaces, stretch, storedAt};
+use certificate::types::SCRATCH_PLACES;
 use model::area::MODEL_PLACES;
 use model::area::read;
 use model::area::write;
 use model::types::Model;
 
 pub const WORK_PLACES: usize = 1120;
-
-pub const SCRATCH_PLACES: usize = 65;
 
 // Writes a model into stretch i.
 pub fn store(work: &mut [i32], i: usize, m: Model)
