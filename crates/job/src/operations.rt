@@ -129,7 +129,13 @@ fn root(job: &[u8], at: usize, work: &[i32], scratch: &mut [i64]) -> Answer
 }
 
 // The operation of a command that makes a result.
-pub fn operate(kind: Kind, job: &[u8], at: usize, work: &[i32], scratch: &mut [i64]) -> Answer
+pub(crate) fn operate(
+    kind: Kind,
+    job: &[u8],
+    at: usize,
+    work: &[i32],
+    scratch: &mut [i64],
+) -> Answer
     requires { ⌜ Operable kind (now job) at (now work) × Clear (now scratch) ⌝ }
     ensures { λ (r : Answer). ⌜ Performs (commandAt kind (now (job .entry)) at) (now (work .entry)) (outcomeOf r) ⌝ }
     ensures { λ _. ⌜ now (scratch .exit) ≡ now (scratch .entry) ⌝ }

@@ -59,7 +59,7 @@ fn perform(
 }
 
 // Command k, whose byte stands at a position, with so many results before it.
-pub fn step(
+pub(crate) fn step(
     job: &[u8],
     k: usize,
     count: usize,

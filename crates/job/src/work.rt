@@ -17,7 +17,7 @@ use model::types::Model;
 pub const WORK_PLACES: usize = 1120;
 
 // Writes a model into stretch i.
-pub fn store(work: &mut [i32], i: usize, m: Model)
+pub(crate) fn store(work: &mut [i32], i: usize, m: Model)
     requires { ⌜ (workPlaces ≤ length (now work)) × ((i < maxResults) × Storable m) ⌝ }
     ensures { λ _. ⌜ now (work .exit) ≡ storedAt (now (work .entry)) i m ⌝ }
 {
@@ -35,7 +35,7 @@ pub fn stretch_at(work: &[i32], i: usize) -> Model
 }
 
 // The first 1,120 numbers become zero.
-pub fn clear_work(work: &mut [i32])
+pub(crate) fn clear_work(work: &mut [i32])
     requires { ⌜ workPlaces ≤ length (now work) ⌝ }
     ensures { λ _. ⌜ now (work .exit) ≡ zeros workPlaces ++ drop workPlaces (now (work .entry)) ⌝ }
 {
@@ -47,7 +47,7 @@ pub fn clear_work(work: &mut [i32])
 }
 
 // The first 65 numbers become zero.
-pub fn clear_scratch(scratch: &mut [i64])
+pub(crate) fn clear_scratch(scratch: &mut [i64])
     requires { ⌜ scratchPlaces ≤ length (now scratch) ⌝ }
     ensures { λ _. ⌜ now (scratch .exit) ≡ zeros scratchPlaces ++ drop scratchPlaces (now (scratch .entry)) ⌝ }
 {
