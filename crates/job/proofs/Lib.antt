@@ -1,8 +1,6 @@
 pub mod ByteLaws
-pub mod Stretches
 pub mod Results
 pub mod Loop
-pub mod OperationFits
 pub mod OperationLaws
 pub mod StepLaws
 pub mod Entry

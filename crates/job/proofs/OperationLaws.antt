@@ -1,22 +1,22 @@
 -- The operations of commands on the results that a work area holds.
-use mathlib.Core.Path.{_≡_, refl, ap, ap₂, subst⁻¹, _∙_}
-use mathlib.Core.Bool.{Bool, true, false, not, _||_}
+use mathlib.Core.Path.{_≡_, ap, ap₂, subst⁻¹, _∙_}
+use mathlib.Core.Bool.{true, false, not, _||_}
 use mathlib.Core.List.{List, [], _∷_}
-use Prim.Native.Nat.{ℕ, _+_, _≤_, _<_}
-use borrow.Author.Tests.{leb-false, eqb-true, le-ltb}
+use Prim.Native.Nat.{ℕ, _≤_}
+use borrow.Author.Tests.{leb-false, le-ltb, not-false}
 use native.Mathlib.Omega.{arith}
-use lib.Dec.{eqb, leb}
+use lib.Dec.{leb}
 use lib.IntN.{ℤ}
-use lib.ListN.{length}
 use Rattle.model.specs.Models.{good, zeroModel, firstRefusal, Outcome, outcome}
-use Rattle.model.specs.Operations.{multiplication, productModel}
+use Rattle.model.specs.ModelLaws.{good-is}
+use Rattle.model.specs.Areas.{Storable}
+use Rattle.model.specs.OutcomeFits.{answer-storable}
 use Rattle.certificate.specs.Tests.{scratchPlaces, quotientOf, rootPlaces, rootOf}
 use Rattle.model.specs.declared.types.Model.{Model}
-use Rattle.job.specs.Booleans.{or-false}
-use Rattle.job.specs.Bytes.{byteAt}
-use Rattle.job.specs.Commands.{Command, maxResults, keptByte, badNames}
+use Rattle.job.specs.Commands.{Command, badNames}
 use Rattle.job.specs.Jobs.{resultAt, operation}
-use Rattle.job.specs.Work.{workPlaces, stretch, Storable}
+use Rattle.job.specs.CommandLaws.{both-below}
+use Rattle.job.specs.Work.{stretch}
 use Rattle.job.specs.Steps.{Holds, Performs}
 use Rattle.job.proofs.Results.{result-held}
 
@@ -35,6 +35,12 @@ performs e s g = record {
 abbrev pub loaded : Model → Outcome
 loaded m = outcome ((not (good m), 2) ∷ []) m
 
+pub loaded-storable : (m : Model) → Storable (loaded m .model)
+unfolding outcome
+loaded-storable m =
+    answer-storable ((not (good m), 2) ∷ []) m (omega arith)
+    (λ p. let g = good-is m (not-false (good m) (p .0)) in (g .degree-fits, g .radius-fits))
+
 pub loaded-good : (m : Model) → good m ≡ true → record { number = 0; model = m } ≡ loaded m
 unfolding outcome firstRefusal
 loaded-good m e = rw e
@@ -44,18 +50,6 @@ unfolding outcome firstRefusal
 loaded-bad m e = rw e
 
 -- ---- the results that a command names
-
-pub both-below : (count i j : ℕ) → (leb count i || leb count j) ≡ false → (i < count) × (j < count)
-both-below count i j h = let o = or-false (leb count i) (leb count j) h in (leb-false count i (o .0), leb-false count j (o .1))
-
--- the bytes after a command name two results: what reading them asks
-pub pair-named : (job : List ℕ) (at : ℕ) (work : List ℤ) → (leb maxResults (byteAt job (at + 1)) || leb maxResults (byteAt job (at + 2))) ≡ false
-    → at + 1 + 2 ≤ length job → workPlaces ≤ length work
-    → ((at + 1 < length job) × ((byteAt job (at + 1) < maxResults) × (workPlaces ≤ length work)))
-    × ((at + 2 < length job) × ((byteAt job (at + 2) < maxResults) × (workPlaces ≤ length work)))
-pair-named job at work n room long =
-    let b = both-below maxResults (byteAt job (at + 1)) (byteAt job (at + 2)) n in
-    omega (arith, b)
 
 module _ {w : List ℤ} {count : ℕ} {rs : List Model} {t : List ℤ} (h : Holds w count rs t) where
   pub held-one : (f : Model → Outcome) (m : Model) (i : ℕ) → m ≡ stretch w i → leb count i ≡ false → f m ≡ f (resultAt rs i)

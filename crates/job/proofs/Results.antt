@@ -6,16 +6,17 @@ use native.Mathlib.Omega.{arith}
 use lib.IntN.{ℤ, pos}
 use lib.ListN.{length, take, drop, replicate, length-append, length-replicate, replicate-append-replicate}
 use lib.Seq.{take-at, drop-at, drop-append-add, drop-drop}
-use Rattle.model.specs.Models.{places}
 use Rattle.integer.specs.Clearing.{zeros, length-zeros}
+use Rattle.model.specs.Models.{places}
+use Rattle.model.specs.Areas.{modelPlaces, words, areaModel}
+use Rattle.model.specs.AreaLaws.{length-words, model-words}
 use Rattle.model.specs.declared.types.Model.{Model}
 use Rattle.job.specs.Commands.{maxResults}
 use Rattle.job.specs.Jobs.{resultAt}
-use Rattle.job.specs.Work.{stretchPlaces, workPlaces, words, modelIn, stretch, stretches, workOf, storedAt}
+use Rattle.job.specs.Work.{workPlaces, stretch, stretches, workOf, storedAt}
 use Rattle.job.specs.Steps.{Sized, Holds}
-use Rattle.job.proofs.Stretches.{length-words, modelIn-words}
 
-length-stretches : (rs : List Model) → Sized rs → length (stretches rs) ≡ stretchPlaces * length rs
+length-stretches : (rs : List Model) → Sized rs → length (stretches rs) ≡ modelPlaces * length rs
 unfolding stretches
 length-stretches [] s = refl
 length-stretches (m ∷ rs) s =
@@ -26,15 +27,15 @@ stretch-result : (rs : List Model) (t : List ℤ) (i : ℕ) → Sized rs → i <
 unfolding stretches
 stretch-result [] t i s h = absurd (omega arith)
 stretch-result (m ∷ rs) t zero s h =
-    ap (λ (l : List ℤ). modelIn (take stretchPlaces l)) (append-assoc (words m) (stretches rs) t)
-    ∙ ap modelIn (take-at (words m) (stretches rs ++ t) stretchPlaces (length-words m (s .0)))
-    ∙ modelIn-words m (s .0)
+    ap (λ (l : List ℤ). areaModel (take modelPlaces l)) (append-assoc (words m) (stretches rs) t)
+    ∙ ap areaModel (take-at (words m) (stretches rs ++ t) modelPlaces (length-words m (s .0)))
+    ∙ model-words m (s .0)
 stretch-result (m ∷ rs) t (suc i) s h =
-    let e : stretchPlaces * suc i ≡ length (words m) + stretchPlaces * i = omega (arith, length-words m (s .0)) in
-    ap (λ (k : ℕ). modelIn (take stretchPlaces (drop k ((words m ++ stretches rs) ++ t)))) e
-    ∙ ap (λ (l : List ℤ). modelIn (take stretchPlaces (drop (length (words m) + stretchPlaces * i) l)))
+    let e : modelPlaces * suc i ≡ length (words m) + modelPlaces * i = omega (arith, length-words m (s .0)) in
+    ap (λ (k : ℕ). areaModel (take modelPlaces (drop k ((words m ++ stretches rs) ++ t)))) e
+    ∙ ap (λ (l : List ℤ). areaModel (take modelPlaces (drop (length (words m) + modelPlaces * i) l)))
     (append-assoc (words m) (stretches rs) t)
-    ∙ ap (λ (l : List ℤ). modelIn (take stretchPlaces l)) (drop-append-add (words m) (stretches rs ++ t) (stretchPlaces * i))
+    ∙ ap (λ (l : List ℤ). areaModel (take modelPlaces l)) (drop-append-add (words m) (stretches rs ++ t) (modelPlaces * i))
     ∙ stretch-result rs t i (s .1) (omega arith)
 
 stretches-snoc : (rs : List Model) (m : Model) → stretches (rs ++ (m ∷ [])) ≡ stretches rs ++ words m
@@ -56,17 +57,17 @@ drop-zeros n k t h =
     ∙ ap (λ (l : List ℤ). drop k l) (append-assoc (replicate k (pos 0)) (replicate (n - k) (pos 0)) t)
     ∙ drop-at (replicate k (pos 0)) (replicate (n - k) (pos 0) ++ t) k (length-replicate k (pos 0))
 
-pub length-workOf : (rs : List Model) → Sized rs → length rs ≤ maxResults → length (workOf rs) ≡ workPlaces
+length-workOf : (rs : List Model) → Sized rs → length rs ≤ maxResults → length (workOf rs) ≡ workPlaces
 unfolding workOf
 length-workOf rs s few =
-    length-append (stretches rs) (zeros (workPlaces - stretchPlaces * length rs))
-    ∙ omega (arith, length-stretches rs s, length-zeros (workPlaces - stretchPlaces * length rs))
+    length-append (stretches rs) (zeros (workPlaces - modelPlaces * length rs))
+    ∙ omega (arith, length-stretches rs s, length-zeros (workPlaces - modelPlaces * length rs))
 
 -- ---- a work area that holds results
 
 module _ {w : List ℤ} {count : ℕ} {rs : List Model} {t : List ℤ} (h : Holds w count rs t) where
   abbrev z : List ℤ
-  z = zeros (workPlaces - stretchPlaces * length rs)
+  z = zeros (workPlaces - modelPlaces * length rs)
 
   front-is : w ≡ stretches rs ++ (z ++ t)
   unfolding workOf
@@ -92,20 +93,20 @@ module _ {w : List ℤ} {count : ℕ} {rs : List Model} {t : List ℤ} (h : Hold
   unfolding workOf
   stored-holds m few h33 =
       let rs′ : List Model = rs ++ (m ∷ []) in
-      let a : ℕ = stretchPlaces * count in
-      let z′ : List ℤ = zeros (workPlaces - stretchPlaces * length rs′) in
+      let a : ℕ = modelPlaces * count in
+      let z′ : List ℤ = zeros (workPlaces - modelPlaces * length rs′) in
       let ce : count ≡ length rs = h .count-is in
       let la : length (stretches rs) ≡ a = omega (arith, length-stretches rs (h .sized)) in
       let lr : length rs′ ≡ length rs + 1 = length-append rs (m ∷ []) in
       let front : take a w ≡ stretches rs = ap (λ (l : List ℤ). take a l) front-is ∙ take-at (stretches rs) (z ++ t) a la in
-      let back : drop (a + stretchPlaces) w ≡ z′ ++ t =
-      ap (λ (l : List ℤ). drop (a + stretchPlaces) l) front-is
-      ∙ sym (drop-drop stretchPlaces a (stretches rs ++ (z ++ t)))
-      ∙ ap (λ (l : List ℤ). drop stretchPlaces l) (drop-at (stretches rs) (z ++ t) a la)
-      ∙ drop-zeros (workPlaces - stretchPlaces * length rs) stretchPlaces t (omega arith)
+      let back : drop (a + modelPlaces) w ≡ z′ ++ t =
+      ap (λ (l : List ℤ). drop (a + modelPlaces) l) front-is
+      ∙ sym (drop-drop modelPlaces a (stretches rs ++ (z ++ t)))
+      ∙ ap (λ (l : List ℤ). drop modelPlaces l) (drop-at (stretches rs) (z ++ t) a la)
+      ∙ drop-zeros (workPlaces - modelPlaces * length rs) modelPlaces t (omega arith)
       ∙ ap (λ (k : ℕ). zeros k ++ t) (omega arith) in record {
         work-is =
-            ap (λ (l : List ℤ). l ++ (words m ++ drop (a + stretchPlaces) w)) front
+            ap (λ (l : List ℤ). l ++ (words m ++ drop (a + modelPlaces) w)) front
             ∙ ap (λ (l : List ℤ). stretches rs ++ (words m ++ l)) back
             ∙ sym (append-assoc (stretches rs) (words m) (z′ ++ t))
             ∙ ap (λ (l : List ℤ). l ++ (z′ ++ t)) (sym (stretches-snoc rs m))

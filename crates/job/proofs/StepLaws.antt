@@ -2,7 +2,7 @@
 use mathlib.Core.Path.{_≡_, refl, ap, sym, subst, _∙_}
 use mathlib.Core.Bool.{Bool, true, false, false≢true, _||_}
 use mathlib.Core.List.{List, [], _∷_}
-use Prim.Native.Nat.{ℕ, _+_, _≤_, _<_}
+use Prim.Native.Nat.{ℕ, _≤_, _<_}
 use native.Mathlib.Omega.{arith}
 use borrow.Author.Tests.{leb-false, lt-leb, eqb-true}
 use lib.Dec.{eqb, leb}
@@ -16,15 +16,12 @@ use Rattle.model.specs.declared.types.Model.{Model}
 use Rattle.model.specs.declared.types.Verdict.{Verdict}
 use Rattle.model.specs.declared.types.Verdict.the-variants.{Accepted, ShortArea, BadModel, LargeResult, PointOutside, NotContracting, LargeResidual, HelperNotPositive, NegativeDiscriminant, BadValue, JobEnds, BytesAfterEnd, NotAResult, TooManyResults}
 use Rattle.model.proofs.types.Verdict.{the-type}
-use Rattle.job.specs.Bytes.{byteAt}
-use Rattle.job.specs.Commands.{Command, edition, load, add, subtract, multiply, quotient, root, finish, maxResults, shapeAt, nextAt, commandAt, badNames, makesResult, widthOf, readingPlaces, readingNumber, ReadOutcome, found, refusal, readOutcome}
+use Rattle.job.specs.Commands.{Command, edition, load, add, subtract, multiply, quotient, root, finish, maxResults, shapeAt, nextAt, commandAt, badNames, makesResult, readingPlaces, readingNumber, ReadOutcome, found, refusal, readOutcome}
 use Rattle.job.specs.Jobs.{operation, no, resulting, performed, command}
-use Rattle.job.specs.CommandLaws.{Readable, readable, reading-numbered}
+use Rattle.job.specs.CommandLaws.{both-below, Readable, readable, reading-numbered}
 use Rattle.job.specs.Work.{workPlaces}
 use Rattle.job.specs.Steps.{Performable}
 use Rattle.job.specs.declared.types.Kind.{Kind}
-use Rattle.job.proofs.OperationLaws.{both-below}
-use Rattle.job.proofs.ReadingLaws.{width-is}
 
 -- ---- what a reading says of the command
 
@@ -83,12 +80,11 @@ module _ (job : List ℕ) (k count at : ℕ) (kind : Kind) (next : ℕ) (work : 
 
   pub found-performable : count ≤ maxResults → workPlaces ≤ length work → Performable kind job count at work
   found-performable few long =
-      let r = found-readable in
-      let w : at + 1 + widthOf (shapeAt job k count at .kind) ≤ length job = omega (arith, r .room, width-is (byteAt job at)) in record {
+      let r = found-readable in record {
         names = rw kind-is at (r .names-good);
         space = rw kind-is at (r .space);
         few = few;
-        room = rw kind-is at w;
+        room = rw kind-is at (r .room);
         long = long;
       }
 

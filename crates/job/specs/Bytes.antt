@@ -25,10 +25,6 @@ unfoldable pub signedsAt : List ℕ → ℕ → ℕ → List ℤ
 signedsAt s i zero = []
 signedsAt s i (suc n) = signed (unsignedAt s i) ∷ signedsAt s (i + 4) n
 
--- how many bytes a block has
-abbrev pub blockWidth : ℕ
-blockWidth = 133
-
 -- the block from i on, with a radius
 abbrev pub blockAt : List ℕ → ℕ → ℕ → Model
 blockAt s i e = modelOf (byteAt s i) (signedsAt s (i + 1) places) e

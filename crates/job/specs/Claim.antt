@@ -1,39 +1,35 @@
 -- Requirement 3 over the definitions: what a job's commands make is vouched for. One value is chosen for each result, in its
 -- box and allowed by its model, by induction on the permission of its box.
 use mathlib.Core.Path.{_≡_, refl, sym, _∙_, ap, subst}
-use mathlib.Core.Bool.{Bool, true, false}
-use mathlib.Core.Logic.{_⊎_, inl, inr}
+use mathlib.Core.Bool.{true, false}
 use mathlib.Core.List.{List}
 use Prim.Native.Nat.{ℕ, _<_, _≤_}
 use native.Mathlib.Omega.{arith}
 use native.Mathlib.Decide.{decLt}
 use lib.Dec.{T}
 use lib.IntN.{pos}
-use lib.ListN.{length, getD, List·getD-eq-default}
+use lib.ListN.{length, List·getD-eq-default}
 use Rattle.integer.specs.OrderedRing.{le-of-eq}
 use Rattle.integer.specs.Fraction.{ℚ, whole, _+ℚ_, _-ℚ_, _*ℚ_}
-use Rattle.integer.specs.FractionOrder.{_≤ℚ_, _<ℚ_, ℚ-ordered}
+use Rattle.integer.specs.FractionOrder.{_<ℚ_, ℚ-ordered}
 use Rattle.integer.specs.FractionInverse.{_/ℚ_}
 use Rattle.model.specs.Values.{Allows, OnInterval}
-use Rattle.model.specs.Models.{outcome, firstRefusal}
 use Rattle.model.specs.RefusalLaws.{outcome-zero}
 use Rattle.model.specs.OperationsSound.{addition-sound, subtraction-sound, multiplication-sound}
 use Rattle.certificate.specs.Tests.{scratchPlaces}
 use Rattle.certificate.specs.QuotientSound.{quotient-sound, quotient-nonzero}
 use Rattle.certificate.specs.RootSound.{root-sound, root-overlap}
 use Rattle.model.specs.declared.types.Model.{Model}
-use Rattle.job.specs.Commands.{Command, edition, load, add, subtract, multiply, quotient, root, finish, makesResult}
+use Rattle.job.specs.Commands.{Command, load, add, subtract, multiply, quotient, root, finish, makesResult}
 use Rattle.job.specs.Jobs.{resultAt, operation}
 use Rattle.job.specs.Reading.{commandOf}
-use Rattle.job.specs.Boxes.{Box, Lies, Permitted, load-box, add-box, subtract-box, multiply-box, quotient-box, root-box, Overlaps}
+use Rattle.job.specs.Made.{MadeBy}
+use Rattle.job.specs.Boxes.{Box, Permitted, load-box, add-box, subtract-box, multiply-box, quotient-box, root-box, Overlaps}
 use Rattle.job.specs.Hull.{sum-lies, difference-lies, product-lies, quotient-lies}
 
--- result i is what its command gives for the results, without a refusal
-pub record MadeAt (cs : List Command) (rs : List Model) (i : ℕ) : Type 0 where
-  pub number : (operation (commandOf cs i) rs) .number ≡ 0
-  pub model : resultAt rs i ≡ (operation (commandOf cs i) rs) .model
-
-module _ (cs : List Command) (rs : List Model) (made : (i : ℕ) → i < length cs → MadeAt cs rs i) where
+-- each result is what its command gives for the results, without a refusal
+module _ (cs : List Command) (rs : List Model)
+    (made : (i : ℕ) → i < length cs → MadeBy (commandOf cs i) rs i (resultAt rs i)) where
   -- a command that makes a result is among those of the job
   listed : (i : ℕ) (c : Command) → commandOf cs i ≡ c → makesResult c ≡ true → i < length cs
   listed i c e m = pick (decLt i (length cs))
@@ -46,10 +42,10 @@ module _ (cs : List Command) (rs : List Model) (made : (i : ℕ) → i < length 
       pick (no h) = absurd (subst T (sym m ∙ ap makesResult (sym e) ∙ none (omega arith)) tt)
 
   passes : (i : ℕ) (c : Command) → commandOf cs i ≡ c → makesResult c ≡ true → (operation c rs) .number ≡ 0
-  passes i c e m = subst (λ d. (operation d rs) .number ≡ 0) e (made i (listed i c e m) .number)
+  passes i c e m = subst (λ d. (operation d rs) .number ≡ 0) e (made i (listed i c e m) .succeeds)
 
   gives : (i : ℕ) (c : Command) → commandOf cs i ≡ c → makesResult c ≡ true → resultAt rs i ≡ (operation c rs) .model
-  gives i c e m = subst (λ d. resultAt rs i ≡ (operation d rs) .model) e (made i (listed i c e m) .model)
+  gives i c e m = subst (λ d. resultAt rs i ≡ (operation d rs) .model) e (made i (listed i c e m) .result)
 
   module _ (x : ℚ) (on : OnInterval x) where
     pub overlaps : (box : ℕ → Box) {i : ℕ} → Permitted cs x box i → Overlaps (box i) (resultAt rs i) x

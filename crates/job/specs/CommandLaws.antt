@@ -1,6 +1,6 @@
 -- One command: what its places say of what it does.
 use mathlib.Core.Path.{_≡_, refl, ap, _∙_}
-use mathlib.Core.Bool.{Bool, true, false, true≢false, false≢true, _&&_}
+use mathlib.Core.Bool.{Bool, true, false, true≢false, false≢true, _&&_, _||_}
 use mathlib.Core.List.{List, [], _∷_, _++_}
 use mathlib.Core.Logic.{_⊎_, inl, inr}
 use Prim.Native.Nat.{ℕ, _≤_, _<_}
@@ -52,6 +52,14 @@ unfolding readingPlaces
 reading-numbered job k count at = omega arith
 
 -- ---- reading without a refusal
+
+-- two bytes that name results name earlier ones
+pub both-below : (count i j : ℕ) → (leb count i || leb count j) ≡ false → (i < count) × (j < count)
+both-below count i j = by (leb count i) refl
+  where
+    by : (t : Bool) → leb count i ≡ t → (t || leb count j) ≡ false → (i < count) × (j < count)
+    by true e h = absurd (true≢false h)
+    by false e h = (leb-false count i e, leb-false count j h)
 
 pub record Readable (job : List ℕ) (k count at : ℕ) : Type 0 where
   pub inside : at < length job

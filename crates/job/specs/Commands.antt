@@ -17,20 +17,17 @@ use Rattle.job.specs.declared.types.Read.the-variants.{Command as Comman
 abbrev pub maxResults : ℕ
 maxResults = 32
 
-abbrev pub shape : Kind → ℕ → Shape
-shape k w = record { kind = k; width = w }
-
--- 01's table of commands: the byte, the command, the width of its operands; every other byte is unknown
-abbrev pub shapeOf : ℕ → Shape
-shapeOf b =
-    cond (eqb b 0x00) (shape End 0)
-    (cond (eqb b 0x01) (shape Edition 1)
-    (cond (eqb b 0x10) (shape Load 137)
-    (cond (eqb b 0x11) (shape Add 2)
-    (cond (eqb b 0x12) (shape Subtract 2)
-    (cond (eqb b 0x13) (shape Multiply 3)
-    (cond (eqb b 0x20) (shape Quotient 268)
-    (cond (eqb b 0x21) (shape Root 267) (shape Unknown 0))))))))
+-- 01's table of commands: the byte of each; every other byte is unknown
+abbrev pub kindOf : ℕ → Kind
+kindOf b =
+    cond (eqb b 0x00) End
+    (cond (eqb b 0x01) Edition
+    (cond (eqb b 0x10) Load
+    (cond (eqb b 0x11) Add
+    (cond (eqb b 0x12) Subtract
+    (cond (eqb b 0x13) Multiply
+    (cond (eqb b 0x20) Quotient
+    (cond (eqb b 0x21) Root Unknown)))))))
 
 -- the width of a kind's operands
 abbrev pub widthOf : Kind → ℕ
@@ -43,6 +40,10 @@ widthOf Multiply = 3
 widthOf Quotient = 268
 widthOf Root = 267
 widthOf Unknown = 0
+
+-- "The command byte decides the operand width and the operation"
+abbrev pub shapeOf : ℕ → Shape
+shapeOf b = record { kind = kindOf b; width = widthOf (kindOf b) }
 
 -- a command with its operands; a kept degree 0xFF is read as 32, a candidate as a model with radius 0
 pub data Command : Type 0 where

@@ -1,15 +1,15 @@
 -- The claim of requirement 3 is not empty: at x = 1/3, for the job of ExampleJob.antt, which is accepted with load, add, subtract,
 -- multiply, quotient and root, boxes of all results are permitted.
-use mathlib.Core.Path.{_≡_, refl, sym, _∙_, ap, subst}
-use mathlib.Core.Logic.{_⊎_, inl, inr}
-use mathlib.Core.List.{List, [], _∷_, _++_, map}
-use Prim.Native.Nat.{ℕ, zero, suc, _<_}
+use mathlib.Core.Path.{_≡_, refl, sym, _∙_, ap}
+use mathlib.Core.Logic.{inr}
+use mathlib.Core.List.{List, [], _∷_, _++_}
+use Prim.Native.Nat.{ℕ}
 use native.Mathlib.Omega.{arith}
 use lib.IntN.{ℤ, pos, _*ℤ_}
 use lib.ListN.{replicate, getD}
 use lib.Signed.{_≤ℤ_, leZ-yes}
-use Rattle.integer.specs.OrderedRing.{le-of-eq, le-refl, abs-of-nonneg}
-use Rattle.integer.specs.Fraction.{ℚ, whole, whole-is, _/1+_, _+ℚ_, _-ℚ_, _*ℚ_, fraction-add, fraction-mul, fraction-eq, fraction-exact, den-is, den-mul, den-zero, ℚ-ring, reifyℚ, solveℚ}
+use Rattle.integer.specs.OrderedRing.{le-refl, abs-of-nonneg}
+use Rattle.integer.specs.Fraction.{ℚ, whole, whole-is, _/1+_, _+ℚ_, _-ℚ_, _*ℚ_, fraction-add, fraction-mul, fraction-eq, fraction-exact, den-is, den-mul, ℚ-ring, reifyℚ, solveℚ}
 use Rattle.integer.specs.FractionOrder.{_≤ℚ_, _<ℚ_, ℚ-ordered, fraction-le, fraction-neg}
 use Rattle.integer.specs.FractionRounding.{natural-le}
 use Rattle.integer.specs.Parts.{_⁺}
@@ -25,7 +25,7 @@ use Rattle.model.specs.declared.types.Model.{Model}
 use Rattle.job.specs.Bytes.{signedsAt}
 use Rattle.job.specs.Commands.{Command, load, add, subtract, multiply, quotient, root, commandAt, readingPlaces, readingNumber}
 use Rattle.job.specs.Reading.{readFrom, readingOf, commandsOf, commandOf}
-use Rattle.job.specs.Boxes.{Box, Lies, ContainsFour, Permitted, load-box, add-box, subtract-box, multiply-box, quotient-box, root-box}
+use Rattle.job.specs.Boxes.{Box, Lies, Permitted, load-box, add-box, subtract-box, multiply-box, quotient-box, root-box}
 use Rattle.job.specs.ExampleJob.{exampleJob}
 
 abbrev third : ℚ
@@ -98,7 +98,7 @@ allows-third = exact (linearOf 1048576) third third (sym (valueAt-append-zeros t
 -- ---- the permissions
 
 nonzero : ¬ (pos 4 /1+ 0 ≡ whole (pos 0))
-nonzero e = absurd-four (simp (den-is, den-zero) at (fraction-exact (pos 4) 0 (pos 0) 0 (e ∙ whole-is (pos 0))))
+nonzero e = absurd-four (simp den-is at (fraction-exact (pos 4) 0 (pos 0) 0 (e ∙ whole-is (pos 0))))
   where
     absurd-four : pos 4 ≡ pos 0 → ⊥
     absurd-four e = omega (arith, ap _⁺ e)

@@ -2,19 +2,16 @@
 use mathlib.Core.Path.{_≡_, refl}
 use mathlib.Core.List.{List, [], _∷_, _++_}
 use Prim.Native.Nat.{ℕ, _+_, _/_, _%_}
-use lib.IntN.{ℤ, pos}
 use lib.ListN.{replicate, length}
 use Rattle.integer.specs.Rounding.{upℕ, near, floor}
 use Rattle.chebyshev.specs.Coefficients.{weight, addLists, subtractLists, scaleList}
 use Rattle.chebyshev.specs.Product.{addAt, addPair, addRow, addRows, product}
-use Rattle.model.specs.Models.{firstRefusal, outcome, good, tooLarge, modelOf, zeroModel}
+use Rattle.model.specs.Models.{firstRefusal, outcome, good, tooLarge, zeroModel}
 use Rattle.model.specs.Operations.{addition, subtraction, multiplication, sumModel, differenceModel, productModel, productList, productLoss, rounded, roundingLoss}
 use Rattle.certificate.specs.Tests.{tested, quotientOf, rootOf, rootPlaces, quotientContraction, quotientResidual, quotientModel, rootContraction, rootResidual, rootModel, displacement, total}
-use Rattle.model.specs.declared.types.Model.{Model}
 use Rattle.job.specs.Bytes.{signedsAt}
 use Rattle.job.specs.Commands.{commandAt, readingPlaces, readingNumber}
 use Rattle.job.specs.Jobs.{operation, command, run, jobOf, JobOutcome, accepted, refused}
-use Rattle.job.specs.Reading.{readingOf, readFrom}
 
 -- a natural number as four bytes, the lowest first
 abbrev word : ℕ → List ℕ

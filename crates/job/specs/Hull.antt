@@ -1,7 +1,7 @@
 -- Boxes and operations: what contains the four products, or quotients, of the ends contains every product, or quotient.
 use mathlib.Core.Path.{_≡_, sym, _∙_, ap, subst}
 use mathlib.Core.Logic.{_⊎_, inl, inr}
-use mathlib.Core.List.{List, [], _∷_}
+use mathlib.Core.List.{[], _∷_}
 use lib.IntN.{pos}
 use Rattle.integer.specs.OrderedRing.{le-of-eq, mul-left, le-neg, _⟨+⟩_, by-certificate, gap, _⊠_}
 use Rattle.integer.specs.Fraction.{ℚ, whole, _+ℚ_, _-ℚ_, _*ℚ_, -ℚ_, reifyℚ, solveℚ, *ℚ-comm}
@@ -58,7 +58,7 @@ product-lies a b c u v f p q =
 -- ---- quotients
 
 -- 0 < a·b for two positive numbers
-pub positive-product : (a b : ℚ) → zeroℚ <ℚ a → zeroℚ <ℚ b → zeroℚ <ℚ (a *ℚ b)
+positive-product : (a b : ℚ) → zeroℚ <ℚ a → zeroℚ <ℚ b → zeroℚ <ℚ (a *ℚ b)
 positive-product a b p q h = q (≤ℚ-cancel a b zeroℚ p (subst (λ z. (a *ℚ b) ≤ℚ z) (solveℚ (a ∷ []) (search reifyℚ depth 9) (search reifyℚ depth 9) tt) h))
 
 -- of two numbers of one sign the larger has the smaller inverse

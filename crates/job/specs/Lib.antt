@@ -4,7 +4,6 @@ pub mod Jobs
 pub mod Reading
 pub mod Work
 pub mod Steps
-pub mod Booleans
 pub mod Places
 pub mod Order
 pub mod CommandLaws

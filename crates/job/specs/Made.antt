@@ -13,10 +13,10 @@ use Rattle.model.specs.Models.{zeroModel, Outcome}
 use Rattle.model.specs.Operations.{addition, subtraction, multiplication}
 use Rattle.certificate.specs.Tests.{scratchPlaces, quotientOf, rootOf}
 use Rattle.model.specs.declared.types.Model.{Model}
-use Rattle.job.specs.Booleans.{or-false}
 use Rattle.job.specs.Commands.{Command, edition, load, add, subtract, multiply, quotient, root, finish, badNames, makesResult}
 use Rattle.job.specs.Jobs.{resultAt, fromTest, operation}
 use Rattle.job.specs.Reading.{commandOf}
+use Rattle.job.specs.CommandLaws.{both-below}
 
 -- the results rs are made by the commands cs, one after the other, each from those before it
 pub data Made : List Command → List Model → Type 0 where
@@ -52,7 +52,7 @@ module _ (cs : List Command) (rs : List Model) (c : Command) (x : Model) (n : le
   last : i ≡ length rs → MadeBy c rs (length rs) x → Added
   last e b = rw (getD-at cs c [] finish i (omega arith), getD-at rs x [] zeroModel i (sym e), take-at rs (x ∷ []) i (sym e), e) b
 
-pub made-at : {cs : List Command} {rs : List Model} → Made cs rs → (i : ℕ) → i < length rs
+made-at : {cs : List Command} {rs : List Model} → Made cs rs → (i : ℕ) → i < length rs
     → MadeBy (commandOf cs i) (take i rs) i (resultAt rs i)
 made-at nothing i lt = absurd (omega arith)
 made-at (one-more {cs} {rs} m c h₁ h₂ h₃) i lt = by (ltb i (length rs)) refl (λ h. made-at m i h)
@@ -70,14 +70,14 @@ made-at (one-more {cs} {rs} m c h₁ h₂ h₃) i lt = by (ltb i (length rs)) re
 -- ---- an operation depends on the results that its command names alone
 
 module _ (i : ℕ) (rs : List Model) where
-  same-result : (j : ℕ) → leb i j ≡ false → resultAt (take i rs) j ≡ resultAt rs j
-  same-result j h = getD-take i rs j zeroModel (leb-false i j h)
+  same-result : (j : ℕ) → j < i → resultAt (take i rs) j ≡ resultAt rs j
+  same-result j h = getD-take i rs j zeroModel h
 
   same-pair : (f : Model → Model → Outcome) (j k : ℕ) → (leb i j || leb i k) ≡ false
       → f (resultAt (take i rs) j) (resultAt (take i rs) k) ≡ f (resultAt rs j) (resultAt rs k)
-  same-pair f j k h = let o = or-false (leb i j) (leb i k) h in ap₂ f (same-result j (o .0)) (same-result k (o .1))
+  same-pair f j k h = let b = both-below i j k h in ap₂ f (same-result j (b .0)) (same-result k (b .1))
 
-  pub operation-named : (c : Command) → badNames c i ≡ false → operation c (take i rs) ≡ operation c rs
+  operation-named : (c : Command) → badNames c i ≡ false → operation c (take i rs) ≡ operation c rs
   unfolding operation
   operation-named edition h = refl
   operation-named (load m) h = refl
@@ -85,7 +85,7 @@ module _ (i : ℕ) (rs : List Model) where
   operation-named (subtract j k) h = same-pair subtraction j k h
   operation-named (multiply j k d) h = same-pair (multiplication d) j k h
   operation-named (quotient j k c w) h = same-pair (λ f g. fromTest (quotientOf scratchPlaces f g c w)) j k h
-  operation-named (root j c w) h = ap (λ (f : Model). fromTest (rootOf scratchPlaces f c w)) (same-result j h)
+  operation-named (root j c w) h = ap (λ (f : Model). fromTest (rootOf scratchPlaces f c w)) (same-result j (leb-false i j h))
   operation-named finish h = refl
 
 -- so result i is what its command gives for all the results

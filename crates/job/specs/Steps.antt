@@ -7,11 +7,12 @@ use lib.Dec.{leb}
 use lib.IntN.{ℤ}
 use lib.ListN.{length}
 use Rattle.model.specs.Models.{places, numberOf, Outcome}
+use Rattle.model.specs.Areas.{Storable}
 use Rattle.certificate.specs.Tests.{scratchPlaces, scratchAfter}
 use Rattle.model.specs.declared.types.Model.{Model}
 use Rattle.job.specs.Commands.{Command, maxResults, widthOf, commandAt, badNames, makesResult}
 use Rattle.job.specs.Jobs.{Step, more, over, no, operation}
-use Rattle.job.specs.Work.{workPlaces, workOf, Storable}
+use Rattle.job.specs.Work.{workPlaces, workOf}
 use Rattle.job.specs.declared.types.Done.{Done}
 use Rattle.job.specs.declared.types.Done.the-variants.{More, Over, Refused}
 use Rattle.job.specs.declared.types.Kind.{Kind}

@@ -2,44 +2,30 @@
 -- 32-bit numbers)."
 use mathlib.Core.Bool.{cond, _&&_, Bool}
 use mathlib.Core.List.{List, [], _∷_, _++_}
-use Prim.Native.Nat.{ℕ, _+_, _*_, _-_, _≤_}
+use Prim.Native.Nat.{ℕ, _+_, _*_, _-_}
 use lib.Dec.{leb}
-use lib.IntN.{ℤ, pos, natAbs}
-use lib.ListN.{length, getD, take, drop, replicate}
+use lib.IntN.{ℤ}
+use lib.ListN.{length, take, drop}
 use Rattle.integer.specs.Clearing.{zeros}
-use Rattle.model.specs.Models.{places, maxDegree, maxRadius, modelOf, numberOf}
+use Rattle.model.specs.Models.{numberOf}
+use Rattle.model.specs.Areas.{modelPlaces, words, areaModel}
 use Rattle.certificate.specs.Tests.{scratchPlaces}
 use Rattle.model.specs.declared.types.Model.{Model}
 use Rattle.job.specs.Jobs.{JobOutcome, accepted, refused, jobOf}
 use Rattle.job.specs.declared.types.Report.{Report}
 use Rattle.job.specs.declared.types.Report.the-variants.{Accepted, Refused}
 
--- the numbers of a stretch, and of the whole area
-abbrev pub stretchPlaces : ℕ
-stretchPlaces = 35
-
+-- the numbers of the whole area
 abbrev pub workPlaces : ℕ
 workPlaces = 1120
 
--- the 35 numbers of a model
-abbrev pub words : Model → List ℤ
-words m = pos (m .degree) ∷ (m .coefficients ++ (pos (m .radius) ∷ []))
-
--- the model whose 35 numbers these are
-abbrev pub modelIn : List ℤ → Model
-modelIn s = modelOf (natAbs (getD s 0 (pos 0))) (take places (drop 1 s)) (natAbs (getD s (places + 1) (pos 0)))
-
 -- the model in stretch i of a work area
 abbrev pub stretch : List ℤ → ℕ → Model
-stretch w i = modelIn (take stretchPlaces (drop (stretchPlaces * i) w))
-
--- a model whose degree and radius a stretch can hold
-abbrev pub Storable : Model → Type 0
-Storable m = (m .degree ≤ maxDegree) × (m .radius ≤ maxRadius)
+stretch w i = areaModel (take modelPlaces (drop (modelPlaces * i) w))
 
 -- the area with a model written into stretch i
 abbrev pub storedAt : List ℤ → ℕ → Model → List ℤ
-storedAt w i m = take (stretchPlaces * i) w ++ (words m ++ drop (stretchPlaces * i + stretchPlaces) w)
+storedAt w i m = take (modelPlaces * i) w ++ (words m ++ drop (modelPlaces * i + modelPlaces) w)
 
 unfoldable pub stretches : List Model → List ℤ
 stretches [] = []
@@ -47,7 +33,7 @@ stretches (m ∷ rs) = words m ++ stretches rs
 
 -- the 1,120 numbers: the results, later stretches zero
 unfoldable pub workOf : List Model → List ℤ
-workOf rs = stretches rs ++ zeros (workPlaces - stretchPlaces * length rs)
+workOf rs = stretches rs ++ zeros (workPlaces - modelPlaces * length rs)
 
 -- ---- the entry
 

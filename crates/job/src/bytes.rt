@@ -15,7 +15,7 @@ fn widen(b: u8) -> u32
 }
 
 // The unsigned 32-bit number of the four bytes from i on.
-pub fn read_unsigned(s: &[u8], i: usize) -> u32
+pub(crate) fn read_unsigned(s: &[u8], i: usize) -> u32
     requires { ⌜ i + 4 ≤ length (now s) ⌝ }
     ensures { λ r. ⌜ r ≡ unsignedAt (now (s .entry)) i ⌝ }
 {
@@ -23,7 +23,7 @@ pub fn read_unsigned(s: &[u8], i: usize) -> u32
 }
 
 // Two's complement.
-pub fn to_signed(n: u32) -> i32
+fn to_signed(n: u32) -> i32
     ensures { λ r. ⌜ r ≡ signedOf n ⌝ }
 {
     if n < 0x8000_0000 {
@@ -48,7 +48,7 @@ fn read_coefficients(s: &[u8], i: usize) -> [i32; PLACES]
 }
 
 // The block from i on, with a radius.
-pub fn read_model(s: &[u8], i: usize, radius: u32) -> Model
+pub(crate) fn read_model(s: &[u8], i: usize, radius: u32) -> Model
     requires { ⌜ i + 133 ≤ length (now s) ⌝ }
     ensures { λ (r : Model). ⌜ r ≡ blockAt (now (s .entry)) i radius ⌝ }
 {
@@ -58,7 +58,7 @@ pub fn read_model(s: &[u8], i: usize, radius: u32) -> Model
 }
 
 // The block from i on, as a candidate.
-pub fn read_candidate(s: &[u8], i: usize) -> Candidate
+pub(crate) fn read_candidate(s: &[u8], i: usize) -> Candidate
     requires { ⌜ i + 133 ≤ length (now s) ⌝ }
     ensures { λ (r : Candidate). ⌜ candidateModel r ≡ blockAt (now (s .entry)) i 0 ⌝ }
 {

@@ -4,7 +4,7 @@ ghost use Rattle.job.specs.Commands.{shapeOf};
 use crate::types::Kind;
 use crate::types::Shape;
 
-pub fn shape_of(b: u8) -> Shape
+pub(crate) fn shape_of(b: u8) -> Shape
     ensures { λ (r : Shape). ⌜ r ≡ shapeOf b ⌝ }
 {
     match b {

@@ -1,10 +1,10 @@
 // Jobs: commands from bytes, the work area, and the check of a whole job.
-pub mod bytes;
-pub mod decode;
-pub mod operations;
-pub mod reader;
-pub mod reading;
+mod bytes;
+mod decode;
+mod operations;
+mod reader;
+mod reading;
 pub mod run;
-pub mod step;
+mod step;
 pub mod types;
 pub mod work;

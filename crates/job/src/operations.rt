@@ -1,7 +1,9 @@
 // The operations of the commands that make a result, on the results and blocks that they name.
 ghost use mathlib.Core.Path.{_≡_};
+ghost use mathlib.Core.Bool.{false, _||_};
 ghost use mathlib.Core.List.{List};
 ghost use Prim.Native.Nat.{_+_, _≤_, _<_};
+ghost use lib.Dec.{leb};
 ghost use lib.IntN.{ℤ};
 ghost use lib.ListN.{length};
 ghost use Rattle.model.specs.Models.{outcomeOf};
@@ -29,6 +31,21 @@ fn named(job: &[u8], i: usize, work: &[i32]) -> Model
     stretch_at(work, job[i] as usize)
 }
 
+// The results that the two bytes after a command name.
+struct Operands {
+    first: Model,
+    second: Model,
+}
+
+fn read_operands(job: &[u8], at: usize, work: &[i32]) -> Operands
+    requires { ⌜ (at + 2 < length (now job)) × (((leb maxResults (byteAt (now job) (at + 1)) || leb maxResults (byteAt (now job) (at + 2))) ≡ false) × (workPlaces ≤ length (now work))) ⌝ }
+    ensures { λ (r : Operands). ⌜ (r .first ≡ stretch (now (work .entry)) (byteAt (now (job .entry)) (at + 1))) × (r .second ≡ stretch (now (work .entry)) (byteAt (now (job .entry)) (at + 2))) ⌝ }
+{
+    let first = named(job, at + 1, work);
+    let second = named(job, at + 2, work);
+    Operands { first, second }
+}
+
 fn load(job: &[u8], at: usize) -> Answer
     requires { ⌜ at + 138 ≤ length (now job) ⌝ }
     ensures { λ (r : Answer). ⌜ ((w : List ℤ) → Performs (commandAt Kind.Load (now (job .entry)) at) w (outcomeOf r)) ⌝ }
@@ -48,14 +65,16 @@ fn add(job: &[u8], at: usize, work: &[i32]) -> Answer
     requires { ⌜ Operable Kind.Add (now job) at (now work) ⌝ }
     ensures { λ (r : Answer). ⌜ Performs (commandAt Kind.Add (now (job .entry)) at) (now (work .entry)) (outcomeOf r) ⌝ }
 {
-    model::add::add(named(job, at + 1, work), named(job, at + 2, work))
+    let o = read_operands(job, at, work);
+    model::add::add(o.first, o.second)
 }
 
 fn subtract(job: &[u8], at: usize, work: &[i32]) -> Answer
     requires { ⌜ Operable Kind.Subtract (now job) at (now work) ⌝ }
     ensures { λ (r : Answer). ⌜ Performs (commandAt Kind.Subtract (now (job .entry)) at) (now (work .entry)) (outcomeOf r) ⌝ }
 {
-    model::add::subtract(named(job, at + 1, work), named(job, at + 2, work))
+    let o = read_operands(job, at, work);
+    model::add::subtract(o.first, o.second)
 }
 
 // The kept degree that a byte means: the choice of 0xFF is made here, and not left to the library.
@@ -73,10 +92,9 @@ fn multiply(job: &[u8], at: usize, work: &[i32]) -> Answer
     requires { ⌜ Operable Kind.Multiply (now job) at (now work) ⌝ }
     ensures { λ (r : Answer). ⌜ Performs (commandAt Kind.Multiply (now (job .entry)) at) (now (work .entry)) (outcomeOf r) ⌝ }
 {
-    let a = named(job, at + 1, work);
-    let b = named(job, at + 2, work);
+    let o = read_operands(job, at, work);
     let kept = kept_degree(job[at + 3]);
-    model::multiply::multiply(a, b, kept)
+    model::multiply::multiply(o.first, o.second, kept)
 }
 
 // A test's verdict and result.
@@ -93,11 +111,10 @@ fn quotient(job: &[u8], at: usize, work: &[i32], scratch: &mut [i64]) -> Answer
     ensures { λ (r : Answer). ⌜ Performs (commandAt Kind.Quotient (now (job .entry)) at) (now (work .entry)) (outcomeOf r) ⌝ }
     ensures { λ _. ⌜ now (scratch .exit) ≡ now (scratch .entry) ⌝ }
 {
-    let f = named(job, at + 1, work);
-    let g = named(job, at + 2, work);
+    let o = read_operands(job, at, work);
     let h = read_candidate(job, at + 3);
     let w = read_candidate(job, at + 136);
-    outcome(certificate::quotient::quotient(f, g, h, w, scratch))
+    outcome(certificate::quotient::quotient(o.first, o.second, h, w, scratch))
 }
 
 fn root(job: &[u8], at: usize, work: &[i32], scratch: &mut [i64]) -> Answer
@@ -112,7 +129,13 @@ fn root(job: &[u8], at: usize, work: &[i32], scratch: &mut [i64]) -> Answer
 }
 
 // The operation of a command that makes a result.
-pub fn operate(kind: Kind, job: &[u8], at: usize, work: &[i32], scratch: &mut [i64]) -> Answer
+pub(crate) fn operate(
+    kind: Kind,
+    job: &[u8],
+    at: usize,
+    work: &[i32],
+    scratch: &mut [i64],
+) -> Answer
     requires { ⌜ Operable kind (now job) at (now work) × Clear (now scratch) ⌝ }
     ensures { λ (r : Answer). ⌜ Performs (commandAt kind (now (job .entry)) at) (now (work .entry)) (outcomeOf r) ⌝ }
     ensures { λ _. ⌜ now (scratch .exit) ≡ now (scratch .entry) ⌝ }

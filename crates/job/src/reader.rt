@@ -5,26 +5,26 @@ ghost use Rattle.job.specs.Commands.{readOutcome, readOutcomeOf};
 use crate::reading::read_command;
 use crate::types::Read;
 
-pub struct Reader<'a> {
-    pub job: &'a [u8],
-    pub at: usize,
+struct Reader<'a> {
+    job: &'a [u8],
+    at: usize,
 }
 
-pub fn new<'a>(job: &'a [u8], at: usize) -> Reader<'a>
+fn new<'a>(job: &'a [u8], at: usize) -> Reader<'a>
     ensures { λ r. ⌜ (r .job ≡ job .entry) × (r .at ≡ at) ⌝ }
 {
     Reader { job, at }
 }
 
 // Command k, at the reader's position, with so many results before it.
-pub fn next<'a>(reader: Reader<'a>, k: usize, count: usize) -> Read
+fn next<'a>(reader: Reader<'a>, k: usize, count: usize) -> Read
     ensures { λ r. ⌜ readOutcomeOf r ≡ readOutcome (now (reader .entry .job)) k count (reader .entry .at) ⌝ }
 {
     read_command(reader.job, k, count, reader.at)
 }
 
 // The same with plain parameters, so that the run over the commands is covered.
-pub fn read_next(job: &[u8], k: usize, count: usize, at: usize) -> Read
+pub(crate) fn read_next(job: &[u8], k: usize, count: usize, at: usize) -> Read
     ensures { λ r. ⌜ readOutcomeOf r ≡ readOutcome (now (job .entry)) k count at ⌝ }
 {
     next(new(job, at), k, count)

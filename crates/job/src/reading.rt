@@ -14,7 +14,7 @@ use crate::types::Read;
 use model::types::Model;
 use model::types::Verdict;
 
-pub const MAX_RESULTS: usize = 32;
+const MAX_RESULTS: usize = 32;
 
 // Unknown, no edition first, edition again.
 fn is_bad_kind(k: usize, kind: Kind) -> bool
@@ -105,7 +105,7 @@ fn is_too_long(kind: Kind, next: usize, len: usize) -> bool
 }
 
 // Command k, whose byte stands at a position, with so many results before it.
-pub fn read_command(job: &[u8], k: usize, count: usize, at: usize) -> Read
+pub(crate) fn read_command(job: &[u8], k: usize, count: usize, at: usize) -> Read
     ensures { λ r. ⌜ readOutcomeOf r ≡ readOutcome (now (job .entry)) k count at ⌝ }
 {
     if job.len() <= at {

@@ -11,10 +11,10 @@ ghost use Rattle.job.specs.Boxes.{Requirement3};
 use crate::step::step;
 use crate::types::Done;
 use crate::types::Report;
-use crate::work::SCRATCH_PLACES;
 use crate::work::WORK_PLACES;
 use crate::work::clear_scratch;
 use crate::work::clear_work;
+use certificate::types::SCRATCH_PLACES;
 use model::types::Verdict;
 
 // A job over cleared areas.

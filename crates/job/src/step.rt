@@ -3,9 +3,10 @@ ghost use mathlib.Core.Path.{_≡_};
 ghost use Prim.Native.Nat.{_≤_, _<_};
 ghost use lib.ListN.{length};
 ghost use Rattle.model.specs.Models.{outcomeOf};
+ghost use Rattle.model.specs.Areas.{Storable};
 ghost use Rattle.job.specs.Commands.{maxResults, commandAt};
 ghost use Rattle.job.specs.Jobs.{resulting, performed, command};
-ghost use Rattle.job.specs.Work.{workPlaces, Storable};
+ghost use Rattle.job.specs.Work.{workPlaces};
 ghost use Rattle.job.specs.Steps.{StepsBy, Performable, Clear};
 use crate::operations::operate;
 use crate::reader::read_next;
@@ -26,7 +27,8 @@ fn add_result(work: &mut [i32], count: usize, next: usize, a: Answer) -> Done
         Verdict::Accepted => {
             let m = a.model;
             store(work, count, m);
-            Done::More(next, count + 1)
+            let results = count + 1;
+            Done::More(next, results)
         }
         _ => Done::Refused(verdict),
     }
@@ -57,7 +59,7 @@ fn perform(
 }
 
 // Command k, whose byte stands at a position, with so many results before it.
-pub fn step(
+pub(crate) fn step(
     job: &[u8],
     k: usize,
     count: usize,

@@ -2,12 +2,12 @@
 -- the known ones.
 use mathlib.Core.Path.{_≡_}
 use borrow.Author.Tests.{ne-eqb}
-use Rattle.job.specs.Commands.{shape, shapeOf}
+use Rattle.job.specs.Commands.{shapeOf}
 use Rattle.job.specs.declared.types.Kind.the-variants.{Unknown}
 use Rattle.job.proofs.decode.shape_of.Statement.{statement}
 use Rattle.job.proofs.decode.shape_of.Tie as tie
 
-unknown : (c : tie.At-match-rest) → shape Unknown 0 ≡ shapeOf (c .before .args .b)
+unknown : (c : tie.At-match-rest) → record { kind = Unknown; width = 0 } ≡ shapeOf (c .before .args .b)
 unknown c =
     let r = c .match .rest in
     simp (

@@ -9,8 +9,7 @@ use Rattle.job.specs.Bytes.{blockAt}
 use Rattle.job.specs.Commands.{commandAt}
 use Rattle.job.specs.Jobs.{operation}
 use Rattle.job.specs.declared.types.Kind.the-variants.{Load}
-use Rattle.job.proofs.OperationFits.{load-storable}
-use Rattle.job.proofs.OperationLaws.{performs, loaded, loaded-good, loaded-bad}
+use Rattle.job.proofs.OperationLaws.{performs, loaded, loaded-storable, loaded-good, loaded-bad}
 use Rattle.job.proofs.operations.load.Statement.{statement}
 use Rattle.job.proofs.operations.load.Tie as tie
 
@@ -47,7 +46,7 @@ returns c =
     let d = c .before .before in
     λ w. performs
     (loaded-good (m d) (sym (c .before .is-good .ensures) ∙ c .if1 .taken))
-    (load-storable (m d))
+    (loaded-storable (m d))
     (λ count rs t h n. loads d rs)
 
 returns-2 : tie.Need-returns-2
@@ -55,7 +54,7 @@ returns-2 c =
     let d = c .before .before .before in
     λ w. performs
     (ap outcomeOf (c .refused .ensures) ∙ loaded-bad (m d) (sym (c .before .before .is-good .ensures) ∙ c .before .if1 .left))
-    (load-storable (m d))
+    (loaded-storable (m d))
     (λ count rs t h n. loads d rs)
 
 pub load-spec : {M : Type 1} → statement M

@@ -1,35 +1,21 @@
 -- `operations::multiply` meets its contract.
-use mathlib.Core.Path.{_≡_, ap, _∙_}
+use mathlib.Core.Path.{ap, _∙_}
 use Prim.Native.Nat.{ℕ, _+_}
 use native.Mathlib.Omega.{arith}
 use denote.Ref.{now}
 use Rattle.model.specs.Operations.{multiplication}
+use Rattle.model.specs.OutcomeFits.{multiplication-storable}
 use Rattle.job.specs.Bytes.{byteAt}
 use Rattle.job.specs.Commands.{commandAt, keptByte}
 use Rattle.job.specs.Jobs.{operation}
-use Rattle.job.proofs.OperationLaws.{performs, pair-named, held-two}
-use Rattle.job.proofs.OperationFits.{multiplication-storable}
+use Rattle.job.proofs.OperationLaws.{performs, held-two}
 use borrow.Author.Needs.{needs}
 use Rattle.job.proofs.operations.multiply.Statement.{statement}
 use Rattle.job.proofs.operations.multiply.Tie as tie
 
-add-named : tie.Need-add-named
-add-named c = search needs
-
-named-requires : tie.Need-named-requires
+read-operands-requires : tie.Need-read-operands-requires
 unfolding commandAt
-named-requires c κs =
-    let s = c .before in
-    pair-named (now (s .args .job)) (s .args .at) (now (s .args .work)) (s .pre .names) (omega (arith, s .pre .room)) (s .pre .long) .0
-
-add-named-2 : tie.Need-add-named-2
-add-named-2 c = search needs
-
-named-requires-2 : tie.Need-named-requires-2
-unfolding commandAt
-named-requires-2 c κs =
-    let s = c .before .before in
-    pair-named (now (s .args .job)) (s .args .at) (now (s .args .work)) (s .pre .names) (omega (arith, s .pre .room)) (s .pre .long) .1
+read-operands-requires c κs = let p = c .before .pre in (omega arith, (p .names, p .long))
 
 add-kept-degree : tie.Need-add-kept-degree
 add-kept-degree c = search needs
@@ -47,21 +33,20 @@ returns : tie.Need-returns
 unfolding commandAt operation
 returns c =
     let d = c .before .before .before in
-    let g = d .before .before .before .args in
+    let o = d .read-operands in
+    let g = d .before .before .args in
     let k = keptByte (byteAt (now (g .job)) (g .at + 3)) in
-    performs (c .multiply .ensures ∙ ap (λ (n : ℕ). multiplication n (d .before .named .result) (d .named2 .result)) (c .before .kept-degree .ensures)) (multiplication-storable k _ _)
+    performs (c .multiply .ensures ∙ ap (λ (n : ℕ). multiplication n (o .result .first) (o .result .second)) (c .before .kept-degree .ensures))
+    (multiplication-storable k _ _)
     (λ count rs t h n.
     held-two h (multiplication k) _ _ (byteAt (now (g .job)) (g .at + 1)) (byteAt (now (g .job)) (g .at + 2))
-    (d .before .named .ensures) (d .named2 .ensures) n)
+    (o .ensures .0) (o .ensures .1) n)
 
 pub multiply-spec : {M : Type 1} → statement M
 multiply-spec =
     tie.close
     (tie.spec
-    add-named
-    named-requires
-    add-named-2
-    named-requires-2
+    read-operands-requires
     add-kept-degree
     shared-slice-read-kept-degree
     kept-degree-requires

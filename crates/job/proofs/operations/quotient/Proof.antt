@@ -5,32 +5,18 @@ use native.Mathlib.Omega.{arith}
 use lib.ListN.{length}
 use denote.Ref.{now}
 use Rattle.certificate.specs.Tests.{scratchPlaces, quotientOf}
+use Rattle.certificate.specs.TestFits.{quotient-storable}
 use Rattle.job.specs.Bytes.{byteAt, blockAt}
 use Rattle.job.specs.Commands.{commandAt}
 use Rattle.job.specs.Jobs.{fromTest, operation}
-use Rattle.job.proofs.OperationLaws.{performs, pair-named, held-two, quotient-long}
-use Rattle.job.proofs.OperationFits.{quotient-storable}
+use Rattle.job.proofs.OperationLaws.{performs, held-two, quotient-long}
 use borrow.Author.Needs.{needs}
 use Rattle.job.proofs.operations.quotient.Statement.{statement}
 use Rattle.job.proofs.operations.quotient.Tie as tie
 
-add-named : tie.Need-add-named
-add-named c = search needs
-
-named-requires : tie.Need-named-requires
+read-operands-requires : tie.Need-read-operands-requires
 unfolding commandAt
-named-requires c κs =
-    let s = c .before in
-    pair-named (now (s .args .job)) (s .args .at) (now (s .args .work)) (s .pre .0 .names) (omega (arith, s .pre .0 .room)) (s .pre .0 .long) .0
-
-add-named-2 : tie.Need-add-named-2
-add-named-2 c = search needs
-
-named-requires-2 : tie.Need-named-requires-2
-unfolding commandAt
-named-requires-2 c κs =
-    let s = c .before .before in
-    pair-named (now (s .args .job)) (s .args .at) (now (s .args .work)) (s .pre .0 .names) (omega (arith, s .pre .0 .room)) (s .pre .0 .long) .1
+read-operands-requires c κs = let p = c .before .pre .0 in (omega arith, (p .names, p .long))
 
 add-read-candidate : tie.Need-add-read-candidate
 add-read-candidate c = search needs
@@ -58,13 +44,13 @@ unfolding commandAt operation
 returns c =
     let q = c .before .before in
     let d = q .before .before in
-    let e = d .before .before in
-    let s = e .before .before .before in
+    let o = d .before .before in
+    let s = o .before .before in
     let job = now (s .args .job) in
     let at = s .args .at in
     let len = length (now (s .args .scratch)) in
-    let f = e .before .named .result in
-    let g = e .named2 .result in
+    let f = o .read-operands .result .first in
+    let g = o .read-operands .result .second in
     let h = blockAt job (at + 3) 0 in
     let w = blockAt job (at + 136) 0 in (
       performs
@@ -76,7 +62,7 @@ returns c =
           (quotient-storable scratchPlaces f g h w)
           (λ count rs t z n.
           held-two z (λ f g. fromTest (quotientOf scratchPlaces f g h w)) f g (byteAt job (at + 1)) (byteAt job (at + 2))
-          (e .before .named .ensures) (e .named2 .ensures) n),
+          (o .read-operands .ensures .0) (o .read-operands .ensures .1) n),
       q .quotient .ensures .1 ∙ s .pre .1 .clear,
     )
 
@@ -84,10 +70,7 @@ pub quotient-spec : {M : Type 1} → statement M
 quotient-spec =
     tie.close
     (tie.spec
-    add-named
-    named-requires
-    add-named-2
-    named-requires-2
+    read-operands-requires
     add-read-candidate
     read-candidate-requires
     add-read-candidate-2

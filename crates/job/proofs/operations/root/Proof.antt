@@ -6,11 +6,11 @@ use borrow.Author.Tests.{leb-false}
 use lib.ListN.{length}
 use denote.Ref.{now}
 use Rattle.certificate.specs.Tests.{scratchPlaces, rootOf}
+use Rattle.certificate.specs.TestFits.{root-storable}
 use Rattle.job.specs.Bytes.{byteAt, blockAt}
 use Rattle.job.specs.Commands.{maxResults, commandAt}
 use Rattle.job.specs.Jobs.{fromTest, operation}
 use Rattle.job.proofs.OperationLaws.{performs, held-one, root-long}
-use Rattle.job.proofs.OperationFits.{root-storable}
 use borrow.Author.Needs.{needs}
 use Rattle.job.proofs.operations.root.Statement.{statement}
 use Rattle.job.proofs.operations.root.Tie as tie

@@ -10,10 +10,9 @@ use lib.Dec.{leb, ltb}
 use lib.ListN.{length}
 use denote.Ref.{now}
 use Rattle.model.specs.Models.{firstRefusal}
-use Rattle.job.specs.Bytes.{byteAt}
 use Rattle.job.specs.Commands.{widthOf, commandAt, maxResults, badKind, badValues, badNames, makesResult, readOutcome, readingNumber, readingPlaces}
 use Rattle.job.specs.declared.types.Shape.{Shape}
-use Rattle.job.proofs.ReadingLaws.{width-is, read-with, placesWith, outcomeWith}
+use Rattle.job.proofs.ReadingLaws.{read-with, placesWith, outcomeWith}
 use Rattle.job.proofs.reading.read_command.Statement.{statement}
 use Rattle.job.proofs.reading.read_command.Tie as tie
 
@@ -39,7 +38,7 @@ module _ (a : tie.After-shape-of) where
   reads = read-with job k count at s (a .shape-of .ensures)
 
   width : s .width ≡ widthOf (s .kind)
-  width = rw (a .shape-of .ensures) (width-is (byteAt job at))
+  width = rw (a .shape-of .ensures)
 
   test1 : leb (length job) at ≡ false
   test1 = lt-leb _ _ (a .before .before .if1 .left)

@@ -22,8 +22,8 @@ enum-told c = search needs
 store-requires : tie.Need-store-requires
 store-requires c κs = search needs
 
-add-t11 : tie.Need-add-t11
-add-t11 c = search needs
+add-results : tie.Need-add-results
+add-results c = search needs
 
 same-length : tie.Need-same-length
 same-length c = search needs
@@ -54,4 +54,4 @@ returns-2 c = λ rs t h.
 
 pub add-result-spec : {M : Type 1} → statement M
 add-result-spec =
-    tie.close (tie.spec enum-told store-requires add-t11 same-length returns returns-2)
+    tie.close (tie.spec enum-told store-requires add-results same-length returns returns-2)

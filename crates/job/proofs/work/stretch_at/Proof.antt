@@ -5,39 +5,39 @@ use Prim.Native.Nat.{ℕ, _*_}
 use native.Mathlib.Nat.{add-sub-cancel-left}
 use lib.ListN.{take, drop}
 use denote.Ref.{now}
-use Rattle.job.specs.Work.{stretchPlaces, modelIn}
+use Rattle.model.specs.Areas.{modelPlaces, areaModel}
 use Rattle.job.proofs.work.stretch_at.Statement.{statement}
 use Rattle.job.proofs.work.stretch_at.Tie as tie
 
 mul-a : tie.Need-mul-a
 mul-a c = search needs
 
-add-get : tie.Need-add-get
-add-get c = search needs
+add-read : tie.Need-add-read
+add-read c = search needs
 
-mul-get : tie.Need-mul-get
-mul-get c = search needs
+mul-read : tie.Need-mul-read
+mul-read c = search needs
 
-sub-get : tie.Need-sub-get
-sub-get c = search needs
+sub-read : tie.Need-sub-read
+sub-read c = search needs
 
-part-get-start : tie.Need-part-get-start
-part-get-start c = search needs
+part-read-start : tie.Need-part-read-start
+part-read-start c = search needs
 
-part-get-end : tie.Need-part-get-end
-part-get-end c = search needs
+part-read-end : tie.Need-part-read-end
+part-read-end c = search needs
 
-get-requires : tie.Need-get-requires
-get-requires c κs = search needs
+read-requires : tie.Need-read-requires
+read-requires c κs = search needs
 
 returns : tie.Need-returns
 returns c =
     let g = c .before .before .args in
-    c .get .ensures
-    ∙ ap (λ (n : ℕ). modelIn (take n (drop (stretchPlaces * g .i) (now (g .work)))))
-    (add-sub-cancel-left (stretchPlaces * g .i) stretchPlaces)
+    c .read .ensures
+    ∙ ap (λ (n : ℕ). areaModel (take n (drop (modelPlaces * g .i) (now (g .work)))))
+    (add-sub-cancel-left (modelPlaces * g .i) modelPlaces)
 
 pub stretch-at-spec : {M : Type 1} → statement M
 stretch-at-spec =
     tie.close
-    (tie.spec mul-a add-get mul-get sub-get part-get-start part-get-end get-requires returns)
+    (tie.spec mul-a add-read mul-read sub-read part-read-start part-read-end read-requires returns)

@@ -1,0 +1,33 @@
+-- `operations::read_operands` meets its contract.
+use native.Mathlib.Omega.{arith}
+use Prim.Native.Nat.{_+_, _<_}
+use denote.Ref.{now}
+use Rattle.job.specs.Bytes.{byteAt}
+use Rattle.job.specs.Commands.{maxResults}
+use Rattle.job.specs.CommandLaws.{both-below}
+use borrow.Author.Needs.{needs}
+use Rattle.job.proofs.operations.read_operands.Statement.{statement}
+use Rattle.job.proofs.operations.read_operands.Tie as tie
+
+-- both bytes name one of 32 results
+named : (c : tie.Start)
+    → (byteAt (now (c .args .job)) (c .args .at + 1) < maxResults) × (byteAt (now (c .args .job)) (c .args .at + 2) < maxResults)
+named c = both-below maxResults (byteAt (now (c .args .job)) (c .args .at + 1)) (byteAt (now (c .args .job)) (c .args .at + 2)) (c .pre .1 .0)
+
+add-named : tie.Need-add-named
+add-named c = search needs
+
+named-requires : tie.Need-named-requires
+named-requires c κs = let b = named (c .before) in omega arith
+
+add-named-2 : tie.Need-add-named-2
+add-named-2 c = search needs
+
+named-requires-2 : tie.Need-named-requires-2
+named-requires-2 c κs = let b = named (c .before .before) in omega arith
+
+returns : tie.Need-returns
+returns c = (c .before .named .ensures, c .named2 .ensures)
+
+pub read-operands-spec : {M : Type 1} → statement M
+read-operands-spec = tie.close (tie.spec add-named named-requires add-named-2 named-requires-2 returns)
