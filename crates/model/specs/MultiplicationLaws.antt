@@ -2,18 +2,15 @@
 use mathlib.Core.Path.{_≡_, sym, _∙_, ap}
 use mathlib.Core.Bool.{true}
 use mathlib.Core.List.{[], _∷_}
-use Prim.Native.Nat.{ℕ, suc, _+_, _-_, _*_, _^_, _≤_}
-use native.Mathlib.Nat.{mul-le-mul}
+use Prim.Native.Nat.{ℕ, suc, _+_, _-_, _*_, _≤_}
 use native.Mathlib.Omega.{arith}
 use lib.ListN.{take}
 use borrow.Author.Tests.{le-leb, ne-eqb}
 use Rattle.integer.specs.Rounding.{upℕ}
 use Rattle.chebyshev.specs.Coefficients.{weight}
-use Rattle.chebyshev.specs.Weight.{weight-take, weight-append-zeros}
-use Rattle.chebyshev.specs.ProductWeight.{weight-product}
-use Rattle.model.specs.Models.{scale, places, productPlaces, maxDegree, terms, good, tooLarge, firstRefusal, outcome}
+use Rattle.chebyshev.specs.Weight.{weight-append-zeros}
+use Rattle.model.specs.Models.{scale, places, maxDegree, good, tooLarge, firstRefusal, outcome}
 use Rattle.model.specs.Operations.{keptDegree, productDegree, productList, productLoss, productModel, rounded, multiplication}
-use Rattle.model.specs.ModelLaws.{Good}
 use Rattle.model.specs.Formed.{formedOutcome, formed-is}
 use Rattle.model.specs.RoundingPass.{RoundedFrom}
 use Rattle.model.specs.declared.types.Model.{Model}
@@ -22,14 +19,6 @@ use Rattle.model.specs.declared.multiply.Rounded.{Rounded}
 -- a kept degree within the limit stands for itself
 pub kept-is : (d : ℕ) → d ≤ maxDegree → keptDegree d ≡ d
 kept-is d h = rw (ne-eqb d 255 (λ e. omega arith))
-
--- the list C of two good models
-pub product-weight : (a b : Model) → Good a → Good b → weight (productList a b) ≤ 2 ^ 57
-unfolding productList
-product-weight a b g h =
-    let wa = weight-take (suc (a .degree)) (a .coefficients) in
-    let wb = weight-take (suc (b .degree)) (b .coefficients) in
-    omega (arith, weight-product productPlaces (terms a) (terms b), mul-le-mul {n₁ = weight (terms a)} {m₁ = weight (terms b)} {n₂ = 2 ^ 28} {m₂ = 2 ^ 28} (omega arith) (omega arith))
 
 -- what the radii lose: 2(A·e_b + B·e_a + e_a·e_b)
 abbrev pub radiusLoss : Model → Model → ℕ

@@ -12,7 +12,8 @@ use Rattle.chebyshev.specs.Weight.{weight-take}
 use Rattle.model.specs.Models.{scale}
 use Rattle.model.specs.ModelLaws.{Good, good-is}
 use Rattle.model.specs.Operations.{productDegree, productList}
-use Rattle.model.specs.MultiplicationLaws.{kept-is, radiusLoss, product-weight, product-formed}
+use Rattle.model.specs.GoodLaws.{weight-productList}
+use Rattle.model.specs.MultiplicationLaws.{kept-is, radiusLoss, product-formed}
 use Rattle.model.specs.Formed.{formedOutcome}
 use Rattle.model.specs.RoundingPass.{RoundedFrom, rounded-loss}
 use Rattle.model.specs.declared.types.Model.{Model}
@@ -126,7 +127,7 @@ add-loss : tie.Need-add-loss
 add-loss c =
     let r = c .before .before .before .before .before in
     let s = start r in
-    omega (arith, c .before .radius-loss .ensures .1, rounded-loss (productList (a s) (b s)) _ (r .round-product .result) (rounded-from r), product-weight (a s) (b s) (good-a s) (good-b s))
+    omega (arith, c .before .radius-loss .ensures .1, rounded-loss (productList (a s) (b s)) _ (r .round-product .result) (rounded-from r), weight-productList (a s) (b s) (s .pre .0 .0) (s .pre .0 .1))
 
 cast-up-unsigned : tie.Need-cast-up-unsigned
 cast-up-unsigned c = search needs
