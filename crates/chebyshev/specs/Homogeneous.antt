@@ -14,7 +14,7 @@ use Rattle.integer.specs.Ring.{CommutativeRing, reify, solve}
 use Rattle.integer.specs.OrderedRing.{le-of-eq, _⟨≼⟩_, abs-mul-le}
 use Rattle.integer.specs.Integer.{*-one, one-*}
 use Rattle.integer.specs.Order.{∣∣-is, le-pos, pos-le}
-use Rattle.integer.specs.Fraction.{ℚ, _/1+_, den-is, den-zero, whole, whole-is, _*ℚ_, *ℚ-comm, one-*ℚ, ℚ-ring, fraction-num}
+use Rattle.integer.specs.Fraction.{ℚ, _/1+_, den-is, den-zero, whole, whole-is, _*ℚ_, *ℚ-one, ℚ-ring, fraction-num}
 use Rattle.integer.specs.FractionOrder.{∣_∣ℚ, _≤ℚ_, ℚ-ordered, fraction-abs, fraction-le, whole-le}
 use Rattle.chebyshev.specs.Kinds.{firstKind}
 use Rattle.chebyshev.specs.KindsLaws.{first-bound}
@@ -122,4 +122,4 @@ homogeneous-bound p b k h = le-pos (natAbs t) (suc b ^ k) (whole-le (pos (natAbs
         rw (← first-fraction p b k)
         (_⟨≼⟩_ ℚ-ordered
         (abs-mul-le ℚ-ordered r (firstKind ℚ-ring (p /1+ b) k) (le-of-eq ℚ-ordered (ι-abs ℚ-ordered (pos (suc b ^ k)))) (first-bound ℚ-ordered (p /1+ b) k (fraction-range p b .1 h)))
-        (le-of-eq ℚ-ordered (*ℚ-comm r (whole (pos 1)) ∙ one-*ℚ r)))
+        (le-of-eq ℚ-ordered (*ℚ-one r)))

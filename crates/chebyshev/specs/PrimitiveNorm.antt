@@ -10,7 +10,7 @@ use Rattle.integer.specs.Embedding.{ι-nonneg, ι-abs}
 use Rattle.integer.specs.OrderedRing.{by-certificate, gap, _⊞_, le-refl, le-of-eq, _⟨≼⟩_, _⟨+⟩_, mul-mono, triangle, abs-mul, abs-neg}
 use Rattle.integer.specs.Difference.{all2, all3}
 use Rattle.integer.specs.Order.{pos-le}
-use Rattle.integer.specs.Fraction.{ℚ, whole, _+ℚ_, _-ℚ_, _*ℚ_, -ℚ_, ℚ-ring, *ℚ-comm, *ℚ-assoc, reifyℚ, solveℚ}
+use Rattle.integer.specs.Fraction.{ℚ, whole, _+ℚ_, _-ℚ_, _*ℚ_, -ℚ_, ℚ-ring, *ℚ-comm, *ℚ-assoc, *ℚ-one, reifyℚ, solveℚ}
 use Rattle.integer.specs.FractionOrder.{_≤ℚ_, ∣_∣ℚ, ℚ-ordered, ≤ℚ-cancel, absℚ-nonneg, whole-le}
 use Rattle.integer.specs.FractionInverse.{inverse, _/ℚ_, inverse-right, quotient-mul}
 use Rattle.integer.specs.FractionLinear.{common2, common3, common, common-literal, common-differences, linear-prop}
@@ -105,13 +105,10 @@ norm-primitive-difference a b = rw primitive-subtract at (norm-primitive (subtra
 
 -- ---- rounding
 
-mul-one : (x : ℚ) → x *ℚ whole (pos 1) ≡ x
-mul-one x = solveℚ (x ∷ []) (search reifyℚ depth 20) (search reifyℚ depth 20) tt
-
 -- of t = n / 2k and c with 2·|c·2k − n| ≤ 2k the distance is at most one half
 round-one : (k : ℕ) (t c n : ℚ) → t *ℚ whole (pos (2 * suc k)) ≡ n → (whole (pos 2) *ℚ ∣ c *ℚ whole (pos (2 * suc k)) -ℚ n ∣ℚ) ≤ℚ whole (pos (2 * suc k))
     → ∣ whole (pos 2) *ℚ (t -ℚ c) ∣ℚ ≤ℚ whole (pos 1)
-round-one k t c n e h = ≤ℚ-cancel d ∣ whole (pos 2) *ℚ (t -ℚ c) ∣ℚ (whole (pos 1)) (natural-positive (2 * suc k) (omega arith)) (rw (product, mul-one) h)
+round-one k t c n e h = ≤ℚ-cancel d ∣ whole (pos 2) *ℚ (t -ℚ c) ∣ℚ (whole (pos 1)) (natural-positive (2 * suc k) (omega arith)) (rw (product, *ℚ-one) h)
   where
     d : ℚ
     d = whole (pos (2 * suc k))
@@ -133,7 +130,7 @@ exact-one k t c e = ap (λ v. whole (pos 2) *ℚ (v -ℚ c)) (sym (undo t) ∙ a
     d = whole (pos (2 * suc k))
 
     undo : (x : ℚ) → (x *ℚ d) /ℚ d ≡ x
-    undo x = *ℚ-assoc x d (inverse d) ∙ ap (λ v. x *ℚ v) (inverse-right d (divisor-nonzero k)) ∙ mul-one x
+    undo x = *ℚ-assoc x d (inverse d) ∙ ap (λ v. x *ℚ v) (inverse-right d (divisor-nonzero k)) ∙ *ℚ-one x
 
 -- c_1, c_2, … = cs are within one half of the exact ones for k from 1 to m, and exact beyond
 pub record Rounded (a cs : List ℚ) (m : ℕ) : Type 0 where
@@ -142,7 +139,7 @@ pub record Rounded (a cs : List ℚ) (m : ℕ) : Type 0 where
 
 norm-rounded : (a cs : List ℚ) (m : ℕ) → Rounded a cs m → (whole (pos 2) *ℚ norm ℚ-ordered (subtractLists ℚ-ring (primitiveTail a) cs)) ≤ℚ whole (pos m)
 norm-rounded a cs m r =
-    rw (norm-scale ℚ-ordered, ι-abs ℚ-ordered, mul-one) at
+    rw (norm-scale ℚ-ordered, ι-abs ℚ-ordered, *ℚ-one) at
     (norm-bounded ℚ-ordered (whole (pos 1)) m (scaleList ℚ-ring (whole (pos 2)) errors)
     (λ k h. rw error-at (round-one k _ _ (numerator a k) (primitive-numerator a k) (r .near k h)))
     (λ k h. error-at k ∙ exact-one k _ _ (primitive-numerator a k ∙ sym (r .exact k h))))

@@ -109,7 +109,7 @@ module _ (o : Operands) where
   pub t : Truncated n (natAbs d) q r
   t = truncated n d (is-positive d (o .positive))
 
-  pub q-fits : SFits w64 q
+  q-fits : SFits w64 q
   q-fits = fits w64 q (omega (arith, t, within w64 n fits-n)) (omega (arith, t, within w64 n fits-n))
 
   r-fits : SFits w64 r

@@ -1,7 +1,7 @@
 -- ℚ, the fractions, as a true quotient: `a /1+ b` is a / (1 + b), and equal fractions are equal (≡), so that `rw` and the
 -- solver serve:  solveℚ (x ∷ y ∷ []) (search reifyℚ depth 20) (search reifyℚ depth 20) tt : a ≡ b
 -- A statement about all fractions is proved at numerators and denominators by `all1ℚ`, `all2ℚ`, `all3ℚ`, or by `represent`.
-use mathlib.Core.Path.{_≡_, refl, sym, ap}
+use mathlib.Core.Path.{_≡_, refl, sym, _∙_, ap}
 use mathlib.Core.List.{List, [], _∷_}
 use mathlib.Core.Quot.{Setoid, Quotient, Quotient·mk, Quotient·sound, Quotient-set, Quotient·lift₂, Quotient·exact, Quotient·ind}
 use Prim.Native.Nat.{ℕ, suc, _+_, _*_, _≤_}
@@ -213,6 +213,9 @@ zero-*ℚ = all1ℚ _ _ (λ a b. simp fractions (fraction-eq _ _ _ _ (simp (den-
 pub one-*ℚ : (x : ℚ) → whole (pos 1) *ℚ x ≡ x
 unfolding whole
 one-*ℚ = all1ℚ _ _ (λ a b. simp fractions (fraction-eq _ _ _ _ (simp (den-mul, den-zero) (solveℤ (a ∷ den b ∷ []) (search reifyℤ depth 20) (search reifyℤ depth 20) tt))))
+
+pub *ℚ-one : (x : ℚ) → x *ℚ whole (pos 1) ≡ x
+*ℚ-one x = *ℚ-comm x (whole (pos 1)) ∙ one-*ℚ x
 
 pub -ℚ-is : (x : ℚ) → -ℚ x ≡ whole (negsuc 0) *ℚ x
 unfolding -ℚ_

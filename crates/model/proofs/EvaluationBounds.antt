@@ -1,10 +1,9 @@
 -- From V and W to the bounds of an evaluation: the numbers on the way fit 64 bits.
 use mathlib.Core.Path.{_≡_, ap}
 use mathlib.Core.Bool.{true}
-use Prim.Native.Nat.{ℕ, suc, _+_, _*_, _^_, _≤_}
+use Prim.Native.Nat.{ℕ, _+_, _*_, _^_, _≤_}
 use native.Mathlib.Omega.{arith}
 use lib.IntN.{ℤ, pos, natAbs, _+ℤ_, _-ℤ_, _*ℤ_}
-use lib.ListN.{length, length-take}
 use mir.Syntax.{w64}
 use mir.Val.{SFits, toZ}
 use mir.Facts.{toZ-pos}
@@ -12,10 +11,9 @@ use Rattle.integer.specs.Parts.{abs-add, abs-sub, abs-mul}
 use Rattle.integer.specs.Machine.{abs-fits}
 use Rattle.integer.specs.Rounding.{floor, up}
 use Rattle.integer.specs.RoundingSize.{floor-size, up-size}
-use Rattle.chebyshev.specs.Coefficients.{weight}
-use Rattle.chebyshev.specs.Weight.{weight-take}
-use Rattle.model.specs.Models.{scale, places, maxWeight, terms, good}
+use Rattle.model.specs.Models.{scale, terms, good}
 use Rattle.model.specs.ModelLaws.{Good, good-is}
+use Rattle.model.specs.GoodLaws.{length-terms, weight-terms}
 use Rattle.model.specs.Evaluation.{pointSum, pointError, lowBound, highBound}
 use Rattle.model.specs.EvaluationLaws.{sum-size, error-size}
 use Rattle.model.specs.declared.types.Model.{Model}
@@ -31,17 +29,11 @@ module _ {a : Model} {p v : ℤ} {w : ℕ} (s : Sums a p v w) where
   is-good : Good a
   is-good = good-is a (s .passed)
 
-  short : length (terms a) ≤ places
-  short = rw length-take (omega (arith, is-good))
-
-  light : weight (terms a) ≤ maxWeight
-  light = omega (arith, weight-take (suc (a .degree)) (a .coefficients), is-good)
-
   fourfold-size : natAbs (pos 4 *ℤ v) ≤ 2 ^ 61
-  fourfold-size = omega (arith, abs-mul (pos 4) v, ap natAbs (s .value-is), sum-size p 0 32 (terms a) (s .inside) (omega (arith, short)), light)
+  fourfold-size = omega (arith, abs-mul (pos 4) v, ap natAbs (s .value-is), sum-size p 0 32 (terms a) (s .inside) (omega (arith, length-terms a (s .passed))), weight-terms a (s .passed))
 
   pub error-small : w ≤ 2 ^ 38
-  error-small = omega (arith, s .error-is, error-size 0 32 (terms a) (omega (arith, short)), light)
+  error-small = omega (arith, s .error-is, error-size 0 32 (terms a) (omega (arith, length-terms a (s .passed))), weight-terms a (s .passed))
 
   below-size : natAbs (pos 4 *ℤ v -ℤ pos w) ≤ 2 ^ 61 + 2 ^ 38
   below-size = omega (arith, abs-sub (pos 4 *ℤ v) (pos w), fourfold-size, error-small)

@@ -1,12 +1,14 @@
 -- Add and subtract as one operation, a + s·b with s = 1 or s = −1, as the code has it.
-use mathlib.Core.Path.{_≡_, refl, ap₂}
+use mathlib.Core.Path.{_≡_, refl, ap, ap₂}
 use mathlib.Core.Bool.{true, not}
 use mathlib.Core.List.{List, [], _∷_}
-use Prim.Native.Nat.{_+_, max}
-use lib.IntN.{ℤ, pos, negsuc}
+use Prim.Native.Nat.{ℕ, _+_, _*_, _≤_, max}
+use native.Mathlib.Omega.{arith}
+use lib.IntN.{ℤ, pos, negsuc, natAbs}
 use Rattle.integer.specs.Integer.{ℤ-ring, one-*}
-use Rattle.chebyshev.specs.Coefficients.{addLists, scaleList, subtractLists}
+use Rattle.chebyshev.specs.Coefficients.{weight, addLists, scaleList, subtractLists}
 use Rattle.chebyshev.specs.CoefficientLaws.{opposite-scale}
+use Rattle.chebyshev.specs.Weight.{weight-add, weight-scale}
 use Rattle.model.specs.Models.{modelOf, good, tooLarge, firstRefusal, Outcome, outcome}
 use Rattle.model.specs.Operations.{sumModel, differenceModel, addition, subtraction}
 use Rattle.model.specs.declared.types.Model.{Model}
@@ -16,6 +18,9 @@ combinedModel s a b = modelOf (max (a .degree) (b .degree)) (addLists ℤ-ring (
 
 unfoldable pub combination : ℤ → Model → Model → Outcome
 combination s a b = outcome ((not (good a), 2) ∷ (not (good b), 2) ∷ (tooLarge (combinedModel s a b), 3) ∷ []) (combinedModel s a b)
+
+pub combined-weight : (s : ℤ) (a b : List ℤ) → natAbs s ≡ 1 → weight (addLists ℤ-ring a (scaleList ℤ-ring s b)) ≤ weight a + weight b
+combined-weight s a b e = omega (arith, weight-add a (scaleList ℤ-ring s b), weight-scale s b, ap (λ (n : ℕ). n * weight b) e)
 
 -- of two good models only the result is tested
 pub combination-good : (s : ℤ) (a b : Model) → good a ≡ true → good b ≡ true → outcome ((tooLarge (combinedModel s a b), 3) ∷ []) (combinedModel s a b) ≡ combination s a b

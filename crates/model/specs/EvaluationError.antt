@@ -11,7 +11,7 @@ use Rattle.integer.specs.Order.{∣_∣, ∣∣-is, pos-le, le-pos}
 use Rattle.integer.specs.Rounding.{near}
 use Rattle.integer.specs.RoundingLaws.{near-error}
 use Rattle.integer.specs.OrderedRing.{abs-mul, abs-mul-le, le-of-eq, _⟨≼⟩_, _⟨+⟩_, triangle, abs-scale}
-use Rattle.integer.specs.Fraction.{ℚ, _/1+_, whole, _+ℚ_, _-ℚ_, -ℚ_, _*ℚ_, *ℚ-comm, one-*ℚ, whole-add, whole-mul, fraction-num, den-is, ℚ-ring, reifyℚ, solveℚ}
+use Rattle.integer.specs.Fraction.{ℚ, _/1+_, whole, _+ℚ_, _-ℚ_, -ℚ_, _*ℚ_, *ℚ-comm, one-*ℚ, *ℚ-one, whole-add, whole-mul, fraction-num, den-is, ℚ-ring, reifyℚ, solveℚ}
 use Rattle.integer.specs.FractionOrder.{_≤ℚ_, ∣_∣ℚ, ℚ-ordered, whole-le, whole-abs, whole-neg}
 use Rattle.chebyshev.specs.Kinds.{firstKind}
 use Rattle.chebyshev.specs.KindsLaws.{first-bound}
@@ -109,8 +109,5 @@ module _ (p : ℤ) (h : natAbs p ≤ scale) where
 
       scaled : ∣ whole (pos (2 ^ 32)) *ℚ firstKind ℚ-ring (point p) k ∣ℚ ≤ℚ whole (pos (2 ^ 32))
       scaled =
-          rw *-one at
+          rw *ℚ-one at
           (abs-mul-le ℚ-ordered (whole (pos (2 ^ 32))) (firstKind ℚ-ring (point p) k) (le-of-eq ℚ-ordered (ι-abs ℚ-ordered (pos (2 ^ 32)))) (first-bound ℚ-ordered (point p) k (point-inside p h)))
-        where
-          *-one : (x : ℚ) → x *ℚ whole (pos 1) ≡ x
-          *-one x = solveℚ (x ∷ []) (search reifyℚ depth 20) (search reifyℚ depth 20) tt

@@ -1,20 +1,23 @@
 -- Of a good model the coefficients beyond the degree are zero, so that its elements, its value and its products may be taken of
--- its terms or of all its coefficients.
+-- its terms or of all its coefficients; and how large its products are.
 use mathlib.Core.Path.{_≡_, refl, sym, _∙_, ap, ap₂}
 use mathlib.Core.Bool.{true}
 use mathlib.Core.List.{List, [], _∷_, _++_}
-use Prim.Native.Nat.{ℕ, zero, suc, _≤_}
+use Prim.Native.Nat.{ℕ, zero, suc, _*_, _^_, _≤_}
 use native.Mathlib.Omega.{arith}
+use native.Mathlib.Nat.{mul-le-mul}
 use lib.IntN.{ℤ, pos}
 use lib.ListN.{length, getD, replicate, length-take, take-append-drop}
 use Rattle.integer.specs.Parts.{abs, same}
 use Rattle.integer.specs.Integer.{ℤ-ring}
 use Rattle.integer.specs.Fraction.{ℚ, whole, _*ℚ_, ℚ-ring}
 use Rattle.chebyshev.specs.Coefficients.{weight}
+use Rattle.chebyshev.specs.Weight.{weight-take}
 use Rattle.chebyshev.specs.Product.{product}
 use Rattle.chebyshev.specs.ProductSums.{product-zeros-left, product-zeros-right}
 use Rattle.chebyshev.specs.ProductLaws.{value-product-whole}
-use Rattle.model.specs.Models.{places, productPlaces, terms, beyond, good}
+use Rattle.chebyshev.specs.ProductWeight.{weight-product}
+use Rattle.model.specs.Models.{places, productPlaces, maxWeight, terms, beyond, good}
 use Rattle.model.specs.ModelLaws.{good-is}
 use Rattle.model.specs.ValueLaws.{valueAt, valueAt-append-zeros}
 use Rattle.model.specs.Operations.{productList}
@@ -39,8 +42,11 @@ module _ (m : Model) (h : good m ≡ true) where
       sym (take-append-drop (suc (m .degree)) (m .coefficients))
       ∙ ap (λ l. terms m ++ l) (weight-zero (beyond m) (good-is m h .beyond-zero))
 
-  length-terms : length (terms m) ≤ places
+  pub length-terms : length (terms m) ≤ places
   length-terms = omega (arith, length-take (suc (m .degree)) (m .coefficients), good-is m h .degree-fits)
+
+  pub weight-terms : weight (terms m) ≤ maxWeight
+  weight-terms = omega (arith, weight-take (suc (m .degree)) (m .coefficients), good-is m h .weight-fits)
 
   pub getD-terms : (i : ℕ) → getD (m .coefficients) i (pos 0) ≡ getD (terms m) i (pos 0)
   getD-terms i = ap (λ a. getD a i (pos 0)) coefficients-terms ∙ getD-append-zeros (terms m) (length (beyond m)) i
@@ -56,6 +62,10 @@ module _ (a b : Model) (ha : good a ≡ true) (hb : good b ≡ true) where
       sym (ap₂ (product ℤ-ring productPlaces) (coefficients-terms a ha) (coefficients-terms b hb)
       ∙ product-zeros-left ℤ-ring productPlaces (terms a) (length (beyond a)) (terms b ++ replicate (length (beyond b)) (pos 0))
       ∙ product-zeros-right ℤ-ring productPlaces (terms a) (terms b) (length (beyond b)))
+
+  pub weight-productList : weight (productList a b) ≤ 2 ^ 57
+  unfolding productList
+  weight-productList = omega (arith, weight-product productPlaces (terms a) (terms b), mul-le-mul (weight-terms a ha) (weight-terms b hb))
 
   -- 2·value a·value b = value C
   pub value-productList : (x : ℚ) → whole (pos 2) *ℚ valueAt x (a .coefficients) *ℚ valueAt x (b .coefficients) ≡ valueAt x (productList a b)

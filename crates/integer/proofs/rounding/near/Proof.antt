@@ -7,9 +7,9 @@ use lib.Signed.{_<ℤ_, _≤ℤ_}
 use mir.Syntax.{w64}
 use mir.Val.{SFits}
 use mir.Facts.{toZ-ofZ}
-use Rattle.integer.specs.Parts.{abs, apart, product, difference}
+use Rattle.integer.specs.Parts.{abs, apart, product, difference, abs-mul, abs-sub}
 use Rattle.integer.specs.Difference.{≤-parts, <-parts}
-use Rattle.integer.specs.Machine.{fits, is-positive, positive-is, le-true, le-false, lt-true, lt-false}
+use Rattle.integer.specs.Machine.{abs-fits, is-positive, positive-is, le-true, le-false, lt-true, lt-false}
 use Rattle.integer.proofs.Division.{Operands, q, r, t, asks, q-is, r-is, q-up-fits, q-down-fits, near-above, near-below, near-at}
 use Rattle.integer.proofs.rounding.near.Statement.{statement}
 use Rattle.integer.proofs.rounding.near.Tie as tie
@@ -28,16 +28,10 @@ module _ (s : tie.Start) where
   d-is = positive-is d (is-positive d (s .pre .0))
 
   twice-fits : SFits w64 twice
-  twice-fits =
-      fits w64 twice
-      (omega (arith, product (pos 2) (r o), abs (r o), abs d, apart d, t o, is-positive d (s .pre .0), ≤-parts d _ .0 (s .pre .1)))
-      (omega (arith, product (pos 2) (r o), abs (r o), abs d, apart d, t o, is-positive d (s .pre .0), ≤-parts d _ .0 (s .pre .1)))
+  twice-fits = abs-fits w64 twice (omega (arith, abs-mul (pos 2) (r o), t o .small, abs d, apart d, is-positive d (s .pre .0), ≤-parts d _ .0 (s .pre .1)))
 
   minus-fits : SFits w64 (pos 0 -ℤ d)
-  minus-fits =
-      fits w64 (pos 0 -ℤ d)
-      (omega (arith, difference (pos 0) d, apart d, is-positive d (s .pre .0)))
-      (omega (arith, difference (pos 0) d, apart d, ≤-parts d _ .0 (s .pre .1)))
+  minus-fits = abs-fits w64 (pos 0 -ℤ d) (omega (arith, abs-sub (pos 0) d, abs d, apart d, is-positive d (s .pre .0), ≤-parts d _ .0 (s .pre .1)))
 
 div-q : tie.Need-div-q
 div-q s = asks (o s)

@@ -4,16 +4,18 @@ use mathlib.Core.List.{List}
 use Prim.Native.Nat.{ℕ, _+_, _-_, _*_, _^_, _≤_}
 use native.Mathlib.Omega.{arith}
 use lib.IntN.{ℤ, pos, natAbs, _+ℤ_, _*ℤ_}
-use lib.ListN.{length, getD, drop, replicate, length-replicate}
+use lib.ListN.{getD, drop, replicate, length-replicate}
 use mir.Syntax.{w32}
-use mir.Val.{SFits, toZ}
+use mir.Val.{SFits, toZ, ofZ}
 use mir.Facts.{toZ-ofZ}
+use Rattle.integer.specs.Parts.{abs-mul}
 use Rattle.integer.specs.Integer.{ℤ-ring}
 use Rattle.integer.specs.Machine.{signed-needs, abs-fits, fits-widens}
 use Rattle.integer.specs.Filling.{Filling, begins, turn, whole}
 use Rattle.chebyshev.specs.Coefficients.{weight, addLists, scaleList}
 use Rattle.chebyshev.specs.CoefficientLaws.{length-add, length-scale, getD-add, getD-scale}
-use Rattle.chebyshev.specs.Weight.{weight-at, weight-add, weight-scale, weight-step, weight-end}
+use Rattle.chebyshev.specs.Weight.{weight-at, weight-step, weight-end}
+use Rattle.model.specs.Combination.{combined-weight}
 use Rattle.model.proofs.add.combine.Statement.{statement}
 use Rattle.model.proofs.add.combine.Tie as tie
 
@@ -44,62 +46,55 @@ mul-c-2 c = search signed-needs
 element-copy-out-c-2 : tie.Need-element-copy-out-c-2 Inv-loop μ-loop
 element-copy-out-c-2 c = search signed-needs
 
--- the list that is formed
-module _ (start : tie.Start Inv-loop μ-loop) where
-  abbrev a : List ℤ
-  a = start .args .a .now
-
-  abbrev b : List ℤ
-  b = start .args .b .now
-
-  abbrev s : ℤ
-  s = start .args .sign
-
-  abbrev z : List ℤ
-  z = sum a b s
-
-  z-length : length z ≡ 33
-  z-length = simp (length-add ℤ-ring, length-scale ℤ-ring) (omega (arith, start .pre .0))
-
-  scaled : weight (scaleList ℤ-ring s b) ≡ weight b
-  scaled = omega (arith, weight-scale s b, ap (λ (n : ℕ). n * weight b) (start .pre .1 .2))
-
-  z-weight : weight z ≤ 2 ^ 29
-  z-weight = omega (arith, weight-add a (scaleList ℤ-ring s b), scaled, start .pre .1)
-
 loop-holds : tie.Need-loop-holds Inv-loop μ-loop
-loop-holds c = rw (toZ-ofZ (c .fits .sign)) (record { filled = begins (z c) _ 0 33 (z-length c) (omega arith); rest = omega arith })
+loop-holds c =
+    rw (toZ-ofZ (c .fits .sign)) (record {
+      filled = begins (sum (c .args .a .now) (c .args .b .now) (c .args .sign)) _ 0 33 (simp (length-add ℤ-ring, length-scale ℤ-ring) (omega (arith, c .pre .0))) (omega arith);
+      rest = omega arith;
+    })
 
 -- at the loop's head
 module _ (l : tie.At-loop Inv-loop μ-loop) where
   abbrev i : ℕ
   i = l .loop .i
 
-  inv : Walked (z (l .before)) (replicate 33 (pos 0)) (l .loop .coefficients) (l .loop .weight) i
+  abbrev a : List ℤ
+  a = l .before .args .a .now
+
+  abbrev b : List ℤ
+  b = l .before .args .b .now
+
+  abbrev s : ℤ
+  s = l .before .args .sign
+
+  abbrev z : List ℤ
+  z = sum a b s
+
+  inv : Walked z (replicate 33 (pos 0)) (l .loop .coefficients) (l .loop .weight) i
   inv = rw (toZ-ofZ (l .before .fits .sign)) at (l .loop .inv)
+
+  z-weight : weight z ≤ 2 ^ 29
+  z-weight = omega (arith, combined-weight s a b (l .before .pre .1 .2), l .before .pre .1)
 
 -- in a turn
 module _ (c : tie.After-c2 Inv-loop μ-loop) where
   abbrev l : tie.At-loop Inv-loop μ-loop
   l = c .before .before .before
 
-  abbrev start : tie.Start Inv-loop μ-loop
-  start = l .before
-
   abbrev x : ℤ
-  x = getD (a start) (i l) (pos 0)
+  x = getD (a l) (i l) (pos 0)
 
   abbrev y : ℤ
-  y = getD (b start) (i l) (pos 0)
+  y = getD (b l) (i l) (pos 0)
 
   abbrev v : ℤ
-  v = x +ℤ s start *ℤ y
+  v = x +ℤ s l *ℤ y
 
-  v-is : v ≡ getD (z start) (i l) (pos 0)
+  v-is : v ≡ getD (z l) (i l) (pos 0)
   v-is = simp (getD-add ℤ-ring, getD-scale ℤ-ring)
 
-  fits-s : SFits w32 (s start)
-  fits-s = start .fits .sign
+  fits-s : SFits w32 (s l)
+  fits-s = l .before .fits .sign
 
   fits-x : SFits w32 x
   fits-x = record { sfits = c .before .c .given }
@@ -107,11 +102,15 @@ module _ (c : tie.After-c2 Inv-loop μ-loop) where
   fits-y : SFits w32 y
   fits-y = record { sfits = c .c2 .given }
 
-  fits-sy : SFits w32 (s start *ℤ y)
-  fits-sy = abs-fits w32 (s start *ℤ y) (omega (arith, simp (getD-scale ℤ-ring) at (weight-at (scaleList ℤ-ring (s start) (b start)) (i l)), scaled start, start .pre .1))
+  fits-sy : SFits w32 (s l *ℤ y)
+  fits-sy = abs-fits w32 (s l *ℤ y) (omega (arith, abs-mul (s l) y, ap (λ (n : ℕ). n * natAbs y) (l .before .pre .1 .2), weight-at (b l) (i l), l .before .pre .1))
 
   fits-v : SFits w32 v
-  fits-v = abs-fits w32 v (omega (arith, ap natAbs v-is, weight-at (z start) (i l), z-weight start))
+  fits-v = abs-fits w32 v (omega (arith, ap natAbs v-is, weight-at (z l) (i l), z-weight l))
+
+  -- what the code computes, read back
+  v-reads : toZ w32 (ofZ w32 (toZ w32 (ofZ w32 x) +ℤ toZ w32 (ofZ w32 (toZ w32 (ofZ w32 (s l)) *ℤ toZ w32 (ofZ w32 y))))) ≡ v
+  v-reads = simp (toZ-ofZ fits-s, toZ-ofZ fits-x, toZ-ofZ fits-y, toZ-ofZ fits-sy, toZ-ofZ fits-v)
 
 mul-c-3 : tie.Need-mul-c-3 Inv-loop μ-loop
 mul-c-3 c = simp (toZ-ofZ (fits-s c), toZ-ofZ (fits-y c)) (fits-sy c)
@@ -126,20 +125,20 @@ array-set-from-coefficients : tie.Need-array-set-from-coefficients Inv-loop μ-l
 array-set-from-coefficients c = search signed-needs
 
 cast-magnitude : tie.Need-cast-magnitude Inv-loop μ-loop
-cast-magnitude c = simp (toZ-ofZ (fits-s c), toZ-ofZ (fits-x c), toZ-ofZ (fits-y c), toZ-ofZ (fits-sy c), toZ-ofZ (fits-v c)) (fits-widens (fits-v c))
+cast-magnitude c = rw (v-reads c) (fits-widens (fits-v c))
 
 magnitude-requires : tie.Need-magnitude-requires Inv-loop μ-loop
 magnitude-requires c κs = tt
 
 -- what the turn adds to the weight
-weighed : (m : tie.After-magnitude Inv-loop μ-loop) → let l = l (m .before) in weight (drop (i l) (z (l .before))) ≡ m .magnitude .result + weight (drop (i l + 1) (z (l .before)))
+weighed : (m : tie.After-magnitude Inv-loop μ-loop) → let l = l (m .before) in weight (drop (i l) (z l)) ≡ m .magnitude .result + weight (drop (i l + 1) (z l))
 weighed m =
     let c = m .before in
-    let e : m .magnitude .result ≡ natAbs (v c) = simp (toZ-ofZ (fits-s c), toZ-ofZ (fits-x c), toZ-ofZ (fits-y c), toZ-ofZ (fits-sy c), toZ-ofZ (fits-v c), toZ-ofZ (fits-widens (fits-v c))) at (m .magnitude .ensures) in
-    omega (arith, ap natAbs (v-is c), weight-step (z (start c)) (i (l c)) (omega (arith, z-length (start c))))
+    let e : m .magnitude .result ≡ natAbs (v c) = rw (v-reads c, toZ-ofZ (fits-widens (fits-v c))) at (m .magnitude .ensures) in
+    omega (arith, ap natAbs (v-is c), weight-step (z (l c)) (i (l c)) (omega (arith, inv (l c) .filled .wide)))
 
 add-weight : tie.Need-add-weight Inv-loop μ-loop
-add-weight m = let l = l (m .before) in omega (arith, weighed m, z-weight (l .before), inv l .rest)
+add-weight m = let l = l (m .before) in omega (arith, weighed m, z-weight l, inv l .rest)
 
 add-i : tie.Need-add-i Inv-loop μ-loop
 add-i c = omega arith
@@ -151,7 +150,7 @@ loop-again : tie.Need-loop-again Inv-loop μ-loop
 loop-again m =
     let c = m .before in
     let l = l c in
-    simp (toZ-ofZ (fits-s c), toZ-ofZ (fits-x c), toZ-ofZ (fits-y c), toZ-ofZ (fits-sy c), toZ-ofZ (fits-v c)) (record {
+    rw (v-reads c, toZ-ofZ (fits-s c)) (record {
       filled = turn (i l) (v c) (pos 0) (inv l .filled) (omega arith) (omega arith) (v-is c);
       rest = omega (arith, weighed m, inv l .rest);
     })
@@ -160,7 +159,7 @@ returns : tie.Need-returns Inv-loop μ-loop
 returns c =
     let l = c .before in
     let e = whole (inv l .filled) (omega arith) (length-replicate 33 (pos 0)) in
-    (e, omega (arith, weight-end (z (l .before)) (i l) (omega (arith, z-length (l .before))), ap weight e, inv l .rest))
+    (e, omega (arith, weight-end (z l) (i l) (omega (arith, inv l .filled .wide)), ap weight e, inv l .rest))
 
 pub combine-spec : {M : Type 1} → statement M
 combine-spec =

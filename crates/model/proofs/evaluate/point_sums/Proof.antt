@@ -126,13 +126,11 @@ module _ (n : tie.After-near Inv-loop μ-loop) where
   fits-near : SFits w64 (n .near .result)
   fits-near = record { sfits = n .near .ok }
 
-  walked : let l = l c in Walk (p l) (cs (s l)) (value l +ℤ x c *ℤ t l) (l .loop .error + m .magnitude .result * (k l * k l - k l)) (next l) (n .near .result -ℤ t l) (k l + 1)
-  walked =
-      after c (m .magnitude .result) (n .near .result) (x-abs m)
-      (simp (toZ-ofZ (fits-p (l c)), toZ-ofZ (fits-twice c), toZ-ofZ (fits-numerator c)) at (n .near .ensures))
+  near-is : n .near .result ≡ near (pos 2 *ℤ p (l c) *ℤ next (l c)) scale
+  near-is = simp (toZ-ofZ (fits-p (l c)), toZ-ofZ (fits-twice c), toZ-ofZ (fits-numerator c)) at (n .near .ensures)
 
   fits-after : SFits w64 (n .near .result -ℤ t (l c))
-  fits-after = abs-fits w64 (n .near .result -ℤ t (l c)) (omega (arith, bounded (s (l c)) walked .next-small))
+  fits-after = abs-fits w64 (n .near .result -ℤ t (l c)) (omega (arith, bounded (s (l c)) (after c _ _ (x-abs m) near-is) .next-small))
 
 mul-next : tie.Need-mul-next Inv-loop μ-loop
 mul-next c = simp (toZ-ofZ (c .fits .p)) (fits-first c)
@@ -193,7 +191,7 @@ loop-less c = omega arith
 loop-again : tie.Need-loop-again Inv-loop μ-loop
 loop-again n =
     let c = c n in
-    simp (toZ-ofZ (fits-32 c), toZ-ofZ (fits-64 c), toZ-ofZ (fits-term c), toZ-ofZ (fits-sum c), toZ-ofZ (fits-p (l c)), toZ-ofZ (fits-near n), toZ-ofZ (fits-after n)) (refl, walked n)
+    simp (toZ-ofZ (fits-32 c), toZ-ofZ (fits-64 c), toZ-ofZ (fits-term c), toZ-ofZ (fits-sum c), toZ-ofZ (fits-p (l c)), toZ-ofZ (fits-near n), toZ-ofZ (fits-after n)) (refl, after c _ _ (x-abs (m n)) (near-is n))
 
 returns : tie.Need-returns Inv-loop μ-loop
 returns c = ends (walk (c .before)) (omega (arith, length-cs (s (c .before))))

@@ -13,7 +13,6 @@ use mir.Facts.{toZ-ofZ, toZ-pos}
 use Rattle.integer.specs.Parts.{abs-sub}
 use Rattle.integer.specs.Difference.{<-parts}
 use Rattle.integer.specs.Order.{pos-le}
-use Rattle.integer.specs.Rounding.{near}
 use Rattle.integer.specs.Machine.{abs-fits, fits-widens, signed-needs}
 use Rattle.chebyshev.specs.Coefficients.{weight as weightOf}
 use Rattle.chebyshev.specs.Weight.{weight-at, weight-take}
@@ -109,9 +108,8 @@ module _ (n : tie.After-near Inv-loop μ-loop) where
   fits-first : SFits w64 (c -ℤ first at)
   fits-first = abs-fits w64 (c -ℤ first at) (omega (arith, small (after (natAbs c) refl) (light (s at)) .first-small))
 
-module _ (m : tie.After-magnitude Inv-loop μ-loop) where
-  next : let n = m .before in Walk (ds (s (at n))) (set (at n .loop .coefficients) (k (at n)) (c n)) (at n .loop .weight + m .magnitude .result) (c n -ℤ first (at n)) (toZ w64 (at n .loop .here)) (below (b n)) (k (at n) - 1)
-  next = after (m .before) (m .magnitude .result) (simp (toZ-ofZ (fits-c (m .before))) at (m .magnitude .ensures))
+size-is : (m : tie.After-magnitude Inv-loop μ-loop) → m .magnitude .result ≡ natAbs (c (m .before))
+size-is m = simp (toZ-ofZ (fits-c (m .before))) at (m .magnitude .ensures)
 
 add-k : tie.Need-add-k Inv-loop μ-loop
 add-k c = omega (arith, c .pre)
@@ -156,7 +154,7 @@ magnitude-requires : tie.Need-magnitude-requires Inv-loop μ-loop
 magnitude-requires c κs = tt
 
 add-weight : tie.Need-add-weight Inv-loop μ-loop
-add-weight m = omega (arith, small (next m) (light (s (at (m .before)))) .total-small)
+add-weight m = let n = m .before in omega (arith, small (after n _ (size-is m)) (light (s (at n))) .total-small)
 
 sub-first : tie.Need-sub-first Inv-loop μ-loop
 sub-first m = simp (toZ-ofZ (fits-c (m .before))) (fits-first (m .before))
@@ -172,7 +170,7 @@ loop-again m =
     let n = m .before in
     let b = b n in
     simp (toZ-ofZ (fits-c n), toZ-ofZ (fits-c-32 n), toZ-ofZ (fits-first n), toZ-ofZ (fits-32 b), toZ-ofZ (fits-64 b))
-    (next m)
+    (after n _ (size-is m))
 
 -- after the loop
 module _ (e : tie.After-loop Inv-loop μ-loop) where

@@ -2,19 +2,17 @@
 use borrow.Author.Needs.{needs}
 use mathlib.Core.Path.{_≡_, sym, _∙_, ap}
 use mathlib.Core.Logic.{⊎-elim}
-use Prim.Native.Nat.{suc, _+_, _*_, _^_, _≤_}
+use Prim.Native.Nat.{suc, _+_, _*_}
 use native.Mathlib.Omega.{arith}
 use native.Mathlib.Numerals.{add-one}
-use native.Mathlib.Nat.{mul-le-mul, le-trans}
 use lib.ListN.{length, take}
 use lib.Seq.{length-take-le}
 use Rattle.integer.specs.Rounding.{upℕ}
-use Rattle.chebyshev.specs.Coefficients.{weight}
 use Rattle.chebyshev.specs.Weight.{weight-take}
-use Rattle.chebyshev.specs.ProductWeight.{weight-product}
-use Rattle.model.specs.Models.{scale, productPlaces, terms}
+use Rattle.model.specs.Models.{scale}
 use Rattle.model.specs.ModelLaws.{Good, good-is}
 use Rattle.model.specs.Operations.{productDegree, productList}
+use Rattle.model.specs.GoodLaws.{weight-productList}
 use Rattle.model.specs.MultiplicationLaws.{kept-is, radiusLoss, product-formed}
 use Rattle.model.specs.Formed.{formedOutcome}
 use Rattle.model.specs.RoundingPass.{RoundedFrom, rounded-loss}
@@ -46,15 +44,6 @@ module _ (s : tie.Start) where
 
   second-length : length (take (b .degree + 1) (b .coefficients)) ≡ b .degree + 1
   second-length = length-take-le (b .degree + 1) (b .coefficients) (omega (arith, good-b, length-b))
-
-  list-weight : weight (productList a b) ≤ 2 ^ 57
-  unfolding productList
-  list-weight =
-      omega (
-        arith,
-        weight-product productPlaces (terms a) (terms b),
-        mul-le-mul (le-trans (weight-take (suc (a .degree)) (a .coefficients)) (good-a .weight-fits)) (le-trans (weight-take (suc (b .degree)) (b .coefficients)) (good-b .weight-fits)),
-      )
 
 add-top : tie.Need-add-top
 add-top c = let s = c .before .before in omega (arith, good-a s, good-b s)
@@ -138,7 +127,7 @@ add-loss : tie.Need-add-loss
 add-loss c =
     let r = c .before .before .before .before .before in
     let s = start r in
-    omega (arith, c .before .radius-loss .ensures .1, rounded-loss (productList (a s) (b s)) _ (r .round-product .result) (rounded-from r), list-weight s)
+    omega (arith, c .before .radius-loss .ensures .1, rounded-loss (productList (a s) (b s)) _ (r .round-product .result) (rounded-from r), weight-productList (a s) (b s) (s .pre .0 .0) (s .pre .0 .1))
 
 cast-up-unsigned : tie.Need-cast-up-unsigned
 cast-up-unsigned c = search needs
