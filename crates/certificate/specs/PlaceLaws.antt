@@ -1,11 +1,15 @@
 -- Lists of places, each a condition and its number of refusal: what more places behind others change.
-use mathlib.Core.Path.{_≡_, refl}
+use mathlib.Core.Path.{_≡_, refl, ap}
 use mathlib.Core.Logic.{_↔_, _≢_}
-use mathlib.Core.Bool.{Bool, true, false, cond}
+use mathlib.Core.Bool.{Bool, true, false, not, cond}
 use mathlib.Core.List.{List, [], _∷_, _++_}
 use Prim.Native.Nat.{ℕ, suc}
 use Rattle.model.specs.Models.{firstRefusal}
 use Rattle.model.specs.RefusalLaws.{Passed}
+
+-- the place "not (good m)" passes
+pub not-of-true : (t : Bool) → t ≡ true → not t ≡ false
+not-of-true t e = ap not e
 
 -- behind places that pass, the first refusal is that of the places behind
 pub first-passed : (ps qs : List (Bool × ℕ)) → Passed ps → firstRefusal (ps ++ qs) ≡ firstRefusal qs

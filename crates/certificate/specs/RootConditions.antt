@@ -1,7 +1,7 @@
 -- The places of the root test before that of its result, as facts; and the result of a test that passes.
-use mathlib.Core.Path.{_≡_, refl, ap}
+use mathlib.Core.Path.{_≡_, refl}
 use mathlib.Core.Logic.{_↔_}
-use mathlib.Core.Bool.{Bool, true, false, not}
+use mathlib.Core.Bool.{Bool, true, false}
 use mathlib.Core.List.{[], _∷_, _++_}
 use Prim.Native.Nat.{ℕ, _*_, _-_, _≤_, _<_}
 use native.Mathlib.Omega.{arith}
@@ -17,7 +17,7 @@ use Rattle.chebyshev.specs.Sign.{coefficientSum}
 use Rattle.model.specs.Models.{scale, maxRadius, good, tooLarge}
 use Rattle.model.specs.RefusalLaws.{Passed, first-refusal-zero}
 use Rattle.model.specs.declared.types.Model.{Model}
-use Rattle.certificate.specs.PlaceLaws.{passed-last}
+use Rattle.certificate.specs.PlaceLaws.{not-of-true, passed-last}
 use Rattle.certificate.specs.Stages.{tested-zero}
 use Rattle.certificate.specs.Tests.{scratchPlaces, rootOf, rootPlaces, rootModel, rootContraction, rootResidual, displacement, tested}
 
@@ -43,9 +43,6 @@ pub record RootConditions (len : ℕ) (f h w : Model) : Type 0 where
   pub contraction : rootContraction h w < scale
   pub residual : rootResidual f h ≤ maxRadius
   pub discriminant : 8 * rootDisplacement f h w * weight (w .coefficients) ≤ (scale - rootContraction h w) * (scale - rootContraction h w)
-
-not-of-true : (t : Bool) → t ≡ true → not t ≡ false
-not-of-true t e = ap not e
 
 positive-above : (z : ℤ) → pos 0 <ℤ z → leZ z (pos 0) ≡ false
 positive-above z h = pick (leZ z (pos 0)) refl
