@@ -1,6 +1,7 @@
 pub mod Tests
 pub mod TwoSums
 pub mod TestFits
+pub mod PlaceLaws
 pub mod Stages
 pub mod Residuals
 pub mod QuotientAlgebra

@@ -1,7 +1,7 @@
 -- The places of the quotient test as facts, and the result of a test that passes.
-use mathlib.Core.Path.{_≡_, ap}
+use mathlib.Core.Path.{_≡_}
 use mathlib.Core.Logic.{_↔_}
-use mathlib.Core.Bool.{Bool, true, false, not}
+use mathlib.Core.Bool.{Bool, true, false}
 use mathlib.Core.List.{List}
 use Prim.Native.Nat.{ℕ, _≤_, _<_}
 use native.Mathlib.Omega.{arith}
@@ -10,6 +10,7 @@ use Rattle.model.specs.Models.{scale, maxRadius, good, tooLarge, firstRefusal}
 use Rattle.model.specs.RefusalLaws.{Passed, first-refusal-zero}
 use Rattle.model.specs.declared.types.Model.{Model}
 use Rattle.certificate.specs.Tests.{scratchPlaces, quotientPlaces, quotientOf, quotientModel, quotientContraction, quotientResidual, displacement, tested}
+use Rattle.certificate.specs.PlaceLaws.{not-of-true}
 use Rattle.certificate.specs.Stages.{tested-zero}
 
 -- b and the result of the test
@@ -53,15 +54,7 @@ module _ (len : ℕ) (f g h w : Model) where
       }
 
       tests : QuotientConditions len f g h w → Passed places
-      tests c =
-          let enough = le-ltb len scratchPlaces (c .scratch) in
-          let good-f = ap not (c .good-f) in
-          let good-g = ap not (c .good-g) in
-          let good-h = ap not (c .good-h) in
-          let good-w = ap not (c .good-w) in
-          let contraction = lt-leb scale (quotientContraction g w) (c .contraction) in
-          let residual = le-ltb maxRadius (quotientResidual f g h) (c .residual) in
-          search depth 12
+      tests c = search (le-ltb, lt-leb, not-of-true) depth 20
 
   -- number, model, m, N and b of a test that passes
   pub quotient-result : (quotientOf len f g h w) .number ≡ 0

@@ -1,8 +1,8 @@
 -- The places of the root test before that of its result, as facts; and the result of a test that passes.
-use mathlib.Core.Path.{_≡_, refl, ap}
+use mathlib.Core.Path.{_≡_, refl}
 use mathlib.Core.Logic.{_↔_}
-use mathlib.Core.Bool.{Bool, true, false, not}
-use mathlib.Core.List.{List, [], _∷_, _++_}
+use mathlib.Core.Bool.{Bool, true, false}
+use mathlib.Core.List.{[], _∷_, _++_}
 use Prim.Native.Nat.{ℕ, _*_, _-_, _≤_, _<_}
 use native.Mathlib.Omega.{arith}
 use lib.Dec.{ltb}
@@ -17,6 +17,7 @@ use Rattle.chebyshev.specs.Sign.{coefficientSum}
 use Rattle.model.specs.Models.{scale, maxRadius, good, tooLarge}
 use Rattle.model.specs.RefusalLaws.{Passed, first-refusal-zero}
 use Rattle.model.specs.declared.types.Model.{Model}
+use Rattle.certificate.specs.PlaceLaws.{not-of-true, passed-last}
 use Rattle.certificate.specs.Stages.{tested-zero}
 use Rattle.certificate.specs.Tests.{scratchPlaces, rootOf, rootPlaces, rootModel, rootContraction, rootResidual, displacement, tested}
 
@@ -43,20 +44,12 @@ pub record RootConditions (len : ℕ) (f h w : Model) : Type 0 where
   pub residual : rootResidual f h ≤ maxRadius
   pub discriminant : 8 * rootDisplacement f h w * weight (w .coefficients) ≤ (scale - rootContraction h w) * (scale - rootContraction h w)
 
-not-of-true : (t : Bool) → t ≡ true → not t ≡ false
-not-of-true t e = ap not e
-
 positive-above : (z : ℤ) → pos 0 <ℤ z → leZ z (pos 0) ≡ false
 positive-above z h = pick (leZ z (pos 0)) refl
   where
     pick : (t : Bool) → leZ z (pos 0) ≡ t → t ≡ false
     pick true e = absurd (omega (arith, le-yes z (pos 0) e, <-parts (pos 0) z .0 h))
     pick false e = refl
-
--- one more place at the end
-passed-last : (ps : List (Bool × ℕ)) (p : Bool × ℕ) → Passed (ps ++ (p ∷ [])) ↔ (Passed ps × (p .0 ≡ false))
-passed-last [] p = (λ q. (tt, q .0), λ q. (q .1, tt))
-passed-last (o ∷ ps) p = let rest = passed-last ps p in (λ q. ((q .0, rest .0 (q .1) .0), rest .0 (q .1) .1), λ q. (q .0 .0, rest .1 (q .0 .1, q .1)))
 
 module _ (len : ℕ) (f h w : Model) where
   pub root-conditions : Passed (rootPlaces len f h w ++ ((negativeDiscriminant f h w, 8) ∷ [])) ↔ RootConditions len f h w

@@ -1,8 +1,8 @@
 -- 01, of the root's radius: "which these limits keep at or below 2^27". So the place of the result never refuses a root.
-use mathlib.Core.Path.{_≡_, refl, _∙_, ap}
+use mathlib.Core.Path.{_≡_, _∙_, ap}
 use mathlib.Core.Logic.{_≢_}
-use mathlib.Core.Bool.{Bool, true, false, cond}
-use mathlib.Core.List.{List, [], _∷_, _++_}
+use mathlib.Core.Bool.{false}
+use mathlib.Core.List.{[], _∷_, _++_}
 use Prim.Native.Nat.{ℕ, suc, _+_, _*_, _-_, _^_, _≤_, _<_}
 use native.Mathlib.Omega.{arith}
 use native.Mathlib.Nat.{mul-le-mul, mul-le-mul-left, le-of-mul-le-mul-left}
@@ -16,12 +16,12 @@ use Rattle.chebyshev.specs.Coefficients.{weight, subtractLists}
 use Rattle.chebyshev.specs.CoefficientLaws.{getD-subtract}
 use Rattle.chebyshev.specs.Weight.{weight-at, weight-take}
 use Rattle.chebyshev.specs.ProductWeight.{weight-product}
-use Rattle.model.specs.Models.{scale, maxRadius, productPlaces, terms, tooLarge, firstRefusal}
+use Rattle.model.specs.Models.{scale, maxRadius, productPlaces, terms, tooLarge}
 use Rattle.model.specs.ModelLaws.{good-is}
-use Rattle.model.specs.RefusalLaws.{Passed}
 use Rattle.model.specs.Operations.{productList}
 use Rattle.model.specs.declared.types.Model.{Model}
 use Rattle.certificate.specs.Tests.{rootOf, rootPlaces, rootModel, rootContraction, tested}
+use Rattle.certificate.specs.PlaceLaws.{last-unused}
 use Rattle.certificate.specs.Stages.{large-radius}
 use Rattle.certificate.specs.RootConditions.{RootConditions, rootDisplacement, rootResult, negativeDiscriminant, root-conditions}
 
@@ -49,23 +49,6 @@ square-bound h w =
 -- 8·b·p·S ≤ 2^29·8·b·M ≤ 2^29·p²
 pub numerator-bound : (p b M : ℕ) → 0 < p → p * scale ≤ 2 ^ 29 * M → 8 * b * M ≤ p * p → 2 * b * scale ≤ 2 ^ 27 * p
 numerator-bound p b M h k d = le-of-mul-le-mul-left {m = 2 * b * scale} {n = 2 ^ 27 * p} {k = p} (omega (arith, mul-le-mul-left (8 * b) k)) h
-
--- ---- a last place that is never used
-
--- n is none of the numbers of the list
-abbrev Without : ℕ → List (Bool × ℕ) → Type 0
-Without n [] = Unit {0}
-Without n (p ∷ ps) = (p .1 ≢ n) × Without n ps
-
--- a last place whose condition fails wherever those before it do never refuses
-last-unused : (ps : List (Bool × ℕ)) (c : Bool) (n : ℕ) → Without n ps → 0 ≢ n → (Passed ps → c ≡ false) → firstRefusal (ps ++ ((c, n) ∷ [])) ≢ n
-unfolding firstRefusal
-last-unused [] c n others k unused = rw (unused tt) k
-last-unused (p ∷ ps) c n others k unused = pick (p .0) refl (λ e. last-unused ps c n (others .1) k (λ q. unused (e, q)))
-  where
-    pick : (t : Bool) → p .0 ≡ t → (p .0 ≡ false → firstRefusal (ps ++ ((c, n) ∷ [])) ≢ n) → cond t (p .1) (firstRefusal (ps ++ ((c, n) ∷ []))) ≢ n
-    pick true e rest = others .0
-    pick false e rest = rest e
 
 module _ (len : ℕ) (f h w : Model) where
   pub root-radius-bound : RootConditions len f h w → (rootResult f h w) .radius ≤ 2 ^ 27

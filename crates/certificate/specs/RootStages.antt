@@ -1,6 +1,6 @@
 -- What the root test up to N and b says of the whole test.
 use mathlib.Core.Path.{_≡_, refl, ap}
-use mathlib.Core.Bool.{Bool, true, false, cond}
+use mathlib.Core.Bool.{Bool, true}
 use mathlib.Core.List.{List, [], _∷_, _++_}
 use Prim.Native.Nat.{ℕ, zero, suc, _*_, _-_, _≤_, _<_}
 use native.Mathlib.Omega.{arith}
@@ -12,28 +12,12 @@ use Rattle.integer.specs.Machine.{le-false}
 use Rattle.chebyshev.specs.Coefficients.{weight}
 use Rattle.chebyshev.specs.Sign.{coefficientSum}
 use Rattle.model.specs.Models.{scale, maxRadius, good, tooLarge, firstRefusal}
-use Rattle.model.specs.RefusalLaws.{Passed, first-refusal-zero}
+use Rattle.model.specs.RefusalLaws.{first-refusal-zero}
 use Rattle.model.specs.declared.types.Model.{Model}
 use Rattle.certificate.specs.Tests.{tested, rootOf, rootPlaces, rootContraction, rootResidual, rootModel, displacement}
+use Rattle.certificate.specs.PlaceLaws.{first-passed, first-refused}
 use Rattle.certificate.specs.Stages.{refusedTest}
 use Rattle.certificate.specs.RootNumbers.{refused, reached, rootOutcome}
-
--- ---- more places behind others
-
-first-passed : (ps qs : List (Bool × ℕ)) → Passed ps → firstRefusal (ps ++ qs) ≡ firstRefusal qs
-unfolding firstRefusal
-first-passed [] qs h = refl
-first-passed (p ∷ ps) qs h = rw (h .0) (first-passed ps qs (h .1))
-
-first-refused : (ps qs : List (Bool × ℕ)) (k : ℕ) → firstRefusal ps ≡ suc k → firstRefusal (ps ++ qs) ≡ suc k
-unfolding firstRefusal
-first-refused [] qs k e = cc
-first-refused (p ∷ ps) qs k e = pick (p .0) (first-refused ps qs k) e
-  where
-    pick : (t : Bool) → (firstRefusal ps ≡ suc k → firstRefusal (ps ++ qs) ≡ suc k)
-        → cond t (p .1) (firstRefusal ps) ≡ suc k → cond t (p .1) (firstRefusal (ps ++ qs)) ≡ suc k
-    pick true rest e = e
-    pick false rest e = rest e
 
 tested-same : (ps qs : List (Bool × ℕ)) (r : Model) (m n b : ℕ) → firstRefusal ps ≡ firstRefusal qs → tested ps r m n b ≡ tested qs r m n b
 unfolding tested

@@ -70,7 +70,7 @@ rootResidual f h =
 unfoldable pub rootModel : Model → ℕ → ℕ → Model
 rootModel h m b = modelOf (h .degree) (h .coefficients) (upℕ (2 * b * scale) (scale - m))
 
--- ---- the answers: number, model, m, N and b, all zero on refusal
+-- ---- the answers: number, model, m, N and b. "Any other number an entry answers, or a record holds, is zero on refusal too."
 
 pub record Test : Type 0 where
   pub number : ℕ
@@ -131,7 +131,7 @@ rootOf len f h w =
     let b = displacement w n in
     tested (rootTestPlaces len f h w) (rootModel h m b) m n b
 
--- the entries' definitions: candidates count as models with radius 0
+-- the entries' definitions. "A candidate is a model without a radius (taken as 0)."
 abbrev pub quotientTest : ℕ → Model → Model → Candidate → Candidate → Test
 quotientTest len f g h w = quotientOf len f g (candidateModel h) (candidateModel w)
 

@@ -9,7 +9,7 @@ use Rattle.model.specs.Models.{scale, maxWeight, modelOf, candidateModel, tooLa
 use Rattle.model.specs.ModelLaws.{good-is}
 use Rattle.model.specs.declared.types.Model.{Model}
 use Rattle.certificate.specs.Tests.{Test, scratchPlaces, testPlaces, testOf, tested, displacement, quotientOf, quotientContraction, quotientResidual, quotientModel}
-use Rattle.certificate.specs.Stages.{not-contracting, large-residual, tests-passed, quotient-tests}
+use Rattle.certificate.specs.Stages.{refusedTest, not-contracting, large-residual, tests-passed, quotient-tests}
 use Rattle.certificate.proofs.Ranges.{displacement-range}
 use Rattle.certificate.proofs.quotient.test_good.Statement.{statement}
 use Rattle.certificate.proofs.quotient.test_good.Tie as tie
@@ -85,11 +85,9 @@ returns-2 c =
     let s = c .before .before .before .before .before .before .before .before .before in
     let m = of-m .result in
     let n = of-n .result in
-    let b = displacement (w s) n in (
-      ap testOf (c .refused .ensures)
-          ∙ sym (from-m s m n b (of-m .ensures .0) (of-n .ensures .0) refl ∙ large-residual m n _ _ m n b (omega arith) (omega arith)),
-      of-n .ensures .1,
-    )
+    let b = displacement (w s) n in
+    let refusal : testOf (c .refused .result) ≡ refusedTest 6 = ap testOf (c .refused .ensures) in
+    (refusal ∙ sym (from-m s m n b (of-m .ensures .0) (of-n .ensures .0) refl ∙ large-residual m n _ _ m n b (omega arith) (omega arith)), of-n .ensures .1)
 
 same-length-3 : tie.Need-same-length-3
 same-length-3 c = search needs
@@ -101,7 +99,8 @@ returns-3 c =
     let m = of-m .result in
     let n = quotientResidual (s .args .f) (s .args .g) (h s) in
     let b = displacement (w s) n in
-    (ap testOf (c .refused2 .ensures) ∙ sym (from-m s m n b (of-m .ensures .0) refl refl ∙ not-contracting m n _ _ m n b (omega arith)), of-m .ensures .1)
+    let refusal : testOf (c .refused2 .result) ≡ refusedTest 5 = ap testOf (c .refused2 .ensures) in
+    (refusal ∙ sym (from-m s m n b (of-m .ensures .0) refl refl ∙ not-contracting m n _ _ m n b (omega arith)), of-m .ensures .1)
 
 pub test-good-spec : {M : Type 1} → statement M
 test-good-spec =
