@@ -1,11 +1,11 @@
 -- `operations::read_operands` meets its contract.
-use native.Mathlib.Omega.{arith}
+use borrow.Author.Needs.{needs}
 use Prim.Native.Nat.{_+_, _<_}
+use native.Mathlib.Omega.{arith}
 use denote.Ref.{now}
 use Rattle.job.specs.Bytes.{byteAt}
 use Rattle.job.specs.Commands.{maxResults}
 use Rattle.job.specs.CommandLaws.{both-below}
-use borrow.Author.Needs.{needs}
 use Rattle.job.proofs.operations.read_operands.Statement.{statement}
 use Rattle.job.proofs.operations.read_operands.Tie as tie
 
