@@ -17,7 +17,7 @@ use Rattle.job.proofs.operations.quotient.Tie as tie
 
 read-operands-requires : tie.Need-read-operands-requires
 unfolding commandAt
-read-operands-requires c κs = let p = c .before .pre .0 in (omega arith, (p .names, p .long))
+read-operands-requires c κs = let p = c .before .pre .0 in record { names = p .names; room = omega arith; long = p .long }
 
 add-read-candidate : tie.Need-add-read-candidate
 add-read-candidate c = search needs

@@ -12,7 +12,7 @@ use Rattle.job.proofs.operations.read_operands.Tie as tie
 -- both bytes name one of 32 results
 named : (c : tie.Start)
     → (byteAt (now (c .args .job)) (c .args .at + 1) < maxResults) × (byteAt (now (c .args .job)) (c .args .at + 2) < maxResults)
-named c = both-below maxResults (byteAt (now (c .args .job)) (c .args .at + 1)) (byteAt (now (c .args .job)) (c .args .at + 2)) (c .pre .1 .0)
+named c = both-below maxResults (byteAt (now (c .args .job)) (c .args .at + 1)) (byteAt (now (c .args .job)) (c .args .at + 2)) (c .pre .names)
 
 add-named : tie.Need-add-named
 add-named c = search needs
