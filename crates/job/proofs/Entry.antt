@@ -8,7 +8,8 @@ use lib.IntN.{ℤ}
 use lib.ListN.{length, drop}
 use lib.Seq.{drop-at}
 use Rattle.model.specs.declared.types.Verdict.the-variants.{ShortArea}
-use Rattle.certificate.specs.Tests.{scratchPlaces, scratchAfter}
+use Rattle.certificate.specs.Tests.{scratchPlaces}
+use Rattle.certificate.specs.Stages.{scratch-cleared}
 use Rattle.integer.specs.Clearing.{zeros, length-zeros}
 use Rattle.job.specs.Jobs.{jobOf}
 use Rattle.job.specs.Work.{workPlaces, workOf, areasFit, checkOf, workAfter, scratchAfterJob, answerOf, answered, resultsOf}
@@ -26,8 +27,7 @@ module _ (n : ℕ) (w w′ : List ℤ) (e : w′ ≡ zeros n ++ drop n w) where
   cleared-is = e ∙ ap (λ (l : List ℤ). zeros n ++ l) (sym cleared-behind)
 
 pub cleared-clear : (s s′ : List ℤ) → s′ ≡ zeros scratchPlaces ++ drop scratchPlaces s → scratchPlaces ≤ length s′ → Clear s′
-unfolding scratchAfter zeros
-cleared-clear s s′ e h = record { long = h; clear = simp (le-leb _ _ h) (sym (cleared-is scratchPlaces s s′ e)) }
+cleared-clear s s′ e h = record { long = h; clear = scratch-cleared s′ h ∙ sym (cleared-is scratchPlaces s s′ e) }
 
 module _ (job : List ℕ) (w s : List ℤ) where
   abbrev pub Leaves : Report → List ℤ → List ℤ → Type 0

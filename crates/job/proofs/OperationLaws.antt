@@ -11,7 +11,7 @@ use Rattle.model.specs.Models.{good, zeroModel, firstRefusal, Outcome, outcome}
 use Rattle.model.specs.ModelLaws.{good-is}
 use Rattle.model.specs.Areas.{Storable}
 use Rattle.model.specs.OutcomeFits.{answer-storable}
-use Rattle.certificate.specs.Tests.{scratchPlaces, quotientOf, rootPlaces, rootOf}
+use Rattle.certificate.specs.Tests.{scratchPlaces, rootPlaces, rootOf}
 use Rattle.model.specs.declared.types.Model.{Model}
 use Rattle.job.specs.Commands.{Command, badNames}
 use Rattle.job.specs.Jobs.{resultAt, operation}
@@ -61,13 +61,9 @@ module _ {w : List ℤ} {count : ℕ} {rs : List Model} {t : List ℤ} (h : Hold
       let b = both-below count i j n in
       ap₂ f (e₁ ∙ result-held h i (b .0)) (e₂ ∙ result-held h j (b .1))
 
--- ---- the kept degree, and the length of the scratch
+-- ---- the length of the scratch
 
-module _ (len : ℕ) (h : scratchPlaces ≤ len) where
-  pub quotient-long : (f g c w : Model) → quotientOf len f g c w ≡ quotientOf scratchPlaces f g c w
-  unfolding quotientOf
-  quotient-long f g c w = rw (le-ltb len scratchPlaces h)
-
-  pub root-long : (f c w : Model) → rootOf len f c w ≡ rootOf scratchPlaces f c w
-  unfolding rootOf rootPlaces
-  root-long f c w = rw (le-ltb len scratchPlaces h)
+-- as `quotient-room` of the certificate crate
+pub root-room : (len : ℕ) (f h w : Model) → scratchPlaces ≤ len → rootOf len f h w ≡ rootOf scratchPlaces f h w
+unfolding rootOf rootPlaces
+root-room len f h w room = rw (le-ltb len scratchPlaces room)

@@ -14,7 +14,6 @@ use Rattle.model.specs.declared.types.Model.{Model}
 use Rattle.job.specs.Commands.{Command, quotient, root, badNames}
 use Rattle.job.specs.Jobs.{jobOf, accepted, resultAt}
 use Rattle.job.specs.Reading.{commandsOf, commandOf}
-use Rattle.job.specs.Work.{stretch}
 use Rattle.job.specs.Steps.{Holds}
 use Rattle.job.specs.CommandLaws.{both-below}
 use Rattle.job.specs.Made.{MadeBy, made-from-all}
@@ -31,9 +30,6 @@ module _ (job : List ℕ) (rs : List Model) (e : jobOf job ≡ accepted rs) wher
   made i h = made-from-all (accepted-made job rs e) i (omega (arith, accepted-length job rs e))
 
   module _ (work t : List ℤ) (holds : Holds work (length rs) rs t) where
-    held : (i : ℕ) → i < length rs → stretch work i ≡ resultAt rs i
-    held i h = result-held holds i h
-
     -- the results that a command names stand before its own
     named : (i : ℕ) (c : Command) → i < length rs → commandOf cs i ≡ c → badNames c i ≡ false
     named i c h f = subst (λ (d : Command). badNames d i ≡ false) f (made i (omega (arith, accepted-length job rs e)) .names)
@@ -41,14 +37,14 @@ module _ (job : List ℕ) (rs : List Model) (e : jobOf job ≡ accepted rs) wher
     pub requirement : Requirement3 job (length rs) work
     requirement = record {
       vouched = λ i h x on. record {
-        overlaps = λ box p. subst (λ (m : Model). Overlaps (box i) m x) (sym (held i h)) (overlaps cs rs made x on box p);
+        overlaps = λ box p. subst (λ (m : Model). Overlaps (box i) m x) (sym (result-held holds i h)) (overlaps cs rs made x on box p);
         divisor = λ j k d w f v a.
             divisor-nonzero cs rs made x on i j k d w f v
-            (subst (λ (m : Model). Allows m x v) (held k (omega (arith, both-below i j k (named i (quotient j k d w) h f)))) a);
+            (subst (λ (m : Model). Allows m x v) (result-held holds k (omega (arith, both-below i j k (named i (quotient j k d w) h f)))) a);
         radicand = λ j d w f v a n.
             n
             (lt-le ℚ-ordered
             (radicand-positive cs rs made x on i j d w f v
-            (subst (λ (m : Model). Allows m x v) (held j (omega (arith, leb-false i j (named i (root j d w) h f)))) a)));
+            (subst (λ (m : Model). Allows m x v) (result-held holds j (omega (arith, leb-false i j (named i (root j d w) h f)))) a)));
       };
     }

@@ -3,10 +3,10 @@ use mathlib.Core.Path.{_≡_, refl, ap, sym, _∙_}
 use mathlib.Core.List.{List, [], _∷_, _++_, append-assoc, append-nil}
 use Prim.Native.Nat.{ℕ, zero, suc, _+_, _*_, _-_, _≤_, _<_}
 use native.Mathlib.Omega.{arith}
-use lib.IntN.{ℤ, pos}
-use lib.ListN.{length, take, drop, replicate, length-append, length-replicate, replicate-append-replicate}
+use lib.IntN.{ℤ}
+use lib.ListN.{length, take, drop, length-append}
 use lib.Seq.{take-at, drop-at, drop-append-add, drop-drop}
-use Rattle.integer.specs.Clearing.{zeros, length-zeros}
+use Rattle.integer.specs.Clearing.{zeros, length-zeros, zeros-append}
 use Rattle.model.specs.Models.{places}
 use Rattle.model.specs.Areas.{modelPlaces, words, areaModel}
 use Rattle.model.specs.AreaLaws.{length-words, model-words}
@@ -49,13 +49,12 @@ sized-snoc [] m s h = (h, tt)
 sized-snoc (r ∷ rs) m s h = (s .0, sized-snoc rs m (s .1) h)
 
 drop-zeros : (n k : ℕ) (t : List ℤ) → k ≤ n → drop k (zeros n ++ t) ≡ zeros (n - k) ++ t
-unfolding zeros
 drop-zeros n k t h =
     let e : n ≡ k + (n - k) = omega arith in
-    ap (λ (j : ℕ). drop k (replicate j (pos 0) ++ t)) e
-    ∙ ap (λ (l : List ℤ). drop k (l ++ t)) (sym (replicate-append-replicate k (n - k) (pos 0)))
-    ∙ ap (λ (l : List ℤ). drop k l) (append-assoc (replicate k (pos 0)) (replicate (n - k) (pos 0)) t)
-    ∙ drop-at (replicate k (pos 0)) (replicate (n - k) (pos 0) ++ t) k (length-replicate k (pos 0))
+    ap (λ (j : ℕ). drop k (zeros j ++ t)) e
+    ∙ ap (λ (l : List ℤ). drop k (l ++ t)) (sym (zeros-append k (n - k)))
+    ∙ ap (λ (l : List ℤ). drop k l) (append-assoc (zeros k) (zeros (n - k)) t)
+    ∙ drop-at (zeros k) (zeros (n - k) ++ t) k (length-zeros k)
 
 length-workOf : (rs : List Model) → Sized rs → length rs ≤ maxResults → length (workOf rs) ≡ workPlaces
 unfolding workOf

@@ -1,5 +1,6 @@
 -- Document 01, "What boxes a value", and the claim of requirement 3. A reader who believes this file, with Commands.antt and
--- Reading.antt for the commands and the model crate's Values.antt for what a model allows, knows what is promised.
+-- Reading.antt for the commands, `stretch` of Work.antt for the models in the work area and the model crate's Values.antt for
+-- what a model allows, knows what is promised.
 use mathlib.Core.Path.{_≡_}
 use mathlib.Core.Logic.{_⊎_}
 use mathlib.Core.List.{List}

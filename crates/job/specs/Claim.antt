@@ -1,12 +1,11 @@
 -- Requirement 3 over the definitions: what a job's commands make is vouched for. One value is chosen for each result, in its
 -- box and allowed by its model, by induction on the permission of its box.
 use mathlib.Core.Path.{_≡_, refl, sym, _∙_, ap, subst}
-use mathlib.Core.Bool.{true, false}
+use mathlib.Core.Bool.{true, false, true≢false}
 use mathlib.Core.List.{List}
 use Prim.Native.Nat.{ℕ, _<_, _≤_}
 use native.Mathlib.Omega.{arith}
 use native.Mathlib.Decide.{decLt}
-use lib.Dec.{T}
 use lib.IntN.{pos}
 use lib.ListN.{length, List·getD-eq-default}
 use Rattle.integer.specs.OrderedRing.{le-of-eq}
@@ -39,7 +38,7 @@ module _ (cs : List Command) (rs : List Model)
 
       pick : Dec (i < length cs) → i < length cs
       pick (yes h) = h
-      pick (no h) = absurd (subst T (sym m ∙ ap makesResult (sym e) ∙ none (omega arith)) tt)
+      pick (no h) = absurd (true≢false (sym m ∙ ap makesResult (sym e) ∙ none (omega arith)))
 
   passes : (i : ℕ) (c : Command) → commandOf cs i ≡ c → makesResult c ≡ true → (operation c rs) .number ≡ 0
   passes i c e m = subst (λ d. (operation d rs) .number ≡ 0) e (made i (listed i c e m) .succeeds)

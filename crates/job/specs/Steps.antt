@@ -1,8 +1,8 @@
 -- One command of the code: what it answers, and what the work area holds before and after.
 use mathlib.Core.Path.{_≡_}
-use mathlib.Core.Bool.{true, false, _&&_}
+use mathlib.Core.Bool.{true, false, _&&_, _||_}
 use mathlib.Core.List.{List, [], _∷_, _++_}
-use Prim.Native.Nat.{ℕ, _+_, _≤_}
+use Prim.Native.Nat.{ℕ, _+_, _≤_, _<_}
 use lib.Dec.{leb}
 use lib.IntN.{ℤ}
 use lib.ListN.{length}
@@ -10,6 +10,7 @@ use Rattle.model.specs.Models.{places, numberOf, Outcome}
 use Rattle.model.specs.Areas.{Storable}
 use Rattle.certificate.specs.Tests.{scratchPlaces, scratchAfter}
 use Rattle.model.specs.declared.types.Model.{Model}
+use Rattle.job.specs.Bytes.{byteAt}
 use Rattle.job.specs.Commands.{Command, maxResults, widthOf, commandAt, badNames, makesResult}
 use Rattle.job.specs.Jobs.{Step, more, over, no, operation}
 use Rattle.job.specs.Work.{workPlaces, workOf}
@@ -71,6 +72,12 @@ pub record Operable (kind : Kind) (job : List ℕ) (at : ℕ) (work : List ℤ) 
   pub makes : makesResult (commandAt kind job at) ≡ true
   pub names : badNames (commandAt kind job at) maxResults ≡ false
   pub room : at + 1 + widthOf kind ≤ length job
+  pub long : workPlaces ≤ length work
+
+-- the two bytes after a command name results, as reading them needs it
+pub record NamesTwo (job : List ℕ) (at : ℕ) (work : List ℤ) : Type 0 where
+  pub names : (leb maxResults (byteAt job (at + 1)) || leb maxResults (byteAt job (at + 2))) ≡ false
+  pub room : at + 2 < length job
   pub long : workPlaces ≤ length work
 
 -- a command that was read, as performing it needs it

@@ -47,16 +47,6 @@ fn read_coefficients(s: &[u8], i: usize) -> [i32; PLACES]
     coefficients
 }
 
-// The block from i on, with a radius.
-pub(crate) fn read_model(s: &[u8], i: usize, radius: u32) -> Model
-    requires { ⌜ i + 133 ≤ length (now s) ⌝ }
-    ensures { λ (r : Model). ⌜ r ≡ blockAt (now (s .entry)) i radius ⌝ }
-{
-    let degree = widen(s[i]);
-    let coefficients = read_coefficients(s, i + 1);
-    Model::new(degree, coefficients, radius)
-}
-
 // The block from i on, as a candidate.
 pub(crate) fn read_candidate(s: &[u8], i: usize) -> Candidate
     requires { ⌜ i + 133 ≤ length (now s) ⌝ }
@@ -68,4 +58,14 @@ pub(crate) fn read_candidate(s: &[u8], i: usize) -> Candidate
         degree,
         coefficients,
     }
+}
+
+// The block from i on, with a radius.
+pub(crate) fn read_model(s: &[u8], i: usize, radius: u32) -> Model
+    requires { ⌜ i + 133 ≤ length (now s) ⌝ }
+    ensures { λ (r : Model). ⌜ r ≡ blockAt (now (s .entry)) i radius ⌝ }
+{
+    let block = read_candidate(s, i);
+    let coefficients = block.coefficients;
+    Model::new(block.degree, coefficients, radius)
 }

@@ -1,9 +1,7 @@
 // The operations of the commands that make a result, on the results and blocks that they name.
 ghost use mathlib.Core.Path.{_≡_};
-ghost use mathlib.Core.Bool.{false, _||_};
 ghost use mathlib.Core.List.{List};
 ghost use Prim.Native.Nat.{_+_, _≤_, _<_};
-ghost use lib.Dec.{leb};
 ghost use lib.IntN.{ℤ};
 ghost use lib.ListN.{length};
 ghost use Rattle.model.specs.Models.{outcomeOf};
@@ -12,7 +10,7 @@ ghost use Rattle.job.specs.Bytes.{byteAt};
 ghost use Rattle.job.specs.Commands.{keptByte, maxResults, commandAt};
 ghost use Rattle.job.specs.Jobs.{fromTest};
 ghost use Rattle.job.specs.Work.{workPlaces, stretch};
-ghost use Rattle.job.specs.Steps.{Performs, Operable, Clear};
+ghost use Rattle.job.specs.Steps.{Performs, Operable, NamesTwo, Clear};
 use crate::bytes::read_candidate;
 use crate::bytes::read_model;
 use crate::bytes::read_unsigned;
@@ -38,8 +36,9 @@ struct Operands {
 }
 
 fn read_operands(job: &[u8], at: usize, work: &[i32]) -> Operands
-    requires { ⌜ (at + 2 < length (now job)) × (((leb maxResults (byteAt (now job) (at + 1)) || leb maxResults (byteAt (now job) (at + 2))) ≡ false) × (workPlaces ≤ length (now work))) ⌝ }
-    ensures { λ (r : Operands). ⌜ (r .first ≡ stretch (now (work .entry)) (byteAt (now (job .entry)) (at + 1))) × (r .second ≡ stretch (now (work .entry)) (byteAt (now (job .entry)) (at + 2))) ⌝ }
+    requires { ⌜ NamesTwo (now job) at (now work) ⌝ }
+    ensures { λ (r : Operands). ⌜ r .first ≡ stretch (now (work .entry)) (byteAt (now (job .entry)) (at + 1)) ⌝ }
+    ensures { λ (r : Operands). ⌜ r .second ≡ stretch (now (work .entry)) (byteAt (now (job .entry)) (at + 2)) ⌝ }
 {
     let first = named(job, at + 1, work);
     let second = named(job, at + 2, work);

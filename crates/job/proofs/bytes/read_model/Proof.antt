@@ -1,33 +1,21 @@
 -- `bytes::read_model` meets its contract.
 use borrow.Author.Needs.{needs}
+use mathlib.Core.Path.{ap, _∙_}
+use Rattle.model.specs.Models.{modelOf}
+use Rattle.model.specs.declared.types.Model.{Model}
 use Rattle.job.proofs.bytes.read_model.Statement.{statement}
 use Rattle.job.proofs.bytes.read_model.Tie as tie
 
-shared-slice-read-widen : tie.Need-shared-slice-read-widen
-shared-slice-read-widen c = search needs
-
-widen-requires : tie.Need-widen-requires
-widen-requires c κs = search needs
-
-add-read-coefficients : tie.Need-add-read-coefficients
-add-read-coefficients c = search needs
-
-read-coefficients-requires : tie.Need-read-coefficients-requires
-read-coefficients-requires c κs = search needs
+read-candidate-requires : tie.Need-read-candidate-requires
+read-candidate-requires c κs = search needs
 
 new-requires : tie.Need-new-requires
 new-requires c κs = search needs
 
 returns : tie.Need-returns
-returns c = simp (c .before .before .widen .ensures .0, c .before .read-coefficients .ensures) at (c .new .ensures)
+returns c =
+    let b = c .before .before in
+    c .new .ensures ∙ ap (λ (m : Model). modelOf (m .degree) (m .coefficients) (b .before .before .args .radius)) (b .read-candidate .ensures)
 
 pub read-model-spec : {M : Type 1} → statement M
-read-model-spec =
-    tie.close
-    (tie.spec
-    shared-slice-read-widen
-    widen-requires
-    add-read-coefficients
-    read-coefficients-requires
-    new-requires
-    returns)
+read-model-spec = tie.close (tie.spec read-candidate-requires new-requires returns)

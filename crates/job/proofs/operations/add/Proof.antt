@@ -14,7 +14,7 @@ use Rattle.job.proofs.operations.add.Tie as tie
 
 read-operands-requires : tie.Need-read-operands-requires
 unfolding commandAt
-read-operands-requires c κs = let p = c .before .pre in (omega arith, (p .names, p .long))
+read-operands-requires c κs = let p = c .before .pre in record { names = p .names; room = omega arith; long = p .long }
 
 add-requires : tie.Need-add-requires
 add-requires c κs = search needs

@@ -15,7 +15,7 @@ use Rattle.job.proofs.operations.multiply.Tie as tie
 
 read-operands-requires : tie.Need-read-operands-requires
 unfolding commandAt
-read-operands-requires c κs = let p = c .before .pre in (omega arith, (p .names, p .long))
+read-operands-requires c κs = let p = c .before .pre in record { names = p .names; room = omega arith; long = p .long }
 
 add-kept-degree : tie.Need-add-kept-degree
 add-kept-degree c = search needs

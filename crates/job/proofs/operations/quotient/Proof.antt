@@ -5,18 +5,19 @@ use native.Mathlib.Omega.{arith}
 use lib.ListN.{length}
 use denote.Ref.{now}
 use Rattle.certificate.specs.Tests.{scratchPlaces, quotientOf}
+use Rattle.certificate.specs.Stages.{quotient-room}
 use Rattle.certificate.specs.TestFits.{quotient-storable}
 use Rattle.job.specs.Bytes.{byteAt, blockAt}
 use Rattle.job.specs.Commands.{commandAt}
 use Rattle.job.specs.Jobs.{fromTest, operation}
-use Rattle.job.proofs.OperationLaws.{performs, held-two, quotient-long}
+use Rattle.job.proofs.OperationLaws.{performs, held-two}
 use borrow.Author.Needs.{needs}
 use Rattle.job.proofs.operations.quotient.Statement.{statement}
 use Rattle.job.proofs.operations.quotient.Tie as tie
 
 read-operands-requires : tie.Need-read-operands-requires
 unfolding commandAt
-read-operands-requires c κs = let p = c .before .pre .0 in (omega arith, (p .names, p .long))
+read-operands-requires c κs = let p = c .before .pre .0 in record { names = p .names; room = omega arith; long = p .long }
 
 add-read-candidate : tie.Need-add-read-candidate
 add-read-candidate c = search needs
@@ -58,7 +59,7 @@ returns c =
           ∙ ap fromTest
           (q .quotient .ensures .0
           ∙ ap₂ (quotientOf len f g) (d .before .read-candidate .ensures) (d .read-candidate2 .ensures)
-          ∙ quotient-long len (s .pre .1 .long) f g h w))
+          ∙ quotient-room len f g h w (s .pre .1 .long)))
           (quotient-storable scratchPlaces f g h w)
           (λ count rs t z n.
           held-two z (λ f g. fromTest (quotientOf scratchPlaces f g h w)) f g (byteAt job (at + 1)) (byteAt job (at + 2))

@@ -1,18 +1,18 @@
 -- `operations::read_operands` meets its contract.
-use native.Mathlib.Omega.{arith}
+use borrow.Author.Needs.{needs}
 use Prim.Native.Nat.{_+_, _<_}
+use native.Mathlib.Omega.{arith}
 use denote.Ref.{now}
 use Rattle.job.specs.Bytes.{byteAt}
 use Rattle.job.specs.Commands.{maxResults}
 use Rattle.job.specs.CommandLaws.{both-below}
-use borrow.Author.Needs.{needs}
 use Rattle.job.proofs.operations.read_operands.Statement.{statement}
 use Rattle.job.proofs.operations.read_operands.Tie as tie
 
 -- both bytes name one of 32 results
 named : (c : tie.Start)
     → (byteAt (now (c .args .job)) (c .args .at + 1) < maxResults) × (byteAt (now (c .args .job)) (c .args .at + 2) < maxResults)
-named c = both-below maxResults (byteAt (now (c .args .job)) (c .args .at + 1)) (byteAt (now (c .args .job)) (c .args .at + 2)) (c .pre .1 .0)
+named c = both-below maxResults (byteAt (now (c .args .job)) (c .args .at + 1)) (byteAt (now (c .args .job)) (c .args .at + 2)) (c .pre .names)
 
 add-named : tie.Need-add-named
 add-named c = search needs

@@ -10,7 +10,7 @@ use Rattle.certificate.specs.TestFits.{root-storable}
 use Rattle.job.specs.Bytes.{byteAt, blockAt}
 use Rattle.job.specs.Commands.{maxResults, commandAt}
 use Rattle.job.specs.Jobs.{fromTest, operation}
-use Rattle.job.proofs.OperationLaws.{performs, held-one, root-long}
+use Rattle.job.proofs.OperationLaws.{performs, held-one, root-room}
 use borrow.Author.Needs.{needs}
 use Rattle.job.proofs.operations.root.Statement.{statement}
 use Rattle.job.proofs.operations.root.Tie as tie
@@ -64,7 +64,7 @@ returns c =
           ∙ ap fromTest
           (q .root .ensures .0
           ∙ ap₂ (rootOf len f) (d .before .read-candidate .ensures) (d .read-candidate2 .ensures)
-          ∙ root-long len (s .pre .1 .long) f h w))
+          ∙ root-room len f h w (s .pre .1 .long)))
           (root-storable scratchPlaces f h w)
           (λ count rs t z n. held-one z (λ f. fromTest (rootOf scratchPlaces f h w)) f (byteAt job (at + 1)) (e .named .ensures) n),
       q .root .ensures .1 ∙ s .pre .1 .clear,

@@ -14,7 +14,7 @@ use Rattle.job.proofs.operations.subtract.Tie as tie
 
 read-operands-requires : tie.Need-read-operands-requires
 unfolding commandAt
-read-operands-requires c κs = let p = c .before .pre in (omega arith, (p .names, p .long))
+read-operands-requires c κs = let p = c .before .pre in record { names = p .names; room = omega arith; long = p .long }
 
 subtract-requires : tie.Need-subtract-requires
 subtract-requires c κs = search needs

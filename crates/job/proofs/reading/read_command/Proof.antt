@@ -2,15 +2,13 @@
 use borrow.Author.Needs.{needs}
 use borrow.Author.Tests.{le-leb, lt-leb, lt-ltb, le-ltb}
 use mathlib.Core.Path.{_≡_, sym, _∙_}
-use mathlib.Core.Bool.{false, _&&_}
 use mathlib.Core.List.{List}
 use Prim.Native.Nat.{ℕ, _+_, _≤_}
 use native.Mathlib.Omega.{arith}
-use lib.Dec.{leb, ltb}
-use lib.ListN.{length}
+use lib.ListN.{length, drop}
 use denote.Ref.{now}
 use Rattle.model.specs.Models.{firstRefusal}
-use Rattle.job.specs.Commands.{widthOf, commandAt, maxResults, badKind, badValues, badNames, makesResult, readOutcome, readingNumber, readingPlaces}
+use Rattle.job.specs.Commands.{widthOf, readOutcome, readingNumber, readingPlaces}
 use Rattle.job.specs.declared.types.Shape.{Shape}
 use Rattle.job.proofs.ReadingLaws.{read-with, placesWith, outcomeWith}
 use Rattle.job.proofs.reading.read_command.Statement.{statement}
@@ -34,19 +32,21 @@ module _ (a : tie.After-shape-of) where
   abbrev s : Shape
   s = a .shape-of .result
 
-  reads : readOutcome job k count at ≡ outcomeWith job k count at s (firstRefusal (placesWith job k count at s))
-  reads = read-with job k count at s (a .shape-of .ensures)
-
-  width : s .width ≡ widthOf (s .kind)
-  width = rw (a .shape-of .ensures)
-
-  test1 : leb (length job) at ≡ false
-  test1 = lt-leb _ _ (a .before .before .if1 .left)
+  -- the first n places are passed: what is read is what those behind say
+  abbrev Left : ℕ → Type 0
+  Left n = readOutcome job k count at ≡ outcomeWith job k count at s (firstRefusal (drop n (placesWith job k count at s)))
 
 -- ---- the tests that failed
 
-test2 : (c : tie.Else2) → badKind (k (c .before .before)) (s (c .before .before) .kind) ≡ false
-test2 c = sym (c .before .is-bad-kind .ensures) ∙ c .if2 .left
+left1 : (a : tie.After-shape-of) → Left a 1
+unfolding firstRefusal
+left1 a =
+    rw (read-with (job a) (k a) (count a) (at a) (s a) (a .shape-of .ensures))
+    (simp (lt-leb (length (job a)) (at a) (a .before .before .if1 .left)))
+
+left2 : (c : tie.Else2) → Left (c .before .before) 2
+unfolding firstRefusal
+left2 c = rw (left1 (c .before .before)) (simp (sym (c .before .is-bad-kind .ensures) ∙ c .if2 .left))
 
 module _ (c : tie.Else3) where
   abbrev a3 : tie.After-shape-of
@@ -56,31 +56,25 @@ module _ (c : tie.Else3) where
   room = omega (arith, c .if3 .left, a3 .before .before .if1 .left)
 
   fits : at a3 + 1 + widthOf (s a3 .kind) ≤ length (job a3)
-  fits = omega (arith, room, width a3)
+  fits = let w : s a3 .width ≡ widthOf (s a3 .kind) = rw (a3 .shape-of .ensures) in omega (arith, room)
 
-  test3 : ltb (length (job a3)) (at a3 + 1 + s a3 .width) ≡ false
-  test3 = le-ltb _ _ room
+  left3 : Left a3 3
+  unfolding firstRefusal
+  left3 = rw (left2 (c .before .before)) (simp (le-ltb (length (job a3)) (at a3 + 1 + s a3 .width) room))
 
-module _ (c : tie.Else4) where
-  abbrev a4 : tie.After-shape-of
-  a4 = a3 (c .before .before)
+left4 : (c : tie.Else4) → Left (a3 (c .before .before)) 4
+unfolding firstRefusal
+left4 c = rw (left3 (c .before .before)) (simp (sym (c .before .has-bad-values .ensures) ∙ c .if4 .left))
 
-  test4 : badValues (s a4 .kind) (job a4) (at a4) ≡ false
-  test4 = sym (c .before .has-bad-values .ensures) ∙ c .if4 .left
+left5 : (c : tie.Else5) → Left (a3 (c .before .before .before .before)) 5
+unfolding firstRefusal
+left5 c = rw (left4 (c .before .before)) (simp (sym (c .before .has-bad-names .ensures) ∙ c .if5 .left))
 
-module _ (c : tie.Else5) where
-  abbrev a5 : tie.After-shape-of
-  a5 = a4 (c .before .before)
-
-  test5 : badNames (commandAt (s a5 .kind) (job a5) (at a5)) (count a5) ≡ false
-  test5 = sym (c .before .has-bad-names .ensures) ∙ c .if5 .left
-
-module _ (c : tie.Else6) where
-  abbrev a6 : tie.After-shape-of
-  a6 = a5 (c .before .before)
-
-  test6 : (makesResult (commandAt (s a6 .kind) (job a6) (at a6)) && leb maxResults (count a6)) ≡ false
-  test6 = sym (c .before .is-full .ensures (job a6) (at a6)) ∙ c .if6 .left
+left6 : (c : tie.Else6) → Left (a3 (c .before .before .before .before .before .before)) 6
+unfolding firstRefusal
+left6 c =
+    let a = a3 (c .before .before .before .before .before .before) in
+    rw (left5 (c .before .before)) (simp (sym (c .before .is-full .ensures (job a) (at a)) ∙ c .if6 .left))
 
 -- ---- the needs
 
@@ -99,10 +93,7 @@ is-bad-kind-requires c κs = search needs
 
 returns-2 : tie.Need-returns-2
 unfolding firstRefusal
-returns-2 c =
-    let a = c .before .before in
-    rw (reads a)
-    (simp (test1 a, sym (c .before .is-bad-kind .ensures) ∙ c .if2 .taken))
+returns-2 c = rw (left1 (c .before .before)) (simp (sym (c .before .is-bad-kind .ensures) ∙ c .if2 .taken))
 
 sub-if3 : tie.Need-sub-if3
 sub-if3 c = search needs
@@ -112,31 +103,22 @@ unfolding firstRefusal
 returns-3 c =
     let d = c .before .before in
     let a = d .before .before in
-    rw (reads a)
-    (simp (test1 a, test2 d, lt-ltb (length (job a)) (at a + 1 + s a .width) (omega (arith, c .if3 .taken, a .before .before .if1 .left))))
+    rw (left2 d)
+    (simp (lt-ltb (length (job a)) (at a + 1 + s a .width) (omega (arith, c .if3 .taken, a .before .before .if1 .left))))
 
 has-bad-values-requires : tie.Need-has-bad-values-requires
 has-bad-values-requires c κs = fits c
 
 returns-4 : tie.Need-returns-4
 unfolding firstRefusal
-returns-4 c =
-    let d = c .before .before in
-    let a = a3 d in
-    rw (reads a)
-    (simp (test1 a, test2 (d .before .before), test3 d, sym (c .before .has-bad-values .ensures) ∙ c .if4 .taken))
+returns-4 c = rw (left3 (c .before .before)) (simp (sym (c .before .has-bad-values .ensures) ∙ c .if4 .taken))
 
 has-bad-names-requires : tie.Need-has-bad-names-requires
 has-bad-names-requires c κs = fits (c .before .before)
 
 returns-5 : tie.Need-returns-5
 unfolding firstRefusal
-returns-5 c =
-    let e = c .before .before in
-    let d = e .before .before in
-    let a = a4 e in
-    rw (reads a)
-    (simp (test1 a, test2 (d .before .before), test3 d, test4 e, sym (c .before .has-bad-names .ensures) ∙ c .if5 .taken))
+returns-5 c = rw (left4 (c .before .before)) (simp (sym (c .before .has-bad-names .ensures) ∙ c .if5 .taken))
 
 is-full-requires : tie.Need-is-full-requires
 is-full-requires c κs = search needs
@@ -144,12 +126,8 @@ is-full-requires c κs = search needs
 returns-6 : tie.Need-returns-6
 unfolding firstRefusal
 returns-6 c =
-    let f = c .before .before in
-    let e = f .before .before in
-    let d = e .before .before in
-    let a = a5 f in
-    rw (reads a)
-    (simp (test1 a, test2 (d .before .before), test3 d, test4 e, test5 f, sym (c .before .is-full .ensures (job a) (at a)) ∙ c .if6 .taken))
+    let a = a3 (c .before .before .before .before .before .before) in
+    rw (left5 (c .before .before)) (simp (sym (c .before .is-full .ensures (job a) (at a)) ∙ c .if6 .taken))
 
 add-next : tie.Need-add-next
 add-next c = search needs
@@ -162,25 +140,11 @@ is-too-long-requires c κs = search needs
 
 returns-7 : tie.Need-returns-7
 unfolding firstRefusal
-returns-7 c =
-    let g = c .before .before .before in
-    let f = g .before .before in
-    let e = f .before .before in
-    let d = e .before .before in
-    let a = a6 g in
-    rw (reads a)
-    (simp (test1 a, test2 (d .before .before), test3 d, test4 e, test5 f, test6 g, sym (c .before .is-too-long .ensures) ∙ c .if7 .taken))
+returns-7 c = rw (left6 (c .before .before .before)) (simp (sym (c .before .is-too-long .ensures) ∙ c .if7 .taken))
 
 returns-8 : tie.Need-returns-8
 unfolding firstRefusal
-returns-8 c =
-    let g = c .before .before .before in
-    let f = g .before .before in
-    let e = f .before .before in
-    let d = e .before .before in
-    let a = a6 g in
-    rw (reads a)
-    (simp (test1 a, test2 (d .before .before), test3 d, test4 e, test5 f, test6 g, sym (c .before .is-too-long .ensures) ∙ c .if7 .left))
+returns-8 c = rw (left6 (c .before .before .before)) (simp (sym (c .before .is-too-long .ensures) ∙ c .if7 .left))
 
 pub read-command-spec : {M : Type 1} → statement M
 read-command-spec =
