@@ -1,7 +1,7 @@
 -- How large the numbers of the tests become, for good models.
-use mathlib.Core.Path.{_≡_, refl, ap}
+use mathlib.Core.Path.{_≡_, ap}
 use mathlib.Core.Bool.{true}
-use Prim.Native.Nat.{ℕ, suc, _+_, _*_, _^_, _≤_}
+use Prim.Native.Nat.{ℕ, _+_, _*_, _^_, _≤_}
 use native.Mathlib.Omega.{arith}
 use native.Mathlib.Nat.{mul-le-mul}
 use lib.IntN.{ℤ, natAbs}
@@ -11,23 +11,19 @@ use Rattle.chebyshev.specs.Coefficients.{weight}
 use Rattle.model.specs.Models.{scale, maxWeight, maxRadius, good}
 use Rattle.model.specs.ModelLaws.{good-is}
 use Rattle.model.specs.Operations.{productList}
+use Rattle.model.specs.GoodLaws.{weight-productList}
 use Rattle.model.specs.declared.types.Model.{Model}
 use Rattle.certificate.specs.Residuals.{residualList, constantResidual, weight-residual, weight-constant-le}
-use Rattle.certificate.proofs.Formed.{formed}
 
 module _ (a b : Model) (ha : good a ≡ true) (hb : good b ≡ true) where
   pub weights-range : weight (a .coefficients) * weight (b .coefficients) ≤ 2 ^ 56
   weights-range = mul-le-mul (good-is a ha .weight-fits) (good-is b hb .weight-fits)
 
-  product-range : weight (productList a b) ≤ 2 ^ 57
-  unfolding productList
-  product-range = omega (arith, weights-range, formed (suc (a .degree)) (a .coefficients) (suc (b .degree)) (b .coefficients) _ refl)
-
   pub constant-range : (z : ℤ) → weight (constantResidual 0 z (productList a b)) ≤ natAbs z + 2 ^ 57
-  constant-range z = omega (arith, product-range, weight-constant-le 0 z (productList a b))
+  constant-range z = omega (arith, weight-productList a b ha hb, weight-constant-le 0 z (productList a b))
 
   pub residual-range : (f : Model) → good f ≡ true → weight (residualList (productList a b) (f .coefficients)) ≤ 2 ^ 57 + 2 ^ 49
-  residual-range f hf = omega (arith, product-range, weight-residual (productList a b) (f .coefficients), good-is f hf .weight-fits)
+  residual-range f hf = omega (arith, weight-productList a b ha hb, weight-residual (productList a b) (f .coefficients), good-is f hf .weight-fits)
 
 -- the error term M·e, where code holds a's weight as a number M and e is b's radius
 pub record ErrorTerm (M : ℕ) (a b : Model) : Type 0 where
