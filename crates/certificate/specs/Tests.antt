@@ -11,8 +11,6 @@ use Rattle.integer.specs.Integer.{ℤ-ring}
 use Rattle.integer.specs.Rounding.{upℕ}
 use Rattle.chebyshev.specs.Coefficients.{weight, subtractLists, scaleList}
 use Rattle.chebyshev.specs.Sign.{coefficientSum}
--- the name by which job's example unfolds it
-unfoldable pub use Rattle.chebyshev.specs.Sign.{coefficientSum as total}
 use Rattle.model.specs.Models.{scale, productPlaces, maxRadius, good, tooLarge, modelOf, zeroModel, numberOf, firstRefusal, candidateModel}
 use Rattle.model.specs.Operations.{productList}
 use Rattle.model.specs.declared.types.Model.{Model}
