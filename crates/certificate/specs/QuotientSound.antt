@@ -19,7 +19,7 @@ use Rattle.chebyshev.specs.CoefficientLaws.{value-constant}
 use Rattle.chebyshev.specs.Allows.{allows}
 use Rattle.model.specs.Models.{scale, good}
 use Rattle.model.specs.Operations.{productList}
-use Rattle.model.specs.Values.{Allows, OnInterval}
+use Rattle.model.specs.Values.{position, AllowsAt, Allows, OnInterval}
 use Rattle.model.specs.ValueLaws.{valueAt, valueAt-scale, valueAt-weight, valueAt-difference}
 use Rattle.model.specs.GoodLaws.{value-productList}
 use Rattle.model.specs.declared.types.Model.{Model}
@@ -28,9 +28,9 @@ use Rattle.certificate.specs.QuotientAlgebra.{contraction-bound, residua
 use Rattle.certificate.specs.QuotientConditions.{QuotientConditions, quotientDisplacement, quotient-passes, quotient-result}
 
 -- w(x) and h(x) are in units: |S − w(x)·v| ≤ m
-contraction-sound : (g w : Model) → good g ≡ true → good w ≡ true → (x v : ℚ) → OnInterval x → Allows g x v
+contraction-sound : (g w : Model) → good g ≡ true → good w ≡ true → (x v : ℚ) → OnInterval x → AllowsAt g x v
     → ∣ whole (pos scale) -ℚ valueAt x (w .coefficients) *ℚ v ∣ℚ ≤ℚ whole (pos (quotientContraction g w))
-unfolding quotientContraction Allows allows
+unfolding quotientContraction AllowsAt allows
 contraction-sound g w gg gw x v on hv =
     up-bound (distance + 2 * weight (w .coefficients) * g .radius) (2 * scale) (whole (pos scale) -ℚ valueAt x (w .coefficients) *ℚ v) (omega arith)
     (rw (natural-mul 2 scale, sum distance (weight (w .coefficients)) (g .radius))
@@ -48,9 +48,9 @@ contraction-sound g w gg gw x v on hv =
     twice-square = sym (value-constant ℚ-ring x (whole (pos (2 * scale * scale))) ∙ natural-mul (2 * scale) scale ∙ ap (λ z. z *ℚ whole (pos scale)) (natural-mul 2 scale))
 
 -- |v·h(x) − S·u| ≤ N
-residual-sound : (f g h : Model) → good g ≡ true → good h ≡ true → (x u v : ℚ) → OnInterval x → Allows f x u → Allows g x v
+residual-sound : (f g h : Model) → good g ≡ true → good h ≡ true → (x u v : ℚ) → OnInterval x → AllowsAt f x u → AllowsAt g x v
     → ∣ v *ℚ valueAt x (h .coefficients) -ℚ whole (pos scale) *ℚ u ∣ℚ ≤ℚ whole (pos (quotientResidual f g h))
-unfolding quotientResidual Allows allows
+unfolding quotientResidual AllowsAt allows
 residual-sound f g h gg gh x u v on hu hv =
     up-bound (distance + 2 * scale * f .radius + 2 * weight (h .coefficients) * g .radius) (2 * scale) (v *ℚ valueAt x (h .coefficients) -ℚ whole (pos scale) *ℚ u) (omega arith)
     (rw (natural-mul 2 scale, sum distance scale (f .radius) (weight (h .coefficients)) (g .radius))
@@ -77,7 +77,7 @@ module _ (len : ℕ) (f g h w : Model) (passes : (quotientOf len f g h w) .numbe
   conditions = quotient-passes len f g h w .0 passes
 
   -- S − m ≤ M·|v|, where S − m > 0
-  quotient-divisor : (v : ℚ) → Allows g x v → whole (pos (scale - quotientContraction g w)) ≤ℚ (whole (pos (weight (w .coefficients))) *ℚ ∣ v ∣ℚ)
+  quotient-divisor : (v : ℚ) → AllowsAt g x v → whole (pos (scale - quotientContraction g w)) ≤ℚ (whole (pos (weight (w .coefficients))) *ℚ ∣ v ∣ℚ)
   quotient-divisor v hv =
       divisor-away ℚ-ordered (valueAt x (w .coefficients)) v
       (sym (natural-add (scale - quotientContraction g w) (quotientContraction g w)) ∙ ap (λ (n : ℕ). whole (pos n)) (omega (arith, conditions .contraction)))
@@ -88,10 +88,11 @@ module _ (len : ℕ) (f g h w : Model) (passes : (quotientOf len f g h w) .numbe
 
   -- no value that the divisor's model allows is 0
   pub quotient-nonzero : (v : ℚ) → Allows g x v → ¬ (v ≡ whole (pos 0))
+  unfolding position
   quotient-nonzero v hv = divisor-nonzero ℚ-ordered v positive (quotient-divisor v hv)
 
   pub quotient-sound : (u v : ℚ) → Allows f x u → Allows g x v → Allows ((quotientOf len f g h w) .model) x (u /ℚ v)
-  unfolding Allows allows quotientModel
+  unfolding position AllowsAt allows quotientModel
   quotient-sound u v hu hv =
       rw (quotient-result len f g h w passes)
       (quotient-bound ℚ-ordered (whole (pos scale)) u v (u /ℚ v) (valueAt x (h .coefficients))

@@ -20,7 +20,7 @@ use Rattle.chebyshev.specs.CoefficientLaws.{value-constant}
 use Rattle.chebyshev.specs.Allows.{allows, allows-quotient}
 use Rattle.chebyshev.specs.Sign.{helper-positive}
 use Rattle.model.specs.Models.{scale}
-use Rattle.model.specs.Values.{Allows, OnInterval}
+use Rattle.model.specs.Values.{position, AllowsAt, Allows, OnInterval}
 use Rattle.model.specs.ValueLaws.{valueAt, valueAt-scale, valueAt-weight, valueAt-difference}
 use Rattle.model.specs.GoodLaws.{value-productList}
 use Rattle.model.specs.Operations.{productList}
@@ -51,8 +51,8 @@ units-nonneg n =
 
 -- what lies between y − ρ and y + ρ is allowed
 between-allows : (m : Model) (x r : ℚ) → r ≤ℚ ofUnits (valueAt x (m .coefficients)) +ℚ ofUnits (whole (pos (m .radius)))
-    → ofUnits (valueAt x (m .coefficients)) -ℚ ofUnits (whole (pos (m .radius))) ≤ℚ r → Allows m x r
-unfolding Allows
+    → ofUnits (valueAt x (m .coefficients)) -ℚ ofUnits (whole (pos (m .radius))) ≤ℚ r → AllowsAt m x r
+unfolding AllowsAt
 between-allows m x r above below =
     allows-quotient scale (m .coefficients) (m .radius) x r (omega arith) .1 (distance (ofUnits (valueAt x (m .coefficients))) (ofUnits (whole (pos (m .radius)))) above below)
   where
@@ -88,7 +88,7 @@ module _ (len : ℕ) (f h w : Model) (c : RootConditions len f h w) where
       (λ y k. helper-distance y (record { above = abs-lower ℚ-ordered k; below = abs-upper ℚ-ordered k }))
       x (abs-le ℚ-ordered (on .below) (on .above))
 
-  module _ (x v : ℚ) (on : OnInterval x) (allowed : Allows f x v) where
+  module _ (x v : ℚ) (on : OnInterval x) (allowed : AllowsAt f x v) where
     abbrev y : ℚ
     y = ofUnits (valueAt x (h .coefficients))
 
@@ -101,7 +101,7 @@ module _ (len : ℕ) (f h w : Model) (c : RootConditions len f h w) where
 
     -- S·|y² − v| ≤ N
     root-residual : ∣ whole (pos scale) *ℚ (y *ℚ y -ℚ v) ∣ℚ ≤ℚ whole (pos (rootResidual f h))
-    unfolding rootResidual Allows allows
+    unfolding rootResidual AllowsAt allows
     root-residual =
         up-bound (residualWeight + 2 * scale * f .radius) (2 * scale) (whole (pos scale) *ℚ (y *ℚ y -ℚ v)) (omega arith)
         (rw (natural-add residualWeight (2 * scale * f .radius), natural-mul (2 * scale) (f .radius), natural-mul 2 scale)
@@ -139,6 +139,7 @@ module _ (len : ℕ) (f h w : Model) (c : RootConditions len f h w) where
 
 module _ (len : ℕ) (f h w : Model) (passed : (rootOf len f h w) .number ≡ 0) (x v : ℚ) (on : OnInterval x) (allowed : Allows f x v) where
   pub root-sound : RootBounds (ofUnits (valueAt x (h .coefficients))) (ofUnits (whole (pos ((rootOf len f h w) .model .radius)))) v
+  unfolding position
   root-sound = rw (root-result len f h w passed) (bounds len f h w (root-passes len f h w .0 passed .0) x v on allowed)
 
   same-coefficients : (rootOf len f h w) .model .coefficients ≡ h .coefficients
@@ -148,6 +149,7 @@ module _ (len : ℕ) (f h w : Model) (passed : (rootOf len f h w) .number ≡ 0)
   -- Every box that 01 permits for the root, where v lies in the box from l to u under it, holds a value that the result allows
   pub root-overlap : (low high l u : ℚ) → (low ≡ whole (pos 0)) ⊎ ((whole (pos 0) <ℚ low) × (low *ℚ low ≤ℚ l)) → whole (pos 0) ≤ℚ high → u ≤ℚ high *ℚ high
       → low ≤ℚ high → l ≤ℚ v → v ≤ℚ u → (r : ℚ) × (low ≤ℚ r) × (r ≤ℚ high) × Allows ((rootOf len f h w) .model) x r
+  unfolding position
   root-overlap low high l u low-fits high-nonneg high-fits ordered above below =
       let (r, low-r, r-high, r-above, r-below) =
       root-choice ℚ-ordered _ _ v low high (units-nonneg ((rootOf len f h w) .model .radius)) (root-sound .reaches) (root-sound .above) (root-sound .below)

@@ -19,7 +19,7 @@ use Rattle.chebyshev.specs.Coefficients.{value, valueFrom}
 use Rattle.chebyshev.specs.CoefficientLaws.{value-constant}
 use Rattle.chebyshev.specs.Allows.{allows}
 use Rattle.model.specs.Models.{scale, modelOf, firstRefusal}
-use Rattle.model.specs.Values.{Allows}
+use Rattle.model.specs.Values.{position, AllowsAt, Allows}
 use Rattle.model.specs.ValueLaws.{valueAt, valueAt-append-zeros}
 use Rattle.model.specs.declared.types.Model.{Model}
 use Rattle.job.specs.Bytes.{signedsAt}
@@ -79,7 +79,7 @@ commands = (refl, (refl, (refl, (refl, (refl, (refl, refl))))))
 -- ---- what the loads allow
 
 exact : (m : Model) (x v : ℚ) → v *ℚ whole (pos scale) ≡ valueAt x (m .coefficients) → Allows m x v
-unfolding Allows allows
+unfolding position AllowsAt allows
 exact m x v e = rw (ap (λ z. z -ℚ valueAt x (m .coefficients)) e ∙ same, abs-of-nonneg ℚ-ordered (le-refl ℚ-ordered (whole (pos 0)))) (natural-le (omega arith))
   where
     same : valueAt x (m .coefficients) -ℚ valueAt x (m .coefficients) ≡ whole (pos 0)

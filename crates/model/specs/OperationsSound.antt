@@ -16,7 +16,7 @@ use Rattle.chebyshev.specs.Coefficients.{weight, addLists, subtractLists, scale
 use Rattle.chebyshev.specs.Allows.{allows}
 use Rattle.model.specs.Models.{scale, places, good}
 use Rattle.model.specs.Operations.{sumModel, differenceModel, productModel, productList, productDegree, productLoss, rounded, roundingLoss, addition, subtraction, multiplication}
-use Rattle.model.specs.Values.{Allows, OnInterval}
+use Rattle.model.specs.Values.{position, AllowsAt, Allows, OnInterval}
 use Rattle.model.specs.ValueLaws.{valueAt, valueAt-add, valueAt-subtract, valueAt-scale, valueAt-append-zeros, valueAt-weight, valueAt-difference}
 use Rattle.model.specs.GoodLaws.{value-productList}
 use Rattle.model.specs.RefusalLaws.{addition-zero, subtraction-zero, multiplication-zero}
@@ -34,14 +34,14 @@ difference-bound s v w α β {e} {f} h k =
     sum-bound s v (-ℚ w) α (-ℚ β) h
     (subst (λ z. ∣ z ∣ℚ ≤ℚ f) (solveℚ (s ∷ w ∷ β ∷ []) (search reifyℚ depth 20) (search reifyℚ depth 20) tt) (abs-neg-le ℚ-ordered (w *ℚ s -ℚ β) k))
 
-pub add-sound : (a b : Model) (x v w : ℚ) → Allows a x v → Allows b x w → Allows (sumModel a b) x (v +ℚ w)
-unfolding Allows allows sumModel
+pub add-sound : (a b : Model) (x v w : ℚ) → AllowsAt a x v → AllowsAt b x w → AllowsAt (sumModel a b) x (v +ℚ w)
+unfolding AllowsAt allows sumModel
 add-sound a b x v w h k =
     rw (valueAt-add x (a .coefficients) (b .coefficients), natural-add (a .radius) (b .radius))
     (sum-bound (whole (pos scale)) v w (valueAt x (a .coefficients)) (valueAt x (b .coefficients)) h k)
 
-pub subtract-sound : (a b : Model) (x v w : ℚ) → Allows a x v → Allows b x w → Allows (differenceModel a b) x (v -ℚ w)
-unfolding Allows allows differenceModel
+pub subtract-sound : (a b : Model) (x v w : ℚ) → AllowsAt a x v → AllowsAt b x w → AllowsAt (differenceModel a b) x (v -ℚ w)
+unfolding AllowsAt allows differenceModel
 subtract-sound a b x v w h k =
     rw (valueAt-subtract x (a .coefficients) (b .coefficients), natural-add (a .radius) (b .radius))
     (difference-bound (whole (pos scale)) v w (valueAt x (a .coefficients)) (valueAt x (b .coefficients)) h k)
@@ -75,8 +75,8 @@ product-bound s v w α β c {l} {A} {B} {e} {f} hl hα hβ hε hη =
     η = w *ℚ s -ℚ β
 
 pub multiply-sound : (d : ℕ) (a b : Model) → good a ≡ true → good b ≡ true
-    → (x v w : ℚ) → OnInterval x → Allows a x v → Allows b x w → Allows (productModel d a b) x (v *ℚ w)
-unfolding Allows allows productModel productLoss
+    → (x v w : ℚ) → OnInterval x → AllowsAt a x v → AllowsAt b x w → AllowsAt (productModel d a b) x (v *ℚ w)
+unfolding AllowsAt allows productModel productLoss
 multiply-sound d a b ga gb x v w on h k =
     rw (valueAt-append-zeros x kept (places - suc n))
     (up-bound (productLoss n a b) (2 * scale) (v *ℚ w *ℚ whole (pos scale) -ℚ valueAt x kept) (omega arith)
@@ -104,12 +104,15 @@ multiply-sound d a b ga gb x v w on h k =
 -- ---- the same of the outcomes
 
 pub addition-sound : (a b : Model) → (addition a b) .number ≡ 0 → (x v w : ℚ) → Allows a x v → Allows b x w → Allows ((addition a b) .model) x (v +ℚ w)
+unfolding position
 addition-sound a b e x v w h k = rw (addition-zero a b e .result) (add-sound a b x v w h k)
 
 pub subtraction-sound : (a b : Model) → (subtraction a b) .number ≡ 0 → (x v w : ℚ) → Allows a x v → Allows b x w → Allows ((subtraction a b) .model) x (v -ℚ w)
+unfolding position
 subtraction-sound a b e x v w h k = rw (subtraction-zero a b e .result) (subtract-sound a b x v w h k)
 
 pub multiplication-sound : (d : ℕ) (a b : Model) → (multiplication d a b) .number ≡ 0
     → (x v w : ℚ) → OnInterval x → Allows a x v → Allows b x w → Allows ((multiplication d a b) .model) x (v *ℚ w)
+unfolding position
 multiplication-sound d a b e x v w on h k =
     let p = multiplication-zero d a b e in rw (p .result) (multiply-sound d a b (p .first-good) (p .second-good) x v w on h k)

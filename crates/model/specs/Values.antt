@@ -7,12 +7,15 @@ use Rattle.model.specs.Models.{scale}
 use Rattle.model.specs.declared.types.Model.{Model}
 
 -- the point at which T_k is taken for a model
-abbrev pub position : Model → ℚ → ℚ
+unfoldable pub position : Model → ℚ → ℚ
 position m x = x
 
 -- 01: "A model allows the value v at x when |v − Σ a_k·T_k(x)/S| ≤ e/S."
-unfoldable pub Allows : Model → ℚ → ℚ → Type 0
-Allows m x v = allows scale (m .coefficients) (m .radius) (position m x) v
+unfoldable pub AllowsAt : Model → ℚ → ℚ → Type 0
+AllowsAt m y v = allows scale (m .coefficients) (m .radius) y v
+
+abbrev pub Allows : Model → ℚ → ℚ → Type 0
+Allows m x v = AllowsAt m (position m x) v
 
 -- "every fraction from -1 to 1"
 pub record OnInterval (x : ℚ) : Type 0 where
