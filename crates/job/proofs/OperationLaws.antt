@@ -1,7 +1,7 @@
 -- The operations of commands on the results that a work area holds.
 use mathlib.Core.Path.{_≡_, ap, ap₂, subst⁻¹, _∙_}
-use mathlib.Core.Bool.{true, false, not, _||_}
-use mathlib.Core.List.{List, [], _∷_}
+use mathlib.Core.Bool.{true, false, _||_}
+use mathlib.Core.List.{List}
 use Prim.Native.Nat.{ℕ, _≤_}
 use borrow.Author.Tests.{leb-false, le-ltb, not-false}
 use native.Mathlib.Omega.{arith}
@@ -13,17 +13,16 @@ use Rattle.model.specs.Areas.{Storable}
 use Rattle.model.specs.OutcomeFits.{answer-storable}
 use Rattle.certificate.specs.Tests.{scratchPlaces, rootPlaces, rootOf}
 use Rattle.model.specs.declared.types.Model.{Model}
-use Rattle.job.specs.Commands.{Command, badNames}
-use Rattle.job.specs.Jobs.{resultAt, operation}
+use Rattle.job.specs.Makers.{Maker, loadPlaces, resultAt, namesBad, operation}
 use Rattle.job.specs.CommandLaws.{both-below}
 use Rattle.job.specs.Work.{stretch}
 use Rattle.job.specs.Steps.{Holds, Performs}
 use Rattle.job.proofs.Results.{result-held}
 
 -- an outcome that is p
-pub performs : {c : Command} {w : List ℤ} {o p : Outcome} → o ≡ p → Storable (p .model)
-    → ((count : ℕ) (rs : List Model) (t : List ℤ) → Holds w count rs t → badNames c count ≡ false → p ≡ operation c rs)
-    → Performs c w o
+pub performs : {m : Maker} {w : List ℤ} {o p : Outcome} → o ≡ p → Storable (p .model)
+    → ((count : ℕ) (rs : List Model) (t : List ℤ) → Holds w count rs t → namesBad m count ≡ false → p ≡ operation m rs)
+    → Performs m w o
 performs e s g = record {
   storable = subst⁻¹ (λ (o : Outcome). Storable (o .model)) e s;
   gives = λ count rs t h n. e ∙ g count rs t h n;
@@ -33,12 +32,12 @@ performs e s g = record {
 
 -- the places and the answer of a load
 abbrev pub loaded : Model → Outcome
-loaded m = outcome ((not (good m), 2) ∷ []) m
+loaded m = outcome (loadPlaces m) m
 
 pub loaded-storable : (m : Model) → Storable (loaded m .model)
 unfolding outcome
 loaded-storable m =
-    answer-storable ((not (good m), 2) ∷ []) m (omega arith)
+    answer-storable (loadPlaces m) m (omega arith)
     (λ p. let g = good-is m (not-false (good m) (p .0)) in (g .degree-fits, g .radius-fits))
 
 pub loaded-good : (m : Model) → good m ≡ true → record { number = 0; model = m } ≡ loaded m

@@ -6,8 +6,9 @@ use Prim.Native.Nat.{ℕ, _+_}
 use lib.Dec.{eqb, leb, ltb}
 use lib.ListN.{length}
 use Rattle.model.specs.Models.{firstRefusal}
-use Rattle.job.specs.Commands.{shapeAt, commandAt, maxResults, badKind, badValues, badNames, makesResult, isEnd, readingPlaces, readingNumber, ReadOutcome, found, refusal, readOutcome}
+use Rattle.job.specs.Commands.{shapeAt, maxResults, badKind, badValues, badBytes, makesResult, isEnd, readingPlaces, readingNumber, ReadOutcome, found, refusal, readOutcome}
 use Rattle.job.specs.declared.types.Shape.{Shape}
+use Rattle.job.proofs.KindLaws.{agrees}
 
 module _ (job : List ℕ) (k count at : ℕ) (s : Shape) where
   abbrev next : ℕ
@@ -18,9 +19,9 @@ module _ (job : List ℕ) (k count at : ℕ) (s : Shape) where
       (leb (length job) at, 10)
       ∷ (badKind k (s .kind), 9)
       ∷ (ltb (length job) next, 10)
-      ∷ (badValues (s .kind) job at, 9)
-      ∷ (badNames (commandAt (s .kind) job at) count, 12)
-      ∷ (makesResult (commandAt (s .kind) job at) && leb maxResults count, 13)
+      ∷ (badValues (s .values) job at, 9)
+      ∷ (badBytes (s .names) job at count, 12)
+      ∷ (makesResult (s .kind) && leb maxResults count, 13)
       ∷ (isEnd (s .kind) && ltb next (length job), 11)
       ∷ []
 
@@ -29,4 +30,4 @@ module _ (job : List ℕ) (k count at : ℕ) (s : Shape) where
 
   pub read-with : s ≡ shapeAt job k count at → readOutcome job k count at ≡ outcomeWith (firstRefusal placesWith)
   unfolding readOutcome readingNumber readingPlaces
-  read-with e = rw e
+  read-with e = rw (e, agrees (shapeAt job k count at .kind) .named job at count)

@@ -11,8 +11,9 @@ use Rattle.integer.specs.OrderedRing.{lt-le}
 use Rattle.integer.specs.FractionOrder.{ℚ-ordered}
 use Rattle.model.specs.Values.{Allows}
 use Rattle.model.specs.declared.types.Model.{Model}
-use Rattle.job.specs.Commands.{Command, quotient, root, badNames}
-use Rattle.job.specs.Jobs.{jobOf, accepted, resultAt}
+use Rattle.job.specs.Makers.{Maker, quotient, root, resultAt, namesBad}
+use Rattle.job.specs.Commands.{Command, result}
+use Rattle.job.specs.Jobs.{jobOf, accepted}
 use Rattle.job.specs.Reading.{commandsOf, commandOf}
 use Rattle.job.specs.Steps.{Holds}
 use Rattle.job.specs.CommandLaws.{both-below}
@@ -31,8 +32,8 @@ module _ (job : List ℕ) (rs : List Model) (e : jobOf job ≡ accepted rs) wher
 
   module _ (work t : List ℤ) (holds : Holds work (length rs) rs t) where
     -- the results that a command names stand before its own
-    named : (i : ℕ) (c : Command) → i < length rs → commandOf cs i ≡ c → badNames c i ≡ false
-    named i c h f = subst (λ (d : Command). badNames d i ≡ false) f (made i (omega (arith, accepted-length job rs e)) .names)
+    named : (i : ℕ) (m : Maker) → i < length rs → commandOf cs i ≡ result m → namesBad m i ≡ false
+    named i m h f = subst (λ (c : Command). MadeBy c rs i (resultAt rs i)) f (made i (omega (arith, accepted-length job rs e))) .names
 
     pub requirement : Requirement3 job (length rs) work
     requirement = record {

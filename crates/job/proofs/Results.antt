@@ -12,7 +12,7 @@ use Rattle.model.specs.Areas.{modelPlaces, words, areaModel}
 use Rattle.model.specs.AreaLaws.{length-words, model-words}
 use Rattle.model.specs.declared.types.Model.{Model}
 use Rattle.job.specs.Commands.{maxResults}
-use Rattle.job.specs.Jobs.{resultAt}
+use Rattle.job.specs.Makers.{resultAt}
 use Rattle.job.specs.Work.{workPlaces, stretch, stretches, workOf, storedAt}
 use Rattle.job.specs.Steps.{Sized, Holds}
 

@@ -1,11 +1,11 @@
 -- From the reading of a command to its performance.
 use mathlib.Core.Path.{_≡_, refl, ap, sym, subst, _∙_}
-use mathlib.Core.Bool.{Bool, true, false, false≢true, _||_}
+use mathlib.Core.Bool.{Bool, true, false}
 use mathlib.Core.List.{List, [], _∷_}
 use Prim.Native.Nat.{ℕ, _≤_, _<_}
 use native.Mathlib.Omega.{arith}
 use borrow.Author.Tests.{leb-false, lt-leb, eqb-true}
-use lib.Dec.{eqb, leb}
+use lib.Dec.{eqb}
 use lib.IntN.{ℤ}
 use lib.ListN.{length}
 use denote.Enum.Declared.{tagOf}
@@ -16,8 +16,9 @@ use Rattle.model.specs.declared.types.Model.{Model}
 use Rattle.model.specs.declared.types.Verdict.{Verdict}
 use Rattle.model.specs.declared.types.Verdict.the-variants.{Accepted, ShortArea, BadModel, LargeResult, PointOutside, NotContracting, LargeResidual, HelperNotPositive, NegativeDiscriminant, BadValue, JobEnds, BytesAfterEnd, NotAResult, TooManyResults}
 use Rattle.model.proofs.types.Verdict.{the-type}
-use Rattle.job.specs.Commands.{Command, edition, load, add, subtract, multiply, quotient, root, finish, maxResults, shapeAt, nextAt, commandAt, badNames, makesResult, readingPlaces, readingNumber, ReadOutcome, found, refusal, readOutcome}
-use Rattle.job.specs.Jobs.{operation, no, resulting, performed, command}
+use Rattle.job.specs.Makers.{Maker, Row, of-none, of-one, of-two, rowOf, badIn, namesBad}
+use Rattle.job.specs.Commands.{maxResults, shapeAt, nextAt, commandAt, readingPlaces, readingNumber, ReadOutcome, found, refusal, readOutcome}
+use Rattle.job.specs.Jobs.{no, performed, command}
 use Rattle.job.specs.CommandLaws.{both-below, Readable, readable, reading-numbered}
 use Rattle.job.specs.Work.{workPlaces}
 use Rattle.job.specs.Steps.{Performable}
@@ -88,38 +89,18 @@ module _ (job : List ℕ) (k count at : ℕ) (kind : Kind) (next : ℕ) (work : 
         long = long;
       }
 
--- ---- a command that makes a result
+-- ---- a command that makes a result names results below 32
 
-pub performed-makes : (c : Command) (rs : List Model) (next : ℕ) → makesResult c ≡ true
-    → performed c rs next ≡ resulting rs next (operation c rs)
-performed-makes edition rs next e = absurd (false≢true e)
-performed-makes (load m) rs next e = refl
-performed-makes (add i j) rs next e = refl
-performed-makes (subtract i j) rs next e = refl
-performed-makes (multiply i j d) rs next e = refl
-performed-makes (quotient i j h w) rs next e = refl
-performed-makes (root i h w) rs next e = refl
-performed-makes finish rs next e = absurd (false≢true e)
-
--- it names results below 32
 module _ (count : ℕ) (few : count ≤ maxResults) where
-  one : (i : ℕ) → leb count i ≡ false → leb maxResults i ≡ false
-  one i h = lt-leb maxResults i (omega (arith, leb-false count i h))
-
-  two : (i j : ℕ) → (leb count i || leb count j) ≡ false → (leb maxResults i || leb maxResults j) ≡ false
-  two i j h =
+  row-below : (r : Row) → badIn r count ≡ false → badIn r maxResults ≡ false
+  row-below (of-none g) h = refl
+  row-below (of-one i g) h = lt-leb maxResults i (omega (arith, leb-false count i h))
+  row-below (of-two i j g) h =
       let b = both-below count i j h in
       simp (lt-leb maxResults i (omega (arith, b)), lt-leb maxResults j (omega (arith, b)))
 
-  pub names-below : (c : Command) → badNames c count ≡ false → badNames c maxResults ≡ false
-  names-below edition h = refl
-  names-below (load m) h = refl
-  names-below (add i j) h = two i j h
-  names-below (subtract i j) h = two i j h
-  names-below (multiply i j d) h = two i j h
-  names-below (quotient i j c w) h = two i j h
-  names-below (root i c w) h = one i h
-  names-below finish h = refl
+  pub names-below : (m : Maker) → namesBad m count ≡ false → namesBad m maxResults ≡ false
+  names-below m h = row-below (rowOf m) h
 
 -- a verdict that refuses has a number
 abbrev refusals : List ℕ

@@ -1,40 +1,44 @@
 -- An accepted job reads well, and its results are made by the commands that its bytes hold.
 use mathlib.Core.Path.{_≡_, refl, ap, sym, _∙_}
-use mathlib.Core.Bool.{Bool, true, false, true≢false, cond}
+use mathlib.Core.Bool.{Bool, true, false, true≢false}
 use mathlib.Core.List.{List, [], _∷_, _++_}
 use Prim.Native.Nat.{ℕ, suc, _+_, _-_}
 use native.Mathlib.Omega.{arith}
 use lib.ListN.{length}
 use Rattle.model.specs.RefusalLaws.{Passed, first-refusal-zero}
 use Rattle.model.specs.declared.types.Model.{Model}
-use Rattle.job.specs.Commands.{Command, commandAt, shapeAt, commandRead, nextAt, badKind, makesResult, isEnd, readingPlaces, readingNumber}
-use Rattle.job.specs.Jobs.{operation, operationPlaces, accepted, jobOf}
+use Rattle.job.specs.Commands.{Command, edition, result, finish, unknown, commandAt, shapeAt, commandRead, nextAt, badKind, badNames, isEnd, readingPlaces, readingNumber}
+use Rattle.job.specs.Jobs.{operationPlaces, accepted, jobOf}
 use Rattle.job.specs.Reading.{Reading, well, readOn, readFrom, readingOf, ReadsWell, commandsOf}
 use Rattle.job.specs.Places.{passed-front}
 use Rattle.job.specs.Order.{resultsAfter, placesOf, isLast, Reaches, start, next}
-use Rattle.job.specs.CommandLaws.{isEnd-is, reading-numbered, command-readable, operation-succeeds}
+use Rattle.job.specs.CommandLaws.{isEnd-is, reading-numbered, operation-passed, command-readable, command-passed}
 use Rattle.job.specs.OrderLaws.{reaches-bounds, accepted-exactly}
 use Rattle.job.specs.Made.{Made, nothing, one-more, made-length}
 use Rattle.job.specs.declared.types.Kind.{Kind}
-use Rattle.job.specs.declared.types.Kind.the-variants.{End, Edition, Load, Add, Subtract, Multiply, Quotient, Root, Unknown}
+use Rattle.job.specs.declared.types.Kind.the-variants.{End, Edition, Result, Unknown}
 
 -- the commands of the results after a command
 abbrev commandsAfter : Command → List Command → List Command
-commandsAfter c cs = cond (makesResult c) (cs ++ (c ∷ [])) cs
+commandsAfter edition cs = cs
+commandsAfter (result m) cs = cs ++ (result m ∷ [])
+commandsAfter finish cs = cs
+commandsAfter unknown cs = cs
 
 module _ (on : List Command → Reading) (cs : List Command) (job : List ℕ) (k at : ℕ) where
   reads-on : (kind : Kind) → isEnd kind ≡ false → badKind k kind ≡ false
-      → readOn on cs (commandAt kind job at) ≡ on (commandsAfter (commandAt kind job at) cs)
-  unfolding commandAt
+      → readOn k on cs (commandAt kind job at) ≡ on (commandsAfter (commandAt kind job at) cs)
   reads-on End e b = absurd (true≢false e)
   reads-on Edition e b = refl
-  reads-on Load e b = refl
-  reads-on Add e b = refl
-  reads-on Subtract e b = refl
-  reads-on Multiply e b = refl
-  reads-on Quotient e b = refl
-  reads-on Root e b = refl
+  reads-on (Result o) e b = refl
   reads-on Unknown e b = absurd (true≢false b)
+
+made-after : {cs : List Command} {rs : List Model} (c : Command) → Made cs rs → badNames c (length rs) ≡ false
+    → Passed (operationPlaces c rs) → Made (commandsAfter c cs) (resultsAfter c rs)
+made-after edition d n f = d
+made-after {cs} {rs} (result m) d n f = one-more d m n (operation-passed m rs f)
+made-after finish d n f = d
+made-after unknown d n f = d
 
 -- command k, reached with the results rs: reading comes there with their commands cs
 record Reached (job : List ℕ) (k : ℕ) (rs : List Model) (at : ℕ) : Type 0 where
@@ -61,28 +65,22 @@ module _ {job : List ℕ} {k : ℕ} {rs : List Model} {at : ℕ} (r : Reaches jo
   no-refusal = rw (made-length (h .made))
       (first-refusal-zero reading (reading-numbered job k (length rs) at) .1 (passed-front reading (operationPlaces c rs) f))
 
-  by-reading : readOn onward (h .cs) c ≡ readingOf job
+  by-reading : readOn k onward (h .cs) c ≡ readingOf job
   unfolding readFrom
   by-reading =
       let b = reaches-bounds r in
       let e : length job + 1 - k ≡ suc (length job + 1 - (k + 1)) = omega (arith, b) in
       sym (ap (λ (f : ℕ). readFrom f job k (h .cs) at) e ∙ rw no-refusal) ∙ h .left
 
-  made-after : (t : Bool) → makesResult c ≡ t
-      → Made (cond t (h .cs ++ (c ∷ [])) (h .cs)) (cond t (rs ++ (operation c rs .model ∷ [])) rs)
-  made-after true e = one-more (h .made) c (command-readable job k rs at f .names-good) e (operation-succeeds job k rs at f)
-  made-after false e = h .made
-
   reached-next : isLast job k rs at ≡ false → Reached job (k + 1) (resultsAfter c rs) (nextAt job k (length rs) at)
   reached-next e = record {
     cs = commandsAfter c (h .cs);
-    made = made-after (makesResult c) refl;
+    made = made-after c (h .made) (command-readable job k rs at f .names-good) (command-passed job k rs at f);
     left = sym (reads-on onward (h .cs) job k at kind e (command-readable job k rs at f .kind-good)) ∙ by-reading;
   }
 
   reached-end : isLast job k rs at ≡ true → readingOf job ≡ well (h .cs)
-  unfolding commandAt
-  reached-end e = sym by-reading ∙ ap (λ (x : Kind). readOn onward (h .cs) (commandAt x job at)) (isEnd-is kind e)
+  reached-end e = sym by-reading ∙ ap (λ (x : Kind). readOn k onward (h .cs) (commandAt x job at)) (isEnd-is kind e)
 
 reached : {job : List ℕ} {k : ℕ} {rs : List Model} {at : ℕ} → Reaches job k rs at → Reached job k rs at
 unfolding readingOf

@@ -10,34 +10,26 @@ use lib.Dec.{eqb}
 use lib.IntN.{ℤ}
 use lib.ListN.{length, length-append}
 use Rattle.model.specs.declared.types.Model.{Model}
-use Rattle.job.specs.Commands.{Command, commandAt, maxResults, badKind, makesResult, isEnd}
-use Rattle.job.specs.Jobs.{operation, JobOutcome, accepted, refused, jobOf}
+use Rattle.job.specs.Makers.{operation}
+use Rattle.job.specs.Commands.{makerAt, commandAt, shapeAt, maxResults, badKind, isEnd}
+use Rattle.job.specs.Jobs.{JobOutcome, accepted, refused, jobOf}
 use Rattle.job.specs.Work.{areasFit, checkOf, Answer, answered}
 use Rattle.job.specs.Order.{resultsAfter, Reaches, start, next}
 use Rattle.job.specs.OrderLaws.{reaches-bounds, refused-exactly, accepted-exactly}
 use Rattle.job.specs.CommandLaws.{command-readable}
 use Rattle.job.specs.declared.types.Kind.{Kind}
-use Rattle.job.specs.declared.types.Kind.the-variants.{End, Edition, Load, Add, Subtract, Multiply, Quotient, Root, Unknown}
+use Rattle.job.specs.declared.types.Kind.the-variants.{End, Edition, Result, Unknown}
 
-module _ (job : List ℕ) (k at : ℕ) (rs : List Model) (h : k ≤ length rs + 1) where
-  one-more : (c : Command) → makesResult c ≡ true → k + 1 ≤ length (resultsAfter c rs) + 1
-  one-more c e = rw e (omega (arith, length-append rs (operation c rs .model ∷ [])))
-
-  counted : (kind : Kind) → isEnd kind ≡ false → badKind k kind ≡ false → k + 1 ≤ length (resultsAfter (commandAt kind job at) rs) + 1
-  unfolding commandAt
-  counted End e b = absurd (true≢false e)
-  counted Edition e b = omega (arith, eqb-true k 0 (not-false (eqb k 0) b))
-  counted Load e b = one-more (commandAt Load job at) refl
-  counted Add e b = one-more (commandAt Add job at) refl
-  counted Subtract e b = one-more (commandAt Subtract job at) refl
-  counted Multiply e b = one-more (commandAt Multiply job at) refl
-  counted Quotient e b = one-more (commandAt Quotient job at) refl
-  counted Root e b = one-more (commandAt Root job at) refl
-  counted Unknown e b = absurd (true≢false b)
+counted : (job : List ℕ) (k at : ℕ) (rs : List Model) → k ≤ length rs + 1 → (kind : Kind) → isEnd kind ≡ false → badKind k kind ≡ false
+    → k + 1 ≤ length (resultsAfter (commandAt kind job at) rs) + 1
+counted job k at rs h End e b = absurd (true≢false e)
+counted job k at rs h Edition e b = omega (arith, eqb-true k 0 (not-false (eqb k 0) b))
+counted job k at rs h (Result o) e b = omega (arith, length-append rs (operation (makerAt o job at) rs .model ∷ []))
+counted job k at rs h Unknown e b = absurd (true≢false b)
 
 reaches-number : {job : List ℕ} {k : ℕ} {rs : List Model} {at : ℕ} → Reaches job k rs at → k ≤ length rs + 1
 reaches-number start = omega arith
-reaches-number {job} (next {k} {rs} {at} r f e) = counted job k at rs (reaches-number r) _ e (command-readable job k rs at f .kind-good)
+reaches-number {job} (next {k} {rs} {at} r f e) = counted job k at rs (reaches-number r) (shapeAt job k (length rs) at .kind) e (command-readable job k rs at f .kind-good)
 
 pub record Small (a : Answer) : Type 0 where
   pub results : a .count ≤ maxResults

@@ -13,39 +13,32 @@ use Rattle.model.specs.Operations.{addition, subtraction, multiplication}
 use Rattle.model.specs.RefusalLaws.{Passed, Numbered, first-refusal-zero}
 use Rattle.certificate.specs.Tests.{tested, quotientOf, rootPlaces, rootOf}
 use Rattle.model.specs.declared.types.Model.{Model}
-use Rattle.job.specs.Commands.{Command, edition, load, add, subtract, multiply, quotient, root, finish, commandAt, shapeAt, commandRead, nextAt, maxResults, badKind, badValues, badNames, makesResult, isEnd, readingPlaces, readingNumber}
-use Rattle.job.specs.Jobs.{operation, operationPlaces, more, over, no, resulting, performed, command}
+use Rattle.job.specs.Makers.{Maker, load, add, subtract, multiply, quotient, root, operation, makerPlaces}
+use Rattle.job.specs.Commands.{Command, edition, result, finish, unknown, makerAt, commandAt, shapeAt, commandRead, nextAt, maxResults, badKind, badValues, badNames, makesResult, isEnd, readingPlaces, readingNumber}
+use Rattle.job.specs.Jobs.{operationPlaces, more, over, no, resulting, performed, command}
 use Rattle.job.specs.Places.{First, first-is, first-positive, passed-front, passed-back, first-parts}
 use Rattle.job.specs.Order.{resultsAfter, placesOf, isLast}
 use Rattle.job.specs.declared.types.Kind.{Kind}
-use Rattle.job.specs.declared.types.Kind.the-variants.{End, Edition, Load, Add, Subtract, Multiply, Quotient, Root, Unknown}
+use Rattle.job.specs.declared.types.Kind.the-variants.{End, Edition, Result, Unknown}
 
--- ---- the places of the operations
+-- ---- the places of the makers
 
-operation-number : (c : Command) (rs : List Model) → operation c rs .number ≡ firstRefusal (operationPlaces c rs)
-unfolding operation operationPlaces outcome addition subtraction multiplication quotientOf rootOf tested
-operation-number edition rs = refl
-operation-number (load m) rs = refl
-operation-number (add i j) rs = refl
-operation-number (subtract i j) rs = refl
-operation-number (multiply i j d) rs = refl
-operation-number (quotient i j h w) rs = refl
-operation-number (root i h w) rs = refl
-operation-number finish rs = refl
+-- a maker's number is that of the first of its places that holds, and no place has the number 0
+record Lawful (m : Maker) (rs : List Model) : Type 0 where
+  number-is : operation m rs .number ≡ firstRefusal (makerPlaces m rs)
+  numbered : Numbered (makerPlaces m rs)
 
-operation-numbered : (c : Command) (rs : List Model) → Numbered (operationPlaces c rs)
-unfolding operationPlaces rootPlaces
-operation-numbered edition rs = tt
-operation-numbered (load m) rs = omega arith
-operation-numbered (add i j) rs = omega arith
-operation-numbered (subtract i j) rs = omega arith
-operation-numbered (multiply i j d) rs = omega arith
-operation-numbered (quotient i j h w) rs = omega arith
-operation-numbered (root i h w) rs = omega arith
-operation-numbered finish rs = tt
+lawful : (m : Maker) (rs : List Model) → Lawful m rs
+unfolding operation makerPlaces outcome addition subtraction multiplication quotientOf rootOf tested rootPlaces
+lawful (load m) rs = record { number-is = refl; numbered = omega arith }
+lawful (add i j) rs = record { number-is = refl; numbered = omega arith }
+lawful (subtract i j) rs = record { number-is = refl; numbered = omega arith }
+lawful (multiply i j d) rs = record { number-is = refl; numbered = omega arith }
+lawful (quotient i j h w) rs = record { number-is = refl; numbered = omega arith }
+lawful (root i h w) rs = record { number-is = refl; numbered = omega arith }
 
-operation-passed : (c : Command) (rs : List Model) → Passed (operationPlaces c rs) → operation c rs .number ≡ 0
-operation-passed c rs f = operation-number c rs ∙ first-refusal-zero (operationPlaces c rs) (operation-numbered c rs) .1 f
+pub operation-passed : (m : Maker) (rs : List Model) → Passed (makerPlaces m rs) → operation m rs .number ≡ 0
+operation-passed m rs f = lawful m rs .number-is ∙ first-refusal-zero (makerPlaces m rs) (lawful m rs .numbered) .1 f
 
 pub reading-numbered : (job : List ℕ) (k count at : ℕ) → Numbered (readingPlaces job k count at)
 unfolding readingPlaces
@@ -65,9 +58,9 @@ pub record Readable (job : List ℕ) (k count at : ℕ) : Type 0 where
   pub inside : at < length job
   pub kind-good : badKind k (shapeAt job k count at .kind) ≡ false
   pub room : nextAt job k count at ≤ length job
-  pub values-good : badValues (shapeAt job k count at .kind) job at ≡ false
+  pub values-good : badValues (shapeAt job k count at .values) job at ≡ false
   pub names-good : badNames (commandRead job k count at) count ≡ false
-  pub space : (makesResult (commandRead job k count at) && leb maxResults count) ≡ false
+  pub space : (makesResult (shapeAt job k count at .kind) && leb maxResults count) ≡ false
 
 pub readable : (job : List ℕ) (k count at : ℕ) → Passed (readingPlaces job k count at) → Readable job k count at
 unfolding readingPlaces
@@ -85,12 +78,7 @@ readable job k count at f = record {
 pub isEnd-is : (kind : Kind) → isEnd kind ≡ true → kind ≡ End
 isEnd-is End e = refl
 isEnd-is Edition e = absurd (false≢true e)
-isEnd-is Load e = absurd (false≢true e)
-isEnd-is Add e = absurd (false≢true e)
-isEnd-is Subtract e = absurd (false≢true e)
-isEnd-is Multiply e = absurd (false≢true e)
-isEnd-is Quotient e = absurd (false≢true e)
-isEnd-is Root e = absurd (false≢true e)
+isEnd-is (Result o) e = absurd (false≢true e)
 isEnd-is Unknown e = absurd (false≢true e)
 
 pub resulting-refuses : (rs : List Model) (next n : ℕ) (o : Outcome) → o .number ≡ n → 0 < n → resulting rs next o ≡ no n
@@ -102,45 +90,26 @@ resulting-takes rs next o e = rw e
 
 -- a place of the operation that holds: a refusal
 module _ (rs : List Model) (next n : ℕ) where
-  refused-by : (c : Command) → First (operationPlaces c rs) n → resulting rs next (operation c rs) ≡ no n
-  refused-by c f =
-      resulting-refuses rs next n (operation c rs) (operation-number c rs ∙ first-is f)
-      (first-positive (operation-numbered c rs) f)
-
   nowhere : First [] n → ⊥
   unfolding firstRefusal
   nowhere f = omega (arith, first-positive tt f, first-is f)
 
   performed-refuses : (c : Command) → First (operationPlaces c rs) n → performed c rs next ≡ no n
-  unfolding operationPlaces
   performed-refuses edition f = absurd (nowhere f)
-  performed-refuses (load m) f = refused-by (load m) f
-  performed-refuses (add i j) f = refused-by (add i j) f
-  performed-refuses (subtract i j) f = refused-by (subtract i j) f
-  performed-refuses (multiply i j d) f = refused-by (multiply i j d) f
-  performed-refuses (quotient i j h w) f = refused-by (quotient i j h w) f
-  performed-refuses (root i h w) f = refused-by (root i h w) f
+  performed-refuses (result m) f =
+      resulting-refuses rs next n (operation m rs) (lawful m rs .number-is ∙ first-is f) (first-positive (lawful m rs .numbered) f)
   performed-refuses finish f = absurd (nowhere f)
+  performed-refuses unknown f = absurd (nowhere f)
 
 -- all places of the operation passed: one more result
-module _ (job : List ℕ) (k at : ℕ) (rs : List Model) (next : ℕ) where
-  taken-by : (c : Command) → Passed (operationPlaces c rs)
-      → resulting rs next (operation c rs) ≡ more (rs ++ (operation c rs .model ∷ [])) next
-  taken-by c f = resulting-takes rs next (operation c rs) (operation-passed c rs f)
-
-  performed-takes : (kind : Kind) → isEnd kind ≡ false → badKind k kind ≡ false
-      → Passed (operationPlaces (commandAt kind job at) rs)
-      → performed (commandAt kind job at) rs next ≡ more (resultsAfter (commandAt kind job at) rs) next
-  unfolding commandAt
-  performed-takes End e b f = absurd (true≢false e)
-  performed-takes Edition e b f = refl
-  performed-takes Load e b f = taken-by (commandAt Load job at) f
-  performed-takes Add e b f = taken-by (commandAt Add job at) f
-  performed-takes Subtract e b f = taken-by (commandAt Subtract job at) f
-  performed-takes Multiply e b f = taken-by (commandAt Multiply job at) f
-  performed-takes Quotient e b f = taken-by (commandAt Quotient job at) f
-  performed-takes Root e b f = taken-by (commandAt Root job at) f
-  performed-takes Unknown e b f = absurd (true≢false b)
+performed-takes : (job : List ℕ) (k at : ℕ) (rs : List Model) (next : ℕ) (kind : Kind) → isEnd kind ≡ false → badKind k kind ≡ false
+    → Passed (operationPlaces (commandAt kind job at) rs)
+    → performed (commandAt kind job at) rs next ≡ more (resultsAfter (commandAt kind job at) rs) next
+performed-takes job k at rs next End e b f = absurd (true≢false e)
+performed-takes job k at rs next Edition e b f = refl
+performed-takes job k at rs next (Result o) e b f =
+    resulting-takes rs next (operation (makerAt o job at) rs) (operation-passed (makerAt o job at) rs f)
+performed-takes job k at rs next Unknown e b f = absurd (true≢false b)
 
 -- ---- command k at a position, after the results rs
 
@@ -173,7 +142,7 @@ module _ (job : List ℕ) (k : ℕ) (rs : List Model) (at : ℕ) where
       by (inr g) = reads (g .0) ∙ performed-refuses rs (nextAt job k (length rs) at) n c (g .1)
 
   pub command-ends : Passed (placesOf job k rs at) → isLast job k rs at ≡ true → command job k rs at ≡ over
-  unfolding placesOf commandAt
+  unfolding placesOf
   command-ends f e =
       reads (passed-front reading (operationPlaces c rs) f)
       ∙ ap (λ (x : Kind). performed (commandAt x job at) rs (nextAt job k (length rs) at)) (isEnd-is kind e)
@@ -186,6 +155,7 @@ module _ (job : List ℕ) (k : ℕ) (rs : List Model) (at : ℕ) where
       ∙ performed-takes job k at rs (nextAt job k (length rs) at) kind e (command-readable f .kind-good)
       (passed-back reading (operationPlaces c rs) f)
 
-  pub operation-succeeds : Passed (placesOf job k rs at) → operation c rs .number ≡ 0
+  -- the places of its operation alone
+  pub command-passed : Passed (placesOf job k rs at) → Passed (operationPlaces c rs)
   unfolding placesOf
-  operation-succeeds f = operation-passed c rs (passed-back reading (operationPlaces c rs) f)
+  command-passed f = passed-back reading (operationPlaces c rs) f

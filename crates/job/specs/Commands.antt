@@ -5,10 +5,16 @@ use Prim.Native.Nat.{ℕ, _+_}
 use lib.Dec.{leb, ltb, eqb}
 use lib.ListN.{length}
 use Rattle.model.specs.Models.{maxDegree, numberOf, firstRefusal}
-use Rattle.model.specs.declared.types.Model.{Model}
 use Rattle.job.specs.Bytes.{byteAt, unsignedAt, blockAt}
+use Rattle.job.specs.Makers.{Maker, load, add, subtract, multiply, quotient, root, namesBad}
+use Rattle.job.specs.declared.types.Operation.{Operation}
+use Rattle.job.specs.declared.types.Operation.the-variants.{Load, Add, Subtract, Multiply, Quotient, Root}
 use Rattle.job.specs.declared.types.Kind.{Kind}
-use Rattle.job.specs.declared.types.Kind.the-variants.{End, Edition, Load, Add, Subtract, Multiply, Quotient, Root, Unknown}
+use Rattle.job.specs.declared.types.Kind.the-variants.{End, Edition, Result, Unknown}
+use Rattle.job.specs.declared.types.Names.{Names}
+use Rattle.job.specs.declared.types.Names.the-variants.{Nothing, One, Two}
+use Rattle.job.specs.declared.types.Values.{Values}
+use Rattle.job.specs.declared.types.Values.the-variants.{Any, EditionOne, KeptDegree}
 use Rattle.job.specs.declared.types.Shape.{Shape}
 use Rattle.job.specs.declared.types.Read.{Read}
 use Rattle.job.specs.declared.types.Read.the-variants.{Command as CommandRead, Refused}
@@ -17,59 +23,77 @@ use Rattle.job.specs.declared.types.Read.the-variants.{Command as Comman
 abbrev pub maxResults : ℕ
 maxResults = 32
 
--- 01's table of commands: the byte of each; every other byte is unknown
-abbrev pub kindOf : ℕ → Kind
-kindOf b =
-    cond (eqb b 0x00) End
-    (cond (eqb b 0x01) Edition
-    (cond (eqb b 0x10) Load
-    (cond (eqb b 0x11) Add
-    (cond (eqb b 0x12) Subtract
-    (cond (eqb b 0x13) Multiply
-    (cond (eqb b 0x20) Quotient
-    (cond (eqb b 0x21) Root Unknown)))))))
+-- 01's table of commands: the byte of each
+abbrev pub commandBytes : List (ℕ × Kind)
+commandBytes =
+    (0x00, End)
+    ∷ (0x01, Edition)
+    ∷ (0x10, Result Load)
+    ∷ (0x11, Result Add)
+    ∷ (0x12, Result Subtract)
+    ∷ (0x13, Result Multiply)
+    ∷ (0x20, Result Quotient)
+    ∷ (0x21, Result Root)
+    ∷ []
 
--- the width of a kind's operands
-abbrev pub widthOf : Kind → ℕ
-widthOf End = 0
-widthOf Edition = 1
-widthOf Load = 137
-widthOf Add = 2
-widthOf Subtract = 2
-widthOf Multiply = 3
-widthOf Quotient = 268
-widthOf Root = 267
-widthOf Unknown = 0
+-- every other byte is unknown
+abbrev pub kindIn : List (ℕ × Kind) → ℕ → Kind
+kindIn [] b = Unknown
+kindIn (r ∷ rs) b = cond (eqb b (r .0)) (r .1) (kindIn rs b)
+
+-- the operands of a command: their width, which of their bytes name results, and which values are asked of them
+pub record Layout : Type 0 where
+  pub width : ℕ
+  pub names : Names
+  pub values : Values
+
+abbrev pub operandsOf : Operation → Layout
+operandsOf Load = record { width = 137; names = Nothing; values = Any }
+operandsOf Add = record { width = 2; names = Two; values = Any }
+operandsOf Subtract = record { width = 2; names = Two; values = Any }
+operandsOf Multiply = record { width = 3; names = Two; values = KeptDegree }
+operandsOf Quotient = record { width = 268; names = Two; values = Any }
+operandsOf Root = record { width = 267; names = One; values = Any }
+
+abbrev pub layoutOf : Kind → Layout
+layoutOf End = record { width = 0; names = Nothing; values = Any }
+layoutOf Edition = record { width = 1; names = Nothing; values = EditionOne }
+layoutOf (Result o) = operandsOf o
+layoutOf Unknown = record { width = 0; names = Nothing; values = Any }
 
 -- "The command byte decides the operand width and the operation"
-abbrev pub shapeOf : ℕ → Shape
-shapeOf b = record { kind = kindOf b; width = widthOf (kindOf b) }
+abbrev pub shapeWith : Kind → Shape
+shapeWith kind = record { kind = kind; width = layoutOf kind .width; names = layoutOf kind .names; values = layoutOf kind .values }
 
--- a command with its operands; a kept degree 0xFF is read as 32, a candidate as a model with radius 0
+abbrev pub shapeOf : ℕ → Shape
+shapeOf b = shapeWith (kindIn commandBytes b)
+
+-- a command with its operands
 pub data Command : Type 0 where
   edition : Command
-  load : Model → Command
-  add subtract : ℕ → ℕ → Command
-  multiply : ℕ → ℕ → ℕ → Command
-  quotient : ℕ → ℕ → Model → Model → Command
-  root : ℕ → Model → Model → Command
+  result : Maker → Command
   finish : Command
+  unknown : Command
 
 -- "0xFF means 32"
 abbrev pub keptByte : ℕ → ℕ
 keptByte d = cond (eqb d 0xFF) maxDegree d
 
+-- the operands of an operation, the command's byte standing at a position
+unfoldable pub makerAt : Operation → List ℕ → ℕ → Maker
+makerAt Load job at = load (blockAt job (at + 1) (unsignedAt job (at + 134)))
+makerAt Add job at = add (byteAt job (at + 1)) (byteAt job (at + 2))
+makerAt Subtract job at = subtract (byteAt job (at + 1)) (byteAt job (at + 2))
+makerAt Multiply job at = multiply (byteAt job (at + 1)) (byteAt job (at + 2)) (keptByte (byteAt job (at + 3)))
+makerAt Quotient job at = quotient (byteAt job (at + 1)) (byteAt job (at + 2)) (blockAt job (at + 3) 0) (blockAt job (at + 136) 0)
+makerAt Root job at = root (byteAt job (at + 1)) (blockAt job (at + 2) 0) (blockAt job (at + 135) 0)
+
 -- the command of a kind whose byte stands at a position
-unfoldable pub commandAt : Kind → List ℕ → ℕ → Command
+abbrev pub commandAt : Kind → List ℕ → ℕ → Command
 commandAt End job at = finish
 commandAt Edition job at = edition
-commandAt Load job at = load (blockAt job (at + 1) (unsignedAt job (at + 134)))
-commandAt Add job at = add (byteAt job (at + 1)) (byteAt job (at + 2))
-commandAt Subtract job at = subtract (byteAt job (at + 1)) (byteAt job (at + 2))
-commandAt Multiply job at = multiply (byteAt job (at + 1)) (byteAt job (at + 2)) (keptByte (byteAt job (at + 3)))
-commandAt Quotient job at = quotient (byteAt job (at + 1)) (byteAt job (at + 2)) (blockAt job (at + 3) 0) (blockAt job (at + 136) 0)
-commandAt Root job at = root (byteAt job (at + 1)) (blockAt job (at + 2) 0) (blockAt job (at + 135) 0)
-commandAt Unknown job at = finish
+commandAt (Result o) job at = result (makerAt o job at)
+commandAt Unknown job at = unknown
 
 -- ---- the conditions of the places of reading
 
@@ -77,57 +101,50 @@ commandAt Unknown job at = finish
 abbrev pub badKind : ℕ → Kind → Bool
 badKind k End = eqb k 0
 badKind k Edition = not (eqb k 0)
-badKind k Load = eqb k 0
-badKind k Add = eqb k 0
-badKind k Subtract = eqb k 0
-badKind k Multiply = eqb k 0
-badKind k Quotient = eqb k 0
-badKind k Root = eqb k 0
+badKind k (Result o) = eqb k 0
 badKind k Unknown = true
 
 -- "operand values: 9, edition not 1; d from 33 to 254"
-abbrev pub badValues : Kind → List ℕ → ℕ → Bool
-badValues Edition job at = not (eqb (byteAt job (at + 1)) 1)
-badValues Multiply job at = ltb maxDegree (keptByte (byteAt job (at + 3)))
-badValues End job at = false
-badValues Load job at = false
-badValues Add job at = false
-badValues Subtract job at = false
-badValues Quotient job at = false
-badValues Root job at = false
-badValues Unknown job at = false
+abbrev pub badValues : Values → List ℕ → ℕ → Bool
+badValues Any job at = false
+badValues EditionOne job at = not (eqb (byteAt job (at + 1)) 1)
+badValues KeptDegree job at = ltb maxDegree (keptByte (byteAt job (at + 3)))
 
 -- "result bytes: 12, not yet a result"
 abbrev pub badNames : Command → ℕ → Bool
 badNames edition count = false
-badNames (load m) count = false
-badNames (add i j) count = leb count i || leb count j
-badNames (subtract i j) count = leb count i || leb count j
-badNames (multiply i j d) count = leb count i || leb count j
-badNames (quotient i j h w) count = leb count i || leb count j
-badNames (root i h w) count = leb count i
+badNames (result m) count = namesBad m count
 badNames finish count = false
+badNames unknown count = false
+
+-- the same, of the first bytes after a command's byte
+abbrev pub badBytes : Names → List ℕ → ℕ → ℕ → Bool
+badBytes Nothing job at count = false
+badBytes One job at count = leb count (byteAt job (at + 1))
+badBytes Two job at count = leb count (byteAt job (at + 1)) || leb count (byteAt job (at + 2))
+
+-- the bytes after a command's byte among which those that name results, and those whose values are asked, stand
+abbrev pub nameBytes : Names → ℕ
+nameBytes Nothing = 0
+nameBytes One = 1
+nameBytes Two = 2
+
+abbrev pub valueBytes : Values → ℕ
+valueBytes Any = 0
+valueBytes EditionOne = 1
+valueBytes KeptDegree = 3
 
 -- the commands that make a result
-abbrev pub makesResult : Command → Bool
-makesResult edition = false
-makesResult (load m) = true
-makesResult (add i j) = true
-makesResult (subtract i j) = true
-makesResult (multiply i j d) = true
-makesResult (quotient i j h w) = true
-makesResult (root i h w) = true
-makesResult finish = false
+abbrev pub makesResult : Kind → Bool
+makesResult End = false
+makesResult Edition = false
+makesResult (Result o) = true
+makesResult Unknown = false
 
 abbrev pub isEnd : Kind → Bool
 isEnd End = true
 isEnd Edition = false
-isEnd Load = false
-isEnd Add = false
-isEnd Subtract = false
-isEnd Multiply = false
-isEnd Quotient = false
-isEnd Root = false
+isEnd (Result o) = false
 isEnd Unknown = false
 
 -- ---- reading command k at a position, with so many results before it
@@ -149,9 +166,9 @@ module _ (job : List ℕ) (k count at : ℕ) where
       (leb (length job) at, 10)
       ∷ (badKind k (shapeAt .kind), 9)
       ∷ (ltb (length job) nextAt, 10)
-      ∷ (badValues (shapeAt .kind) job at, 9)
+      ∷ (badValues (shapeAt .values) job at, 9)
       ∷ (badNames commandRead count, 12)
-      ∷ (makesResult commandRead && leb maxResults count, 13)
+      ∷ (makesResult (shapeAt .kind) && leb maxResults count, 13)
       ∷ (isEnd (shapeAt .kind) && ltb nextAt (length job), 11)
       ∷ []
 

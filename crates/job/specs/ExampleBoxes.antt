@@ -23,7 +23,8 @@ use Rattle.model.specs.Values.{position, AllowsAt, Allows}
 use Rattle.model.specs.ValueLaws.{valueAt, valueAt-append-zeros}
 use Rattle.model.specs.declared.types.Model.{Model}
 use Rattle.job.specs.Bytes.{signedsAt}
-use Rattle.job.specs.Commands.{Command, load, add, subtract, multiply, quotient, root, commandAt, readingPlaces, readingNumber}
+use Rattle.job.specs.Makers.{load, add, subtract, multiply, quotient, root}
+use Rattle.job.specs.Commands.{Command, result, makerAt, readingPlaces, readingNumber}
 use Rattle.job.specs.Reading.{readFrom, readingOf, commandsOf, commandOf}
 use Rattle.job.specs.Boxes.{Box, Lies, Permitted, load-box, add-box, subtract-box, multiply-box, quotient-box, root-box}
 use Rattle.job.specs.ExampleJob.{exampleJob}
@@ -64,16 +65,16 @@ cs = commandsOf exampleJob
 
 abbrev Commands : Type 0
 Commands =
-    (commandOf cs 0 ≡ load (constantOf 4194304))
-    × ((commandOf cs 1 ≡ load (linearOf 1048576))
-    × ((commandOf cs 2 ≡ add 0 1)
-    × ((commandOf cs 3 ≡ subtract 2 1)
-    × ((commandOf cs 4 ≡ multiply 3 1 2)
-    × ((commandOf cs 5 ≡ quotient 3 0 (constantOf 1048576) (constantOf 262144))
-    × (commandOf cs 6 ≡ root 3 (constantOf 2097152) (constantOf 262144)))))))
+    (commandOf cs 0 ≡ result (load (constantOf 4194304)))
+    × ((commandOf cs 1 ≡ result (load (linearOf 1048576)))
+    × ((commandOf cs 2 ≡ result (add 0 1))
+    × ((commandOf cs 3 ≡ result (subtract 2 1))
+    × ((commandOf cs 4 ≡ result (multiply 3 1 2))
+    × ((commandOf cs 5 ≡ result (quotient 3 0 (constantOf 1048576) (constantOf 262144)))
+    × (commandOf cs 6 ≡ result (root 3 (constantOf 2097152) (constantOf 262144))))))))
 
 commands : Commands
-unfolding readingOf readFrom readingNumber readingPlaces firstRefusal commandAt signedsAt
+unfolding readingOf readFrom readingNumber readingPlaces firstRefusal makerAt signedsAt
 commands = (refl, (refl, (refl, (refl, (refl, (refl, refl))))))
 
 -- ---- what the loads allow

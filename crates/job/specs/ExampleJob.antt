@@ -11,8 +11,9 @@ use Rattle.model.specs.Models.{firstRefusal, outcome, good, tooLarge, zeroModel
 use Rattle.model.specs.Operations.{addition, subtraction, multiplication, sumModel, differenceModel, productModel, productList, productLoss, rounded, roundingLoss}
 use Rattle.certificate.specs.Tests.{tested, quotientOf, rootOf, rootPlaces, quotientContraction, quotientResidual, quotientModel, rootContraction, rootResidual, rootModel, displacement}
 use Rattle.job.specs.Bytes.{signedsAt}
-use Rattle.job.specs.Commands.{commandAt, readingPlaces, readingNumber}
-use Rattle.job.specs.Jobs.{operation, command, run, jobOf, JobOutcome, accepted, refused}
+use Rattle.job.specs.Makers.{operation}
+use Rattle.job.specs.Commands.{makerAt, readingPlaces, readingNumber}
+use Rattle.job.specs.Jobs.{command, run, jobOf, JobOutcome, accepted, refused}
 
 -- a natural number as four bytes, the lowest first
 abbrev word : ℕ → List ℕ
@@ -41,5 +42,5 @@ count (accepted rs) = length rs
 count (refused n k) = 1000 + n
 
 example-count : count (jobOf exampleJob) ≡ 7
-unfolding jobOf run command operation readingNumber readingPlaces commandAt signedsAt tested quotientOf rootOf rootPlaces quotientContraction quotientResidual quotientModel rootContraction rootResidual rootModel displacement coefficientSum addition subtraction multiplication sumModel differenceModel productModel productList productLoss rounded roundingLoss firstRefusal outcome good tooLarge zeroModel weight addLists subtractLists scaleList addAt addPair addRow addRows product upℕ near floor
+unfolding jobOf run command operation readingNumber readingPlaces makerAt signedsAt tested quotientOf rootOf rootPlaces quotientContraction quotientResidual quotientModel rootContraction rootResidual rootModel displacement coefficientSum addition subtraction multiplication sumModel differenceModel productModel productList productLoss rounded roundingLoss firstRefusal outcome good tooLarge zeroModel weight addLists subtractLists scaleList addAt addPair addRow addRows product upℕ near floor
 example-count = refl

@@ -1,44 +1,20 @@
 -- The meaning of a command and of a whole job.
-use mathlib.Core.Bool.{Bool, not, cond}
+use mathlib.Core.Bool.{Bool, cond}
 use mathlib.Core.List.{List, [], _∷_, _++_}
 use Prim.Native.Nat.{ℕ, zero, suc, _+_}
 use lib.Dec.{eqb}
-use lib.ListN.{length, getD}
-use Rattle.model.specs.Models.{good, zeroModel, Outcome, outcome}
-use Rattle.model.specs.Operations.{additionPlaces, addition, subtractionPlaces, subtraction, multiplicationPlaces, multiplication}
-use Rattle.certificate.specs.Tests.{scratchPlaces, Test, quotientPlaces, quotientOf, rootTestPlaces, rootOf}
+use lib.ListN.{length}
+use Rattle.model.specs.Models.{Outcome}
 use Rattle.model.specs.declared.types.Model.{Model}
-use Rattle.job.specs.Commands.{Command, edition, load, add, subtract, multiply, quotient, root, finish, readingNumber, commandRead, nextAt}
-
--- result i
-abbrev pub resultAt : List Model → ℕ → Model
-resultAt rs i = getD rs i zeroModel
-
-abbrev pub fromTest : Test → Outcome
-fromTest t = record { number = t .number; model = t .model }
-
--- "each of its results is exactly the loaded model, or what the operation or test of its command gives for the results, d
--- and blocks it names"
-unfoldable pub operation : Command → List Model → Outcome
-operation edition rs = outcome [] zeroModel
-operation (load m) rs = outcome ((not (good m), 2) ∷ []) m
-operation (add i j) rs = addition (resultAt rs i) (resultAt rs j)
-operation (subtract i j) rs = subtraction (resultAt rs i) (resultAt rs j)
-operation (multiply i j d) rs = multiplication d (resultAt rs i) (resultAt rs j)
-operation (quotient i j h w) rs = fromTest (quotientOf scratchPlaces (resultAt rs i) (resultAt rs j) h w)
-operation (root i h w) rs = fromTest (rootOf scratchPlaces (resultAt rs i) h w)
-operation finish rs = outcome [] zeroModel
+use Rattle.job.specs.Makers.{operation, makerPlaces}
+use Rattle.job.specs.Commands.{Command, edition, result, finish, unknown, readingNumber, commandRead, nextAt}
 
 -- the places that a command's operation passes through
-unfoldable pub operationPlaces : Command → List Model → List (Bool × ℕ)
+abbrev pub operationPlaces : Command → List Model → List (Bool × ℕ)
 operationPlaces edition rs = []
-operationPlaces (load m) rs = (not (good m), 2) ∷ []
-operationPlaces (add i j) rs = additionPlaces (resultAt rs i) (resultAt rs j)
-operationPlaces (subtract i j) rs = subtractionPlaces (resultAt rs i) (resultAt rs j)
-operationPlaces (multiply i j d) rs = multiplicationPlaces d (resultAt rs i) (resultAt rs j)
-operationPlaces (quotient i j h w) rs = quotientPlaces scratchPlaces (resultAt rs i) (resultAt rs j) h w
-operationPlaces (root i h w) rs = rootTestPlaces scratchPlaces (resultAt rs i) h w
+operationPlaces (result m) rs = makerPlaces m rs
 operationPlaces finish rs = []
+operationPlaces unknown rs = []
 
 -- what a command does: the results then, and the next position; the end of the job; a refusal
 pub data Step : Type 0 where
@@ -50,15 +26,12 @@ pub data Step : Type 0 where
 abbrev pub resulting : List Model → ℕ → Outcome → Step
 resulting rs next o = cond (eqb (o .number) 0) (more (rs ++ (o .model ∷ [])) next) (no (o .number))
 
+-- an unknown command is no end: reading refuses it, and so does this
 abbrev pub performed : Command → List Model → ℕ → Step
 performed edition rs next = more rs next
-performed (load m) rs next = resulting rs next (operation (load m) rs)
-performed (add i j) rs next = resulting rs next (operation (add i j) rs)
-performed (subtract i j) rs next = resulting rs next (operation (subtract i j) rs)
-performed (multiply i j d) rs next = resulting rs next (operation (multiply i j d) rs)
-performed (quotient i j h w) rs next = resulting rs next (operation (quotient i j h w) rs)
-performed (root i h w) rs next = resulting rs next (operation (root i h w) rs)
+performed (result m) rs next = resulting rs next (operation m rs)
 performed finish rs next = over
+performed unknown rs next = no 9
 
 -- command k at a position, after the results rs: its reading, then its operation
 unfoldable pub command : List ℕ → ℕ → List Model → ℕ → Step

@@ -1,4 +1,5 @@
 pub mod Bytes
+pub mod Makers
 pub mod Commands
 pub mod Jobs
 pub mod Reading

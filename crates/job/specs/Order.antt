@@ -1,19 +1,23 @@
 -- The order of 01's table over a whole job: "A job is checked command by command, each passing through the places below in
 -- turn before the next is read."
 use mathlib.Core.Path.{_≡_}
-use mathlib.Core.Bool.{Bool, true, false, cond}
+use mathlib.Core.Bool.{Bool, true, false}
 use mathlib.Core.List.{List, [], _∷_, _++_}
 use Prim.Native.Nat.{ℕ, _+_}
 use lib.ListN.{length}
 use Rattle.model.specs.RefusalLaws.{Passed}
 use Rattle.model.specs.declared.types.Model.{Model}
-use Rattle.job.specs.Commands.{Command, shapeAt, commandRead, nextAt, makesResult, isEnd, readingPlaces}
-use Rattle.job.specs.Jobs.{operation, operationPlaces}
+use Rattle.job.specs.Commands.{Command, edition, result, finish, unknown, shapeAt, commandRead, nextAt, isEnd, readingPlaces}
+use Rattle.job.specs.Makers.{operation}
+use Rattle.job.specs.Jobs.{operationPlaces}
 use Rattle.job.specs.Places.{First}
 
 -- the results after a command
 abbrev pub resultsAfter : Command → List Model → List Model
-resultsAfter c rs = cond (makesResult c) (rs ++ (operation c rs .model ∷ [])) rs
+resultsAfter edition rs = rs
+resultsAfter (result m) rs = rs ++ (operation m rs .model ∷ [])
+resultsAfter finish rs = rs
+resultsAfter unknown rs = rs
 
 -- command k at a position, after the results rs
 module _ (job : List ℕ) (k : ℕ) (rs : List Model) (at : ℕ) where

@@ -1,8 +1,8 @@
 -- What the order means: a job is refused with (n, k) exactly if that is the first place, in 01's order, whose condition
 -- holds; it is accepted exactly if it meets none.
 use mathlib.Core.Path.{_≡_, refl, ap, sym, subst, subst₂, _∙_}
-use mathlib.Core.Bool.{Bool, true, false, _&&_, cond}
-use mathlib.Core.List.{List, [], _∷_, _++_}
+use mathlib.Core.Bool.{Bool, true, false, _&&_}
+use mathlib.Core.List.{List, [], _∷_}
 use mathlib.Core.Logic.{_⊎_, inl, inr, _↔_}
 use Prim.Native.Nat.{ℕ, zero, suc, _+_, _-_, _≤_, _<_}
 use native.Mathlib.Omega.{arith}
@@ -12,22 +12,24 @@ use lib.ListN.{length, length-append}
 use Rattle.model.specs.Models.{firstRefusal}
 use Rattle.model.specs.RefusalLaws.{Passed}
 use Rattle.model.specs.declared.types.Model.{Model}
-use Rattle.job.specs.Commands.{Command, commandRead, nextAt, maxResults, makesResult}
-use Rattle.job.specs.Jobs.{operation, Step, more, over, no, command, JobOutcome, accepted, refused, onward, run, jobOf}
+use Rattle.job.specs.Makers.{operation}
+use Rattle.job.specs.Commands.{makerAt, commandAt, shapeAt, commandRead, nextAt, maxResults, makesResult}
+use Rattle.job.specs.Jobs.{Step, more, over, no, command, JobOutcome, accepted, refused, onward, run, jobOf}
 use Rattle.job.specs.Places.{First, first-or-passed}
 use Rattle.job.specs.Order.{resultsAfter, placesOf, isLast, Reaches, start, next, RefusesAt, EndsWith}
 use Rattle.job.specs.CommandLaws.{command-readable, command-refuses, command-ends, command-goes-on}
+use Rattle.job.specs.declared.types.Kind.{Kind}
+use Rattle.job.specs.declared.types.Kind.the-variants.{End, Edition, Result, Unknown}
 
 -- ---- a command that is reached
 
-few-results : (c : Command) (rs : List Model) → length rs ≤ maxResults
-    → (makesResult c && leb maxResults (length rs)) ≡ false → length (resultsAfter c rs) ≤ maxResults
-few-results c rs h e = by (makesResult c) e
-  where
-    by : (t : Bool) → (t && leb maxResults (length rs)) ≡ false
-        → length (cond t (rs ++ (operation c rs .model ∷ [])) rs) ≤ maxResults
-    by true e = omega (arith, leb-false maxResults (length rs) e, length-append rs (operation c rs .model ∷ []))
-    by false e = h
+few-results : (kind : Kind) (job : List ℕ) (at : ℕ) (rs : List Model) → length rs ≤ maxResults
+    → (makesResult kind && leb maxResults (length rs)) ≡ false → length (resultsAfter (commandAt kind job at) rs) ≤ maxResults
+few-results End job at rs h e = h
+few-results Edition job at rs h e = h
+few-results (Result o) job at rs h e =
+    omega (arith, leb-false maxResults (length rs) e, length-append rs (operation (makerAt o job at) rs .model ∷ []))
+few-results Unknown job at rs h e = h
 
 pub record InBounds (job : List ℕ) (k : ℕ) (rs : List Model) (at : ℕ) : Type 0 where
   pub number : k ≤ at
@@ -42,7 +44,7 @@ reaches-bounds {job} (next {k} {rs} {at} r f e) =
     record {
       number = omega (arith, b .number);
       position = d .room;
-      results = few-results (commandRead job k (length rs) at) rs (b .results) (d .space);
+      results = few-results (shapeAt job k (length rs) at .kind) job at rs (b .results) (d .space);
     }
 
 -- ---- what is left to run from there is the whole job

@@ -6,30 +6,26 @@ use mathlib.Core.List.{List, [], _∷_, _++_}
 use Prim.Native.Nat.{ℕ, zero, suc, _+_}
 use lib.Dec.{eqb}
 use lib.ListN.{length, getD}
-use Rattle.job.specs.Commands.{Command, edition, load, add, subtract, multiply, quotient, root, finish, readingNumber, commandRead, nextAt}
+use Rattle.job.specs.Commands.{Command, edition, result, finish, unknown, readingNumber, commandRead, nextAt}
 
 -- read to its end, with the commands of its results in the order of their numbers; or refused with a number and a command
 pub data Reading : Type 0 where
   well : List Command → Reading
   ill : ℕ → ℕ → Reading
 
--- what a command that was read leaves to read
-abbrev pub readOn : (List Command → Reading) → List Command → Command → Reading
-readOn next cs edition = next cs
-readOn next cs (load m) = next (cs ++ (load m ∷ []))
-readOn next cs (add i j) = next (cs ++ (add i j ∷ []))
-readOn next cs (subtract i j) = next (cs ++ (subtract i j ∷ []))
-readOn next cs (multiply i j d) = next (cs ++ (multiply i j d ∷ []))
-readOn next cs (quotient i j h w) = next (cs ++ (quotient i j h w ∷ []))
-readOn next cs (root i h w) = next (cs ++ (root i h w ∷ []))
-readOn next cs finish = well cs
+-- what command k, which was read, leaves to read
+abbrev pub readOn : ℕ → (List Command → Reading) → List Command → Command → Reading
+readOn k next cs edition = next cs
+readOn k next cs (result m) = next (cs ++ (result m ∷ []))
+readOn k next cs finish = well cs
+readOn k next cs unknown = ill 9 k
 
 -- from command k at a position on, the commands of the results before it being cs
 unfoldable pub readFrom : ℕ → List ℕ → ℕ → List Command → ℕ → Reading
 readFrom zero job k cs at = ill 10 k
 readFrom (suc f) job k cs at =
     cond (eqb (readingNumber job k (length cs) at) 0)
-    (readOn (λ cs′. readFrom f job (k + 1) cs′ (nextAt job k (length cs) at)) cs (commandRead job k (length cs) at))
+    (readOn k (λ cs′. readFrom f job (k + 1) cs′ (nextAt job k (length cs) at)) cs (commandRead job k (length cs) at))
     (ill (readingNumber job k (length cs) at) k)
 
 unfoldable pub readingOf : List ℕ → Reading

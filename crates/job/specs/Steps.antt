@@ -1,6 +1,6 @@
 -- One command of the code: what it answers, and what the work area holds before and after.
 use mathlib.Core.Path.{_≡_}
-use mathlib.Core.Bool.{true, false, _&&_, _||_}
+use mathlib.Core.Bool.{false, _&&_, _||_}
 use mathlib.Core.List.{List, [], _∷_, _++_}
 use Prim.Native.Nat.{ℕ, _+_, _≤_, _<_}
 use lib.Dec.{leb}
@@ -11,12 +11,14 @@ use Rattle.model.specs.Areas.{Storable}
 use Rattle.certificate.specs.Tests.{scratchPlaces, scratchAfter}
 use Rattle.model.specs.declared.types.Model.{Model}
 use Rattle.job.specs.Bytes.{byteAt}
-use Rattle.job.specs.Commands.{Command, maxResults, widthOf, commandAt, badNames, makesResult}
-use Rattle.job.specs.Jobs.{Step, more, over, no, operation}
+use Rattle.job.specs.Makers.{Maker, namesBad, operation}
+use Rattle.job.specs.Commands.{maxResults, operandsOf, layoutOf, makerAt, commandAt, badNames, makesResult}
+use Rattle.job.specs.Jobs.{Step, more, over, no}
 use Rattle.job.specs.Work.{workPlaces, workOf}
 use Rattle.job.specs.declared.types.Done.{Done}
 use Rattle.job.specs.declared.types.Done.the-variants.{More, Over, Refused}
 use Rattle.job.specs.declared.types.Kind.{Kind}
+use Rattle.job.specs.declared.types.Operation.{Operation}
 
 -- each result has its 33 coefficients
 abbrev pub Sized : List Model → Type 0
@@ -62,16 +64,15 @@ StepsBy r w w′ count f = (rs : List Model) (t : List ℤ) → Holds w count rs
 
 -- ---- the operation of a command
 
--- an outcome is what the command's operation gives for the results that a work area holds
-pub record Performs (c : Command) (w : List ℤ) (o : Outcome) : Type 0 where
+-- an outcome is what a maker gives for the results that a work area holds
+pub record Performs (m : Maker) (w : List ℤ) (o : Outcome) : Type 0 where
   pub storable : Storable (o .model)
-  pub gives : (count : ℕ) (rs : List Model) (t : List ℤ) → Holds w count rs t → badNames c count ≡ false → o ≡ operation c rs
+  pub gives : (count : ℕ) (rs : List Model) (t : List ℤ) → Holds w count rs t → namesBad m count ≡ false → o ≡ operation m rs
 
 -- a command that was read, as its operation needs it
-pub record Operable (kind : Kind) (job : List ℕ) (at : ℕ) (work : List ℤ) : Type 0 where
-  pub makes : makesResult (commandAt kind job at) ≡ true
-  pub names : badNames (commandAt kind job at) maxResults ≡ false
-  pub room : at + 1 + widthOf kind ≤ length job
+pub record Operable (op : Operation) (job : List ℕ) (at : ℕ) (work : List ℤ) : Type 0 where
+  pub names : namesBad (makerAt op job at) maxResults ≡ false
+  pub room : at + 1 + operandsOf op .width ≤ length job
   pub long : workPlaces ≤ length work
 
 -- the two bytes after a command name results, as reading them needs it
@@ -83,9 +84,9 @@ pub record NamesTwo (job : List ℕ) (at : ℕ) (work : List ℤ) : Type 0 where
 -- a command that was read, as performing it needs it
 pub record Performable (kind : Kind) (job : List ℕ) (count at : ℕ) (work : List ℤ) : Type 0 where
   pub names : badNames (commandAt kind job at) count ≡ false
-  pub space : (makesResult (commandAt kind job at) && leb maxResults count) ≡ false
+  pub space : (makesResult kind && leb maxResults count) ≡ false
   pub few : count ≤ maxResults
-  pub room : at + 1 + widthOf kind ≤ length job
+  pub room : at + 1 + layoutOf kind .width ≤ length job
   pub long : workPlaces ≤ length work
 
 -- a scratch whose 65 numbers are zero

@@ -7,14 +7,14 @@ ghost use lib.ListN.{length};
 ghost use Rattle.model.specs.Models.{outcomeOf};
 ghost use Rattle.certificate.specs.Tests.{testOf};
 ghost use Rattle.job.specs.Bytes.{byteAt};
-ghost use Rattle.job.specs.Commands.{keptByte, maxResults, commandAt};
-ghost use Rattle.job.specs.Jobs.{fromTest};
+ghost use Rattle.job.specs.Commands.{keptByte, maxResults, makerAt};
+ghost use Rattle.job.specs.Makers.{fromTest};
 ghost use Rattle.job.specs.Work.{workPlaces, stretch};
 ghost use Rattle.job.specs.Steps.{Performs, Operable, NamesTwo, Clear};
 use crate::bytes::read_candidate;
 use crate::bytes::read_model;
 use crate::bytes::read_unsigned;
-use crate::types::Kind;
+use crate::types::Operation;
 use crate::work::stretch_at;
 use certificate::types::Certified;
 use model::types::Answer;
@@ -47,7 +47,7 @@ fn read_operands(job: &[u8], at: usize, work: &[i32]) -> Operands
 
 fn load(job: &[u8], at: usize) -> Answer
     requires { ⌜ at + 138 ≤ length (now job) ⌝ }
-    ensures { λ (r : Answer). ⌜ ((w : List ℤ) → Performs (commandAt Kind.Load (now (job .entry)) at) w (outcomeOf r)) ⌝ }
+    ensures { λ (r : Answer). ⌜ ((w : List ℤ) → Performs (makerAt Operation.Load (now (job .entry)) at) w (outcomeOf r)) ⌝ }
 {
     let m = read_model(job, at + 1, read_unsigned(job, at + 134));
     if model::measure::is_good(m) {
@@ -61,16 +61,16 @@ fn load(job: &[u8], at: usize) -> Answer
 }
 
 fn add(job: &[u8], at: usize, work: &[i32]) -> Answer
-    requires { ⌜ Operable Kind.Add (now job) at (now work) ⌝ }
-    ensures { λ (r : Answer). ⌜ Performs (commandAt Kind.Add (now (job .entry)) at) (now (work .entry)) (outcomeOf r) ⌝ }
+    requires { ⌜ Operable Operation.Add (now job) at (now work) ⌝ }
+    ensures { λ (r : Answer). ⌜ Performs (makerAt Operation.Add (now (job .entry)) at) (now (work .entry)) (outcomeOf r) ⌝ }
 {
     let o = read_operands(job, at, work);
     model::add::add(o.first, o.second)
 }
 
 fn subtract(job: &[u8], at: usize, work: &[i32]) -> Answer
-    requires { ⌜ Operable Kind.Subtract (now job) at (now work) ⌝ }
-    ensures { λ (r : Answer). ⌜ Performs (commandAt Kind.Subtract (now (job .entry)) at) (now (work .entry)) (outcomeOf r) ⌝ }
+    requires { ⌜ Operable Operation.Subtract (now job) at (now work) ⌝ }
+    ensures { λ (r : Answer). ⌜ Performs (makerAt Operation.Subtract (now (job .entry)) at) (now (work .entry)) (outcomeOf r) ⌝ }
 {
     let o = read_operands(job, at, work);
     model::add::subtract(o.first, o.second)
@@ -88,8 +88,8 @@ fn kept_degree(d: u8) -> u32
 }
 
 fn multiply(job: &[u8], at: usize, work: &[i32]) -> Answer
-    requires { ⌜ Operable Kind.Multiply (now job) at (now work) ⌝ }
-    ensures { λ (r : Answer). ⌜ Performs (commandAt Kind.Multiply (now (job .entry)) at) (now (work .entry)) (outcomeOf r) ⌝ }
+    requires { ⌜ Operable Operation.Multiply (now job) at (now work) ⌝ }
+    ensures { λ (r : Answer). ⌜ Performs (makerAt Operation.Multiply (now (job .entry)) at) (now (work .entry)) (outcomeOf r) ⌝ }
 {
     let o = read_operands(job, at, work);
     let kept = kept_degree(job[at + 3]);
@@ -106,8 +106,8 @@ fn outcome(r: Certified) -> Answer
 }
 
 fn quotient(job: &[u8], at: usize, work: &[i32], scratch: &mut [i64]) -> Answer
-    requires { ⌜ Operable Kind.Quotient (now job) at (now work) × Clear (now scratch) ⌝ }
-    ensures { λ (r : Answer). ⌜ Performs (commandAt Kind.Quotient (now (job .entry)) at) (now (work .entry)) (outcomeOf r) ⌝ }
+    requires { ⌜ Operable Operation.Quotient (now job) at (now work) × Clear (now scratch) ⌝ }
+    ensures { λ (r : Answer). ⌜ Performs (makerAt Operation.Quotient (now (job .entry)) at) (now (work .entry)) (outcomeOf r) ⌝ }
     ensures { λ _. ⌜ now (scratch .exit) ≡ now (scratch .entry) ⌝ }
 {
     let o = read_operands(job, at, work);
@@ -117,8 +117,8 @@ fn quotient(job: &[u8], at: usize, work: &[i32], scratch: &mut [i64]) -> Answer
 }
 
 fn root(job: &[u8], at: usize, work: &[i32], scratch: &mut [i64]) -> Answer
-    requires { ⌜ Operable Kind.Root (now job) at (now work) × Clear (now scratch) ⌝ }
-    ensures { λ (r : Answer). ⌜ Performs (commandAt Kind.Root (now (job .entry)) at) (now (work .entry)) (outcomeOf r) ⌝ }
+    requires { ⌜ Operable Operation.Root (now job) at (now work) × Clear (now scratch) ⌝ }
+    ensures { λ (r : Answer). ⌜ Performs (makerAt Operation.Root (now (job .entry)) at) (now (work .entry)) (outcomeOf r) ⌝ }
     ensures { λ _. ⌜ now (scratch .exit) ≡ now (scratch .entry) ⌝ }
 {
     let f = named(job, at + 1, work);
@@ -129,23 +129,22 @@ fn root(job: &[u8], at: usize, work: &[i32], scratch: &mut [i64]) -> Answer
 
 // The operation of a command that makes a result.
 pub(crate) fn operate(
-    kind: Kind,
+    op: Operation,
     job: &[u8],
     at: usize,
     work: &[i32],
     scratch: &mut [i64],
 ) -> Answer
-    requires { ⌜ Operable kind (now job) at (now work) × Clear (now scratch) ⌝ }
-    ensures { λ (r : Answer). ⌜ Performs (commandAt kind (now (job .entry)) at) (now (work .entry)) (outcomeOf r) ⌝ }
+    requires { ⌜ Operable op (now job) at (now work) × Clear (now scratch) ⌝ }
+    ensures { λ (r : Answer). ⌜ Performs (makerAt op (now (job .entry)) at) (now (work .entry)) (outcomeOf r) ⌝ }
     ensures { λ _. ⌜ now (scratch .exit) ≡ now (scratch .entry) ⌝ }
 {
-    match kind {
-        Kind::Load => load(job, at),
-        Kind::Add => add(job, at, work),
-        Kind::Subtract => subtract(job, at, work),
-        Kind::Multiply => multiply(job, at, work),
-        Kind::Quotient => quotient(job, at, work, scratch),
-        Kind::Root => root(job, at, work, scratch),
-        _ => Answer::refused(Verdict::BadValue),
+    match op {
+        Operation::Load => load(job, at),
+        Operation::Add => add(job, at, work),
+        Operation::Subtract => subtract(job, at, work),
+        Operation::Multiply => multiply(job, at, work),
+        Operation::Quotient => quotient(job, at, work, scratch),
+        Operation::Root => root(job, at, work, scratch),
     }
 }

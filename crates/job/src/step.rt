@@ -49,12 +49,13 @@ fn perform(
     ensures { λ _. ⌜ now (scratch .exit) ≡ now (scratch .entry) ⌝ }
 {
     match kind {
-        Kind::End | Kind::Unknown => Done::Over,
+        Kind::End => Done::Over,
         Kind::Edition => Done::More(next, count),
-        _ => {
-            let a = operate(kind, job, at, work, scratch);
+        Kind::Result(op) => {
+            let a = operate(op, job, at, work, scratch);
             add_result(work, count, next, a)
         }
+        Kind::Unknown => Done::Refused(Verdict::BadValue),
     }
 }
 

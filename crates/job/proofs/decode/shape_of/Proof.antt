@@ -1,25 +1,14 @@
 -- `decode::shape_of` meets its contract: in an arm of one number that is the byte, in an arm of a range the byte is none of
 -- the known ones.
-use mathlib.Core.Path.{_≡_}
-use borrow.Author.Tests.{ne-eqb}
-use Rattle.job.specs.Commands.{shapeOf}
+use mathlib.Core.Path.{_≡_, ap}
+use Rattle.job.specs.Commands.{commandBytes, shapeWith, shapeOf}
 use Rattle.job.specs.declared.types.Kind.the-variants.{Unknown}
+use Rattle.job.proofs.KindLaws.{kind-unknown}
 use Rattle.job.proofs.decode.shape_of.Statement.{statement}
 use Rattle.job.proofs.decode.shape_of.Tie as tie
 
-unknown : (c : tie.At-match-rest) → record { kind = Unknown; width = 0 } ≡ shapeOf (c .before .args .b)
-unknown c =
-    let r = c .match .rest in
-    simp (
-      ne-eqb _ _ (r .0 .0 .0 .0 .0 .0 .0 .1),
-      ne-eqb _ _ (r .0 .0 .0 .0 .0 .0 .1),
-      ne-eqb _ _ (r .0 .0 .0 .0 .0 .1),
-      ne-eqb _ _ (r .0 .0 .0 .0 .1),
-      ne-eqb _ _ (r .0 .0 .0 .1),
-      ne-eqb _ _ (r .0 .0 .1),
-      ne-eqb _ _ (r .0 .1),
-      ne-eqb _ _ (r .1),
-    )
+unknown : (c : tie.At-match-rest) → shapeWith Unknown ≡ shapeOf (c .before .args .b)
+unknown c = ap shapeWith (kind-unknown commandBytes (c .before .args .b) _ (c .match .rest))
 
 returns : tie.Need-returns
 returns c = rw (c .match .keys1)

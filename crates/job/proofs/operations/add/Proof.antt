@@ -5,22 +5,22 @@ use denote.Ref.{now}
 use Rattle.model.specs.Operations.{addition}
 use Rattle.model.specs.OutcomeFits.{addition-storable}
 use Rattle.job.specs.Bytes.{byteAt}
-use Rattle.job.specs.Commands.{commandAt}
-use Rattle.job.specs.Jobs.{operation}
+use Rattle.job.specs.Commands.{makerAt}
+use Rattle.job.specs.Makers.{operation}
 use Rattle.job.proofs.OperationLaws.{performs, held-two}
 use borrow.Author.Needs.{needs}
 use Rattle.job.proofs.operations.add.Statement.{statement}
 use Rattle.job.proofs.operations.add.Tie as tie
 
 read-operands-requires : tie.Need-read-operands-requires
-unfolding commandAt
+unfolding makerAt
 read-operands-requires c κs = let p = c .before .pre in record { names = p .names; room = omega arith; long = p .long }
 
 add-requires : tie.Need-add-requires
 add-requires c κs = search needs
 
 returns : tie.Need-returns
-unfolding commandAt operation
+unfolding makerAt operation
 returns c =
     let o = c .before .read-operands .ensures in
     let g = c .before .before .before .args in

@@ -6,9 +6,9 @@ use denote.Ref.{now}
 use Rattle.model.specs.Models.{outcomeOf}
 use Rattle.model.specs.declared.types.Model.{Model}
 use Rattle.job.specs.Bytes.{blockAt}
-use Rattle.job.specs.Commands.{commandAt}
-use Rattle.job.specs.Jobs.{operation}
-use Rattle.job.specs.declared.types.Kind.the-variants.{Load}
+use Rattle.job.specs.Commands.{makerAt}
+use Rattle.job.specs.Makers.{operation}
+use Rattle.job.specs.declared.types.Operation.the-variants.{Load}
 use Rattle.job.proofs.OperationLaws.{performs, loaded, loaded-storable, loaded-good, loaded-bad}
 use Rattle.job.proofs.operations.load.Statement.{statement}
 use Rattle.job.proofs.operations.load.Tie as tie
@@ -19,8 +19,8 @@ module _ (c : tie.After-read-model) where
   m = c .read-model .result
 
   loads : (rs : List Model)
-      → loaded m ≡ operation (commandAt Load (now (c .before .before .before .args .job)) (c .before .before .before .args .at)) rs
-  unfolding commandAt operation
+      → loaded m ≡ operation (makerAt Load (now (c .before .before .before .args .job)) (c .before .before .before .args .at)) rs
+  unfolding makerAt operation
   loads rs = ap loaded (c .read-model .ensures ∙ ap (blockAt _ _) (c .before .read-unsigned .ensures))
 
 add-read-model : tie.Need-add-read-model

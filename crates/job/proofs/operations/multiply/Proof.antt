@@ -6,15 +6,15 @@ use denote.Ref.{now}
 use Rattle.model.specs.Operations.{multiplication}
 use Rattle.model.specs.OutcomeFits.{multiplication-storable}
 use Rattle.job.specs.Bytes.{byteAt}
-use Rattle.job.specs.Commands.{commandAt, keptByte}
-use Rattle.job.specs.Jobs.{operation}
+use Rattle.job.specs.Commands.{makerAt, keptByte}
+use Rattle.job.specs.Makers.{operation}
 use Rattle.job.proofs.OperationLaws.{performs, held-two}
 use borrow.Author.Needs.{needs}
 use Rattle.job.proofs.operations.multiply.Statement.{statement}
 use Rattle.job.proofs.operations.multiply.Tie as tie
 
 read-operands-requires : tie.Need-read-operands-requires
-unfolding commandAt
+unfolding makerAt
 read-operands-requires c κs = let p = c .before .pre in record { names = p .names; room = omega arith; long = p .long }
 
 add-kept-degree : tie.Need-add-kept-degree
@@ -30,7 +30,7 @@ multiply-requires : tie.Need-multiply-requires
 multiply-requires c κs = search needs
 
 returns : tie.Need-returns
-unfolding commandAt operation
+unfolding makerAt operation
 returns c =
     let d = c .before .before .before in
     let o = d .read-operands in

@@ -1,9 +1,6 @@
 -- `operations::operate` meets its contract.
-use mathlib.Core.Path.{refl, sym, _∙_}
-use mathlib.Core.Bool.{false≢true}
+use mathlib.Core.Path.{refl}
 use native.Mathlib.Omega.{arith}
-use denote.Ref.{now}
-use Rattle.job.proofs.KindLaws.{makes-never}
 use borrow.Author.Needs.{needs}
 use Rattle.job.proofs.operations.operate.Statement.{statement}
 use Rattle.job.proofs.operations.operate.Tie as tie
@@ -48,9 +45,6 @@ root-requires c κs =
     let p = c .before .before .before .before .pre in
     (rw (c .before .enum-told6 .given .1) at (p .0), p .1)
 
-refused-requires : tie.Need-refused-requires
-refused-requires c κs = search needs
-
 returns : tie.Need-returns
 returns c = rw (c .before .enum-told .given .1) (c .load .ensures _, refl)
 
@@ -75,12 +69,6 @@ same-length-2 c = search needs
 returns-6 : tie.Need-returns-6
 returns-6 c = rw (c .before .before .before .enum-told6 .given .1) (c .before .root .ensures)
 
-returns-7 : tie.Need-returns-7
-returns-7 c =
-    let g = c .before .before .before in
-    let n = makes-never (g .args .kind) (now (g .args .job)) (g .args .at) (c .before .match .keys7) in
-    absurd (false≢true (sym n ∙ g .pre .0 .makes))
-
 pub operate-spec : {M : Type 1} → statement M
 operate-spec =
     tie.close
@@ -97,7 +85,6 @@ operate-spec =
     quotient-requires
     enum-told-6
     root-requires
-    refused-requires
     returns
     returns-2
     returns-3
@@ -105,5 +92,4 @@ operate-spec =
     same-length
     returns-5
     same-length-2
-    returns-6
-    returns-7)
+    returns-6)

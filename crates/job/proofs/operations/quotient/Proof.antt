@@ -8,15 +8,15 @@ use Rattle.certificate.specs.Tests.{scratchPlaces, quotientOf}
 use Rattle.certificate.specs.Stages.{quotient-room}
 use Rattle.certificate.specs.TestFits.{quotient-storable}
 use Rattle.job.specs.Bytes.{byteAt, blockAt}
-use Rattle.job.specs.Commands.{commandAt}
-use Rattle.job.specs.Jobs.{fromTest, operation}
+use Rattle.job.specs.Commands.{makerAt}
+use Rattle.job.specs.Makers.{fromTest, operation}
 use Rattle.job.proofs.OperationLaws.{performs, held-two}
 use borrow.Author.Needs.{needs}
 use Rattle.job.proofs.operations.quotient.Statement.{statement}
 use Rattle.job.proofs.operations.quotient.Tie as tie
 
 read-operands-requires : tie.Need-read-operands-requires
-unfolding commandAt
+unfolding makerAt
 read-operands-requires c κs = let p = c .before .pre .0 in record { names = p .names; room = omega arith; long = p .long }
 
 add-read-candidate : tie.Need-add-read-candidate
@@ -41,7 +41,7 @@ same-length : tie.Need-same-length
 same-length c = search needs
 
 returns : tie.Need-returns
-unfolding commandAt operation
+unfolding makerAt operation
 returns c =
     let q = c .before .before in
     let d = q .before .before in

@@ -8,8 +8,8 @@ use denote.Ref.{now}
 use Rattle.certificate.specs.Tests.{scratchPlaces, rootOf}
 use Rattle.certificate.specs.TestFits.{root-storable}
 use Rattle.job.specs.Bytes.{byteAt, blockAt}
-use Rattle.job.specs.Commands.{maxResults, commandAt}
-use Rattle.job.specs.Jobs.{fromTest, operation}
+use Rattle.job.specs.Commands.{maxResults, makerAt}
+use Rattle.job.specs.Makers.{fromTest, operation}
 use Rattle.job.proofs.OperationLaws.{performs, held-one, root-room}
 use borrow.Author.Needs.{needs}
 use Rattle.job.proofs.operations.root.Statement.{statement}
@@ -19,7 +19,7 @@ add-named : tie.Need-add-named
 add-named c = search needs
 
 named-requires : tie.Need-named-requires
-unfolding commandAt
+unfolding makerAt
 named-requires c κs =
     let g = c .before .args in
     let b = leb-false maxResults (byteAt (now (g .job)) (g .at + 1)) (c .before .pre .0 .names) in
@@ -47,7 +47,7 @@ same-length : tie.Need-same-length
 same-length c = search needs
 
 returns : tie.Need-returns
-unfolding commandAt operation
+unfolding makerAt operation
 returns c =
     let q = c .before .before in
     let d = q .before .before in

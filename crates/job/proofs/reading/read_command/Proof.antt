@@ -8,8 +8,10 @@ use native.Mathlib.Omega.{arith}
 use lib.ListN.{length, drop}
 use denote.Ref.{now}
 use Rattle.model.specs.Models.{firstRefusal}
-use Rattle.job.specs.Commands.{widthOf, readOutcome, readingNumber, readingPlaces}
+use Rattle.job.specs.Commands.{nameBytes, valueBytes, shapeAt, readOutcome, readingNumber, readingPlaces}
+use Rattle.job.specs.declared.types.Kind.{Kind}
 use Rattle.job.specs.declared.types.Shape.{Shape}
+use Rattle.job.proofs.KindLaws.{agrees}
 use Rattle.job.proofs.ReadingLaws.{read-with, placesWith, outcomeWith}
 use Rattle.job.proofs.reading.read_command.Statement.{statement}
 use Rattle.job.proofs.reading.read_command.Tie as tie
@@ -55,8 +57,18 @@ module _ (c : tie.Else3) where
   room : at a3 + 1 + s a3 .width ≤ length (job a3)
   room = omega (arith, c .if3 .left, a3 .before .before .if1 .left)
 
-  fits : at a3 + 1 + widthOf (s a3 .kind) ≤ length (job a3)
-  fits = let w : s a3 .width ≡ widthOf (s a3 .kind) = rw (a3 .shape-of .ensures) in omega (arith, room)
+  abbrev kind3 : Kind
+  kind3 = shapeAt (job a3) (k a3) (count a3) (at a3) .kind
+
+  values-fit : at a3 + 1 + valueBytes (s a3 .values) ≤ length (job a3)
+  values-fit =
+      let i : valueBytes (s a3 .values) ≤ s a3 .width = rw (a3 .shape-of .ensures) (agrees kind3 .values-inside) in
+      omega (arith, room)
+
+  names-fit : at a3 + 1 + nameBytes (s a3 .names) ≤ length (job a3)
+  names-fit =
+      let i : nameBytes (s a3 .names) ≤ s a3 .width = rw (a3 .shape-of .ensures) (agrees kind3 .names-inside) in
+      omega (arith, room)
 
   left3 : Left a3 3
   unfolding firstRefusal
@@ -73,8 +85,7 @@ left5 c = rw (left4 (c .before .before)) (simp (sym (c .before .has-bad-names .e
 left6 : (c : tie.Else6) → Left (a3 (c .before .before .before .before .before .before)) 6
 unfolding firstRefusal
 left6 c =
-    let a = a3 (c .before .before .before .before .before .before) in
-    rw (left5 (c .before .before)) (simp (sym (c .before .is-full .ensures (job a) (at a)) ∙ c .if6 .left))
+    rw (left5 (c .before .before)) (simp (sym (c .before .is-full .ensures) ∙ c .if6 .left))
 
 -- ---- the needs
 
@@ -107,14 +118,14 @@ returns-3 c =
     (simp (lt-ltb (length (job a)) (at a + 1 + s a .width) (omega (arith, c .if3 .taken, a .before .before .if1 .left))))
 
 has-bad-values-requires : tie.Need-has-bad-values-requires
-has-bad-values-requires c κs = fits c
+has-bad-values-requires c κs = values-fit c
 
 returns-4 : tie.Need-returns-4
 unfolding firstRefusal
 returns-4 c = rw (left3 (c .before .before)) (simp (sym (c .before .has-bad-values .ensures) ∙ c .if4 .taken))
 
 has-bad-names-requires : tie.Need-has-bad-names-requires
-has-bad-names-requires c κs = fits (c .before .before)
+has-bad-names-requires c κs = names-fit (c .before .before)
 
 returns-5 : tie.Need-returns-5
 unfolding firstRefusal
@@ -126,8 +137,7 @@ is-full-requires c κs = search needs
 returns-6 : tie.Need-returns-6
 unfolding firstRefusal
 returns-6 c =
-    let a = a3 (c .before .before .before .before .before .before) in
-    rw (left5 (c .before .before)) (simp (sym (c .before .is-full .ensures (job a) (at a)) ∙ c .if6 .taken))
+    rw (left5 (c .before .before)) (simp (sym (c .before .is-full .ensures) ∙ c .if6 .taken))
 
 add-next : tie.Need-add-next
 add-next c = search needs
