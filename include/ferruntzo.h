@@ -5,10 +5,10 @@
    proved error radius; a proposed quotient or square root is accepted with a
    proved radius or refused; and a whole job of such commands is checked.
 
-   Link with libexport.a, which scripts/build_library makes (x86-64, System V
+   Link with libferruntzo.a, which scripts/build_library makes (x86-64, System V
    calling convention):
 
-     cc -Iinclude program.c target/staticlib/libexport.a
+     cc -Iinclude program.c target/staticlib/libferruntzo.a
 
    examples/check_job.c is a program to copy, docs/FORMAT.md the format of
    jobs.  "01" below is the scope document that fixes every number.

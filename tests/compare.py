@@ -1,7 +1,7 @@
 """Compares the library under test with the oracle, area by area.
 
   compare.py                         plain.c against the oracle
-  compare.py --library libexport.a   the product against the oracle
+  compare.py --library libferruntzo.a   the product against the oracle
   compare.py --plant multiply        a planted wrong answer must be found
 
 Exits with 0 when all answers agree, 1 when any answer differs, 2 when something

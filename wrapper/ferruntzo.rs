@@ -1,4 +1,4 @@
-//! A safe wrapper over the Ferruntzo library (`libexport.a`, see `include/ferruntzo.h`).
+//! A safe wrapper over the Ferruntzo library (`libferruntzo.a`, see `include/ferruntzo.h`).
 //!
 //! ```text
 //! scripts/build_library
@@ -148,7 +148,7 @@ fn accepted(number: u32) -> Result<(), Refusal> {
     match Refusal::from_number(number) {
         Some(refusal) => Err(refusal),
         None if number == 0 => Ok(()),
-        None => panic!("not this version of libexport.a: it answered {number}"),
+        None => panic!("not this version of libferruntzo.a: it answered {number}"),
     }
 }
 
@@ -513,7 +513,7 @@ pub mod areas {
 /// The declarations of `include/ferruntzo.h`.
 #[rustfmt::skip]
 mod raw {
-    #[link(name = "export", kind = "static")]
+    #[link(name = "ferruntzo", kind = "static")]
     extern "C" {
         pub fn ferruntzo_add(
             a: *const i32, a_len: usize, b: *const i32, b_len: usize, out: *mut i32, out_len: usize,

@@ -26,9 +26,6 @@ module _ (s : tie.Start) where
   error : ErrorTerm (s .args .weight) w g
   error = error-term (s .args .weight) w g (s .pre .2) (s .pre .1) (s .pre .3)
 
-mul-constant-residual : tie.Need-mul-constant-residual
-mul-constant-residual c = search needs
-
 constant-residual-requires : tie.Need-constant-residual-requires
 constant-residual-requires c κs =
     let s = c .before .before .before .before .before in
@@ -51,20 +48,11 @@ module _ (c : tie.After-part) where
 mul-up-unsigned : tie.Need-mul-up-unsigned
 mul-up-unsigned c = omega (arith, error (s c))
 
-cast-up-unsigned : tie.Need-cast-up-unsigned
-cast-up-unsigned c = search needs
-
 mul-up-unsigned-2 : tie.Need-mul-up-unsigned-2
 mul-up-unsigned-2 c = omega (arith, error (s c))
 
 add-up-unsigned : tie.Need-add-up-unsigned
 add-up-unsigned c = omega (arith, distance-range c, error (s c))
-
-up-unsigned-requires : tie.Need-up-unsigned-requires
-up-unsigned-requires c κs = search needs
-
-same-length : tie.Need-same-length
-same-length c = search needs
 
 returns : tie.Need-returns
 unfolding quotientContraction
@@ -77,14 +65,6 @@ returns c =
 
 pub quotient-contraction-spec : {M : Type 1} → statement M
 quotient-contraction-spec =
-    tie.close
-    (tie.spec
-    mul-constant-residual
-    constant-residual-requires
-    mul-up-unsigned
-    cast-up-unsigned
-    mul-up-unsigned-2
-    add-up-unsigned
-    up-unsigned-requires
-    same-length
-    returns)
+    tie.close (tie.spec
+    (λ c. search needs) constant-residual-requires mul-up-unsigned (λ c. search needs) mul-up-unsigned-2 add-up-unsigned
+    (λ c κs. search needs) (λ c. search needs) returns)

@@ -50,9 +50,6 @@ module _ (c : tie.After-part) where
   distance-range : c .before .product-residual .result ≤ 2 ^ 58
   distance-range = omega (arith, distance-is, residual-range (g s) (h s) (s .pre .2) (s .pre .3) (f s) (s .pre .1))
 
-cast-up-unsigned : tie.Need-cast-up-unsigned
-cast-up-unsigned c = search needs
-
 mul-up-unsigned : tie.Need-mul-up-unsigned
 mul-up-unsigned c = omega (arith, radius-range (s c))
 
@@ -62,20 +59,11 @@ add-up-unsigned c = omega (arith, distance-range c, radius-range (s c))
 mul-up-unsigned-2 : tie.Need-mul-up-unsigned-2
 mul-up-unsigned-2 c = omega (arith, error (s c))
 
-cast-up-unsigned-2 : tie.Need-cast-up-unsigned-2
-cast-up-unsigned-2 c = search needs
-
 mul-up-unsigned-3 : tie.Need-mul-up-unsigned-3
 mul-up-unsigned-3 c = omega (arith, error (s c))
 
 add-up-unsigned-2 : tie.Need-add-up-unsigned-2
 add-up-unsigned-2 c = omega (arith, distance-range c, radius-range (s c), error (s c))
-
-up-unsigned-requires : tie.Need-up-unsigned-requires
-up-unsigned-requires c κs = search needs
-
-same-length : tie.Need-same-length
-same-length c = search needs
 
 returns : tie.Need-returns
 unfolding quotientResidual
@@ -88,16 +76,6 @@ returns c =
 
 pub quotient-residual-spec : {M : Type 1} → statement M
 quotient-residual-spec =
-    tie.close
-    (tie.spec
-    product-residual-requires
-    cast-up-unsigned
-    mul-up-unsigned
-    add-up-unsigned
-    mul-up-unsigned-2
-    cast-up-unsigned-2
-    mul-up-unsigned-3
-    add-up-unsigned-2
-    up-unsigned-requires
-    same-length
-    returns)
+    tie.close (tie.spec
+    product-residual-requires (λ c. search needs) mul-up-unsigned add-up-unsigned mul-up-unsigned-2 (λ c. search needs)
+    mul-up-unsigned-3 add-up-unsigned-2 (λ c κs. search needs) (λ c. search needs) returns)

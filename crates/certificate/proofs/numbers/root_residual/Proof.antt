@@ -38,22 +38,10 @@ module _ (c : tie.After-part) where
   unfolding productList
   distance-is = c .before .product-residual .ensures .0
 
-cast-up-unsigned : tie.Need-cast-up-unsigned
-cast-up-unsigned c = search needs
-
-mul-up-unsigned : tie.Need-mul-up-unsigned
-mul-up-unsigned c = search needs
-
 add-up-unsigned : tie.Need-add-up-unsigned
 add-up-unsigned c =
     let p = s c in
     omega (arith, distance-is c, residual-range (h p) (h p) (p .pre .2) (p .pre .2) (f p) (p .pre .1), good-is (f p) (p .pre .1))
-
-up-unsigned-requires : tie.Need-up-unsigned-requires
-up-unsigned-requires c κs = search needs
-
-same-length : tie.Need-same-length
-same-length c = search needs
 
 returns : tie.Need-returns
 unfolding rootResidual
@@ -63,12 +51,6 @@ returns c =
 
 pub root-residual-spec : {M : Type 1} → statement M
 root-residual-spec =
-    tie.close
-    (tie.spec
-    product-residual-requires
-    cast-up-unsigned
-    mul-up-unsigned
-    add-up-unsigned
-    up-unsigned-requires
-    same-length
-    returns)
+    tie.close (tie.spec
+    product-residual-requires (λ c. search needs) (λ c. search needs) add-up-unsigned (λ c κs. search needs)
+    (λ c. search needs) returns)

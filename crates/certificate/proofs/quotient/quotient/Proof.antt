@@ -11,9 +11,6 @@ use Rattle.certificate.specs.Stages.{quotient-short, quotient-room, scra
 use Rattle.certificate.proofs.quotient.quotient.Statement.{statement}
 use Rattle.certificate.proofs.quotient.quotient.Tie as tie
 
-refused-requires : tie.Need-refused-requires
-refused-requires c κs = search needs
-
 returns : tie.Need-returns
 returns c =
     let a = c .before .before .args in (
@@ -24,17 +21,11 @@ returns c =
 first-part : (c : tie.Else1) → length (take scratchPlaces (c .before .args .scratch .now)) ≡ scratchPlaces
 first-part c = length-take-le scratchPlaces (c .before .args .scratch .now) (omega arith)
 
-slice-relend-prefix-test-in : tie.Need-slice-relend-prefix-test-in
-slice-relend-prefix-test-in c = search needs
-
 slice-aggregate-test-in : tie.Need-slice-aggregate-test-in
 slice-aggregate-test-in c = sym (first-part (c .before))
 
 test-in-requires : tie.Need-test-in-requires
 test-in-requires c κs = first-part (c .before)
-
-same-length : tie.Need-same-length
-same-length c = search needs
 
 returns-2 : tie.Need-returns-2
 returns-2 c =
@@ -45,12 +36,5 @@ returns-2 c =
 
 pub quotient-spec : {M : Type 1} → statement M
 quotient-spec =
-    tie.close
-    (tie.spec
-    refused-requires
-    returns
-    slice-relend-prefix-test-in
-    slice-aggregate-test-in
-    test-in-requires
-    same-length
-    returns-2)
+    tie.close (tie.spec
+    (λ c κs. search needs) returns (λ c. search needs) slice-aggregate-test-in test-in-requires (λ c. search needs) returns-2)

@@ -14,9 +14,6 @@ use Rattle.certificate.proofs.Ranges.{displacement-range}
 use Rattle.certificate.proofs.quotient.test_good.Statement.{statement}
 use Rattle.certificate.proofs.quotient.test_good.Tie as tie
 
-quotient-contraction-requires : tie.Need-quotient-contraction-requires
-quotient-contraction-requires c κs = search needs
-
 module _ (s : tie.Start) where
   abbrev h : Model
   h = candidateModel (s .args .h)
@@ -32,9 +29,6 @@ module _ (s : tie.Start) where
       → quotientOf scratchPlaces (s .args .f) (s .args .g) h w ≡ tested (testPlaces m n ++ ((tooLarge (quotientModel h m b), 3) ∷ [])) (quotientModel h m b) m n b
   from-m = quotient-tests scratchPlaces (s .args .f) (s .args .g) h w (omega arith) (s .pre .0 .1) (s .pre .0 .2) (s .pre .0 .3) (s .pre .0 .4)
 
-quotient-residual-requires : tie.Need-quotient-residual-requires
-quotient-residual-requires c κs = search needs
-
 displacement-requires : tie.Need-displacement-requires
 displacement-requires c κs = (w-fits (c .before .before .before .before .before .before .before .before), search needs)
 
@@ -43,18 +37,6 @@ quotient-radius-requires c κs =
     let t = c .before in
     let s = t .before .before .before .before .before .before .before .before in
     (omega (arith, c .displacement .ensures, displacement-range (s .args .w-weight) (t .before .before .quotient-residual .result) (w-fits s) (omega arith)), search needs)
-
-formed-requires : tie.Need-formed-requires
-formed-requires c κs = search needs
-
-refused-requires : tie.Need-refused-requires
-refused-requires c κs = search needs
-
-refused-requires-2 : tie.Need-refused-requires-2
-refused-requires-2 c κs = search needs
-
-same-length : tie.Need-same-length
-same-length c = search needs
 
 returns : tie.Need-returns
 unfolding quotientModel displacement
@@ -75,9 +57,6 @@ returns c =
       of-n .ensures .1,
     )
 
-same-length-2 : tie.Need-same-length-2
-same-length-2 c = search needs
-
 returns-2 : tie.Need-returns-2
 returns-2 c =
     let of-n = c .before .before .before .quotient-residual in
@@ -88,9 +67,6 @@ returns-2 c =
     let b = displacement (w s) n in
     let refusal : testOf (c .refused .result) ≡ refusedTest 6 = ap testOf (c .refused .ensures) in
     (refusal ∙ sym (from-m s m n b (of-m .ensures .0) (of-n .ensures .0) refl ∙ large-residual m n _ _ m n b (omega arith) (omega arith)), of-n .ensures .1)
-
-same-length-3 : tie.Need-same-length-3
-same-length-3 c = search needs
 
 returns-3 : tie.Need-returns-3
 returns-3 c =
@@ -104,18 +80,7 @@ returns-3 c =
 
 pub test-good-spec : {M : Type 1} → statement M
 test-good-spec =
-    tie.close
-    (tie.spec
-    quotient-contraction-requires
-    quotient-residual-requires
-    displacement-requires
-    quotient-radius-requires
-    formed-requires
-    refused-requires
-    refused-requires-2
-    same-length
-    returns
-    same-length-2
-    returns-2
-    same-length-3
+    tie.close (tie.spec
+    (λ c κs. search needs) (λ c κs. search needs) displacement-requires quotient-radius-requires (λ c κs. search needs)
+    (λ c κs. search needs) (λ c κs. search needs) (λ c. search needs) returns (λ c. search needs) returns-2 (λ c. search needs)
     returns-3)

@@ -11,23 +11,8 @@ use Rattle.certificate.specs.Stages.{quotient-bad}
 use Rattle.certificate.proofs.quotient.test_in.Statement.{statement}
 use Rattle.certificate.proofs.quotient.test_in.Tie as tie
 
-clear-requires : tie.Need-clear-requires
-clear-requires c κs = search needs
-
 cleared : (c : tie.After-clear) → c .clear .last .0 ≡ zeros scratchPlaces
 cleared c = c .clear .ensures ∙ ap zeros (c .before .before .pre)
-
-measure-requires : tie.Need-measure-requires
-measure-requires c κs = search needs
-
-measure-requires-2 : tie.Need-measure-requires-2
-measure-requires-2 c κs = search needs
-
-measure-candidate-requires : tie.Need-measure-candidate-requires
-measure-candidate-requires c κs = search needs
-
-measure-candidate-requires-2 : tie.Need-measure-candidate-requires-2
-measure-candidate-requires-2 c κs = search needs
 
 test-good-requires : tie.Need-test-good-requires
 test-good-requires c κs =
@@ -45,12 +30,6 @@ test-good-requires c κs =
       (of-h .measure-candidate .ensures .1, of-w .measure-candidate2 .ensures .1),
     )
 
-same-length : tie.Need-same-length
-same-length c = search needs
-
-returns : tie.Need-returns
-returns c = search needs
-
 -- one of the four is bad
 bad : (c : tie.Joined1) → let a = c .before .before .before .before .before .args in
     (good (a .f) && (good (a .g) && (good (candidateModel (a .h)) && good (candidateModel (a .w))))) ≡ false
@@ -66,12 +45,6 @@ bad c =
     (λ w. rw (of-f ∙ w .left))))
     (c .if1 .came)
 
-refused-requires : tie.Need-refused-requires
-refused-requires c κs = search needs
-
-same-length-2 : tie.Need-same-length-2
-same-length-2 c = search needs
-
 returns-2 : tie.Need-returns-2
 returns-2 c =
     let s = c .before .before .before .before .before .before in (
@@ -81,16 +54,6 @@ returns-2 c =
 
 pub test-in-spec : {M : Type 1} → statement M
 test-in-spec =
-    tie.close
-    (tie.spec
-    clear-requires
-    measure-requires
-    measure-requires-2
-    measure-candidate-requires
-    measure-candidate-requires-2
-    test-good-requires
-    same-length
-    returns
-    refused-requires
-    same-length-2
-    returns-2)
+    tie.close (tie.spec
+    (λ c κs. search needs) (λ c κs. search needs) (λ c κs. search needs) (λ c κs. search needs) (λ c κs. search needs)
+    test-good-requires (λ c. search needs) (λ c. search needs) (λ c κs. search needs) (λ c. search needs) returns-2)

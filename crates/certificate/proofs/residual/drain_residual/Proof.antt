@@ -16,9 +16,6 @@ use Rattle.certificate.proofs.TwoParts.{length-halfway, second-part, bo
 use Rattle.certificate.proofs.residual.drain_residual.Statement.{statement}
 use Rattle.certificate.proofs.residual.drain_residual.Tie as tie
 
-window-requires : tie.Need-window-requires
-window-requires c κs = search needs
-
 module _ (c : tie.After-window) where
   abbrev P : List ℤ
   P = c .before .args .part .now
@@ -52,9 +49,6 @@ drain-difference-requires : tie.Need-drain-difference-requires
 drain-difference-requires c κs =
     let b = c .before in (sym (first-length b), omega (arith, weight-small b, weight-take (length (own b)) (P b)))
 
-mul-drain : tie.Need-mul-drain
-mul-drain c = search needs
-
 module _ (c : tie.After-part) where
   abbrev b : tie.After-window
   b = c .before .before .before
@@ -73,9 +67,6 @@ sub-drain c = halfway-longer c
 
 part-drain-start : tie.Need-part-drain-start
 part-drain-start c = halfway-longer c
-
-part-drain-end : tie.Need-part-drain-end
-part-drain-end c = search needs
 
 drain-requires : tie.Need-drain-requires
 drain-requires c κs =
@@ -99,9 +90,6 @@ module _ (c : tie.After-part2) where
 add-result : tie.Need-add-result
 add-result c = omega (arith, sum-is c, weight-residual (P (b (d c))) (own (b (d c))), weight-small (b (d c)))
 
-same-length : tie.Need-same-length
-same-length c = search needs
-
 returns : tie.Need-returns
 returns c =
     let w = b (d c) in
@@ -117,17 +105,6 @@ returns c =
 
 pub drain-residual-spec : {M : Type 1} → statement M
 drain-residual-spec =
-    tie.close
-    (tie.spec
-    window-requires
-    slice-relend-prefix-drain-difference
-    slice-aggregate-drain-difference
-    drain-difference-requires
-    mul-drain
-    sub-drain
-    part-drain-start
-    part-drain-end
-    drain-requires
-    add-result
-    same-length
-    returns)
+    tie.close (tie.spec
+    (λ c κs. search needs) slice-relend-prefix-drain-difference slice-aggregate-drain-difference drain-difference-requires
+    (λ c. search needs) sub-drain part-drain-start (λ c. search needs) drain-requires add-result (λ c. search needs) returns)

@@ -34,14 +34,8 @@ module _ (s : tie.Start) where
   weights : weight (take (s .args .n + 1) a) * weight (take (s .args .k + 1) b) ≤ weight a * weight b
   weights = mul-le-mul (weight-take (s .args .n + 1) a) (weight-take (s .args .k + 1) b)
 
-add-add-products : tie.Need-add-add-products
-add-add-products c = search needs
-
 slice-aggregate-add-products : tie.Need-slice-aggregate-add-products
 slice-aggregate-add-products c = sym (length-a (c .before .before .before .before))
-
-add-add-products-2 : tie.Need-add-add-products-2
-add-add-products-2 c = search needs
 
 slice-aggregate-add-products-2 : tie.Need-slice-aggregate-add-products-2
 slice-aggregate-add-products-2 c = sym (length-b (c .before .before .before .before .before))
@@ -50,9 +44,6 @@ add-products-requires : tie.Need-add-products-requires
 add-products-requires c κs =
     let s = c .before .before .before .before .before in
     omega (arith, cleared (s .pre .0 .0), length-a s, length-b s, weights s, s .pre)
-
-same-length : tie.Need-same-length
-same-length c = search needs
 
 returns : tie.Need-returns
 returns c =
@@ -64,12 +55,6 @@ returns c =
 
 pub form-spec : {M : Type 1} → statement M
 form-spec =
-    tie.close
-    (tie.spec
-    add-add-products
-    slice-aggregate-add-products
-    add-add-products-2
-    slice-aggregate-add-products-2
-    add-products-requires
-    same-length
-    returns)
+    tie.close (tie.spec
+    (λ c. search needs) slice-aggregate-add-products (λ c. search needs) slice-aggregate-add-products-2 add-products-requires
+    (λ c. search needs) returns)

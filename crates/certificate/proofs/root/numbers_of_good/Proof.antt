@@ -19,9 +19,6 @@ use Rattle.certificate.specs.RootNumbers.{reached, root-helper, root-not
 use Rattle.certificate.proofs.root.numbers_of_good.Statement.{statement}
 use Rattle.certificate.proofs.root.numbers_of_good.Tie as tie
 
-total-requires : tie.Need-total-requires
-total-requires c κs = search needs
-
 module _ (s : tie.Start) where
   abbrev h : Model
   h = candidateModel (s .args .h)
@@ -55,17 +52,8 @@ returns c =
       p .pre .0,
     )
 
-root-contraction-requires : tie.Need-root-contraction-requires
-root-contraction-requires c κs = search needs
-
-root-residual-requires : tie.Need-root-residual-requires
-root-residual-requires c κs = search needs
-
 displacement-requires : tie.Need-displacement-requires
 displacement-requires c κs = (w-fits (c .before .before .before .before .before .before .before .before .before .before .before .before), search needs)
-
-same-length : tie.Need-same-length
-same-length c = search needs
 
 reached-parts : {M M′ m m′ n n′ b b′ : ℕ} → M ≡ M′ → m ≡ m′ → n ≡ n′ → b ≡ b′ → reached M m n b ≡ reached M′ m′ n′ b′
 reached-parts e f g h = cc
@@ -87,9 +75,6 @@ returns-2 c =
       of-n .ensures .1,
     )
 
-same-length-2 : tie.Need-same-length-2
-same-length-2 c = search needs
-
 returns-3 : tie.Need-returns-3
 returns-3 c =
     let of-n = c .before .before .root-residual in
@@ -101,9 +86,6 @@ returns-3 c =
       sym (root-large-residual scratchPlaces (p .args .f) (h p) (w p) (omega arith) (p .pre .1) (p .pre .2) (p .pre .3) (positive q) (omega (arith, em)) (omega (arith, en))),
       of-n .ensures .1,
     )
-
-same-length-3 : tie.Need-same-length-3
-same-length-3 c = search needs
 
 returns-4 : tie.Need-returns-4
 returns-4 c =
@@ -117,16 +99,6 @@ returns-4 c =
 
 pub numbers-of-good-spec : {M : Type 1} → statement M
 numbers-of-good-spec =
-    tie.close
-    (tie.spec
-    total-requires
-    returns
-    root-contraction-requires
-    root-residual-requires
-    displacement-requires
-    same-length
-    returns-2
-    same-length-2
-    returns-3
-    same-length-3
-    returns-4)
+    tie.close (tie.spec
+    (λ c κs. search needs) returns (λ c κs. search needs) (λ c κs. search needs) displacement-requires (λ c. search needs)
+    returns-2 (λ c. search needs) returns-3 (λ c. search needs) returns-4)

@@ -20,12 +20,6 @@ use Rattle.certificate.proofs.Ranges.{displacement-range}
 use Rattle.certificate.proofs.root.root.Statement.{statement}
 use Rattle.certificate.proofs.root.root.Tie as tie
 
-root-numbers-requires : tie.Need-root-numbers-requires
-root-numbers-requires c κs = search needs
-
-enum-known-numbers : tie.Need-enum-known-numbers
-enum-known-numbers c = search needs
-
 module _ (s : tie.Start) where
   abbrev len : ℕ
   len = length (s .args .scratch .now)
@@ -39,12 +33,6 @@ module _ (s : tie.Start) where
 is-refused : (c : tie.After-known-told) → let s = c .before .before .before .before .before .before in
     rootOutcome (len s) (s .args .f) (h s) (w s) ≡ refused (numberOf (c .before .numbers .given .0 .0))
 is-refused c = sym (c .before .before .before .before .root-numbers .ensures .0) ∙ ap rootOutcomeOf (c .before .numbers .given .1)
-
-refused-requires : tie.Need-refused-requires
-refused-requires c κs = search needs
-
-enum-known-numbers-2 : tie.Need-enum-known-numbers-2
-enum-known-numbers-2 c = search needs
 
 module _ (c : tie.After-known-told2) where
   abbrev s : tie.Start
@@ -89,9 +77,6 @@ root-result-requires c κs =
       omega (arith, square-bound (h (s c)) (w (s c)), mul-le-mul-left (2 * W) (of-h .weight-fits), r),
     )
 
-same-length : tie.Need-same-length
-same-length c = search needs
-
 returns : tie.Need-returns
 returns c =
     let d = c .before in
@@ -99,9 +84,6 @@ returns c =
       ap testOf (c .refused .ensures) ∙ sym (root-refused-is (len s) (s .args .f) (h s) (w s) (numberOf (d .before .numbers .given .0 .0)) (is-refused d)),
       d .before .before .before .before .root-numbers .ensures .1,
     )
-
-same-length-2 : tie.Need-same-length-2
-same-length-2 c = search needs
 
 returns-2 : tie.Need-returns-2
 returns-2 c =
@@ -113,14 +95,6 @@ returns-2 c =
 
 pub root-spec : {M : Type 1} → statement M
 root-spec =
-    tie.close
-    (tie.spec
-    root-numbers-requires
-    enum-known-numbers
-    refused-requires
-    enum-known-numbers-2
-    root-result-requires
-    same-length
-    returns
-    same-length-2
-    returns-2)
+    tie.close (tie.spec
+    (λ c κs. search needs) (λ c. search needs) (λ c κs. search needs) (λ c. search needs) root-result-requires
+    (λ c. search needs) returns (λ c. search needs) returns-2)

@@ -22,17 +22,11 @@ returns c =
 first-part : (c : tie.Else1) → length (take scratchPlaces (c .before .args .scratch .now)) ≡ scratchPlaces
 first-part c = length-take-le scratchPlaces (c .before .args .scratch .now) (omega arith)
 
-slice-relend-prefix-numbers-in : tie.Need-slice-relend-prefix-numbers-in
-slice-relend-prefix-numbers-in c = search needs
-
 slice-aggregate-numbers-in : tie.Need-slice-aggregate-numbers-in
 slice-aggregate-numbers-in c = sym (first-part (c .before))
 
 numbers-in-requires : tie.Need-numbers-in-requires
 numbers-in-requires c κs = first-part (c .before)
-
-same-length : tie.Need-same-length
-same-length c = search needs
 
 returns-2 : tie.Need-returns-2
 returns-2 c =
@@ -43,11 +37,5 @@ returns-2 c =
 
 pub root-numbers-spec : {M : Type 1} → statement M
 root-numbers-spec =
-    tie.close
-    (tie.spec
-    returns
-    slice-relend-prefix-numbers-in
-    slice-aggregate-numbers-in
-    numbers-in-requires
-    same-length
-    returns-2)
+    tie.close (tie.spec
+    returns (λ c. search needs) slice-aggregate-numbers-in numbers-in-requires (λ c. search needs) returns-2)

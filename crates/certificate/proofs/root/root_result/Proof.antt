@@ -16,20 +16,8 @@ use Rattle.certificate.specs.Discriminant.{discriminant-quotient, discri
 use Rattle.certificate.proofs.root.root_result.Statement.{statement}
 use Rattle.certificate.proofs.root.root_result.Tie as tie
 
-sub-gap : tie.Need-sub-gap
-sub-gap c = search needs
-
 mul-if1 : tie.Need-mul-if1
 mul-if1 c = let h : 1048576 - c .args .m ≤ 2 ^ 20 = omega arith in omega (arith, mul-le-mul h h)
-
-mul-if1-2 : tie.Need-mul-if1-2
-mul-if1-2 c = search needs
-
-div-if1 : tie.Need-div-if1
-div-if1 c = search needs
-
-root-radius-requires : tie.Need-root-radius-requires
-root-radius-requires c κs = search needs
 
 radius-small : (c : tie.After-root-radius) → c .root-radius .result ≤ 2 ^ 27
 radius-small c =
@@ -41,12 +29,6 @@ radius-small c =
 
 cast-accepted : tie.Need-cast-accepted
 cast-accepted c = omega (arith, radius-small c)
-
-accepted-requires : tie.Need-accepted-requires
-accepted-requires c κs = search needs
-
-refused-requires : tie.Need-refused-requires
-refused-requires c κs = search needs
 
 returns : tie.Need-returns
 unfolding rootModel
@@ -72,15 +54,6 @@ returns-2 c =
 
 pub root-result-spec : {M : Type 1} → statement M
 root-result-spec =
-    tie.close
-    (tie.spec
-    sub-gap
-    mul-if1
-    mul-if1-2
-    div-if1
-    root-radius-requires
-    cast-accepted
-    accepted-requires
-    refused-requires
-    returns
-    returns-2)
+    tie.close (tie.spec
+    (λ c. search needs) mul-if1 (λ c. search needs) (λ c. search needs) (λ c κs. search needs) cast-accepted
+    (λ c κs. search needs) (λ c κs. search needs) returns returns-2)

@@ -34,15 +34,6 @@ abbrev μ-loop : tie.MeasureT-loop
 loop-holds : tie.Need-loop-holds Inv-loop μ-loop
 loop-holds c = (omega arith, +ℤ-idl (coefficientSum (c .args .coefficients .now)), omega arith)
 
-mul-sum : tie.Need-mul-sum Inv-loop μ-loop
-mul-sum c = search signed-needs
-
-element-copy-out-sum : tie.Need-element-copy-out-sum Inv-loop μ-loop
-element-copy-out-sum c = search signed-needs
-
-cast-sum : tie.Need-cast-sum Inv-loop μ-loop
-cast-sum c = search signed-needs
-
 module _ (c : tie.After-sum Inv-loop μ-loop) where
   abbrev l : tie.At-loop Inv-loop μ-loop
   l = c .before .before
@@ -68,12 +59,6 @@ module _ (c : tie.After-sum Inv-loop μ-loop) where
 add-sum : tie.Need-add-sum Inv-loop μ-loop
 add-sum c = simp (toZ-ofZ (fits-x c), toZ-ofZ (fits-widens (fits-x c))) (fits-s c)
 
-add-k : tie.Need-add-k Inv-loop μ-loop
-add-k c = omega arith
-
-loop-less : tie.Need-loop-less Inv-loop μ-loop
-loop-less c = omega arith
-
 loop-again : tie.Need-loop-again Inv-loop μ-loop
 loop-again c =
     let k = l c .loop .k in
@@ -91,16 +76,6 @@ returns c =
 
 pub total-spec : {M : Type 1} → statement M
 total-spec =
-    tie.close
-    (tie.spec
-    Inv-loop
-    μ-loop
-    loop-holds
-    mul-sum
-    element-copy-out-sum
-    cast-sum
-    add-sum
-    add-k
-    loop-less
-    loop-again
-    returns)
+    tie.close (tie.spec
+    Inv-loop μ-loop loop-holds (λ c. search signed-needs) (λ c. search signed-needs) (λ c. search signed-needs) add-sum
+    (λ c. omega arith) (λ c. omega arith) loop-again returns)

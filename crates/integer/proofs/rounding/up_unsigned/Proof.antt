@@ -7,12 +7,6 @@ use Rattle.integer.specs.RoundingLaws.{upℕ-unique}
 use Rattle.integer.proofs.rounding.up_unsigned.Statement.{statement}
 use Rattle.integer.proofs.rounding.up_unsigned.Tie as tie
 
-div-q : tie.Need-div-q
-div-q c = search needs
-
-rem-if1 : tie.Need-rem-if1
-rem-if1 c = search needs
-
 module _ (c : tie.Then1) where
   -- a remainder shows d ≥ 2
   half : 2 * (c .before .args .n / c .before .args .d) ≤ c .before .args .n
@@ -37,4 +31,4 @@ returns-2 c =
     upℕ-unique n d (n / d) (c .before .pre) (omega (arith, div-add-mod n d)) (omega (arith, div-add-mod n d, c .before .pre))
 
 pub up-unsigned-spec : {M : Type 1} → statement M
-up-unsigned-spec = tie.close (tie.spec div-q rem-if1 add-result returns returns-2)
+up-unsigned-spec = tie.close (tie.spec (λ c. search needs) (λ c. search needs) add-result returns returns-2)

@@ -28,30 +28,6 @@ loop-holds c =
     let g = c .before .args in
     (search needs, begins _ _ 0 places (length-signedsAt (now (g .s)) (g .i) places) (search needs))
 
-mul-read-unsigned : tie.Need-mul-read-unsigned Inv-loop μ-loop
-mul-read-unsigned c = search needs
-
-add-read-unsigned : tie.Need-add-read-unsigned Inv-loop μ-loop
-add-read-unsigned c = search needs
-
-read-unsigned-requires : tie.Need-read-unsigned-requires Inv-loop μ-loop
-read-unsigned-requires c κs = search needs
-
-to-signed-requires : tie.Need-to-signed-requires Inv-loop μ-loop
-to-signed-requires c κs = search needs
-
-mul-coefficients : tie.Need-mul-coefficients Inv-loop μ-loop
-mul-coefficients c = search needs
-
-array-set-from-coefficients : tie.Need-array-set-from-coefficients Inv-loop μ-loop
-array-set-from-coefficients c = search needs
-
-add-k : tie.Need-add-k Inv-loop μ-loop
-add-k c = search needs
-
-loop-less : tie.Need-loop-less Inv-loop μ-loop
-loop-less c = search needs
-
 loop-again : tie.Need-loop-again Inv-loop μ-loop
 loop-again c =
     let l = c .before .before .before .loop in
@@ -72,18 +48,6 @@ returns c =
 
 pub read-coefficients-spec : {M : Type 1} → statement M
 read-coefficients-spec =
-    tie.close
-    (tie.spec
-    Inv-loop
-    μ-loop
-    loop-holds
-    mul-read-unsigned
-    add-read-unsigned
-    read-unsigned-requires
-    to-signed-requires
-    mul-coefficients
-    array-set-from-coefficients
-    add-k
-    loop-less
-    loop-again
-    returns)
+    tie.close (tie.spec
+    Inv-loop μ-loop loop-holds (λ c. search needs) (λ c. search needs) (λ c κs. search needs) (λ c κs. search needs)
+    (λ c. search needs) (λ c. search needs) (λ c. search needs) (λ c. search needs) loop-again returns)

@@ -6,16 +6,10 @@ use Rattle.model.specs.declared.types.Model.{Model}
 use Rattle.job.proofs.bytes.read_model.Statement.{statement}
 use Rattle.job.proofs.bytes.read_model.Tie as tie
 
-read-candidate-requires : tie.Need-read-candidate-requires
-read-candidate-requires c κs = search needs
-
-new-requires : tie.Need-new-requires
-new-requires c κs = search needs
-
 returns : tie.Need-returns
 returns c =
     let b = c .before .before in
     c .new .ensures ∙ ap (λ (m : Model). modelOf (m .degree) (m .coefficients) (b .before .before .args .radius)) (b .read-candidate .ensures)
 
 pub read-model-spec : {M : Type 1} → statement M
-read-model-spec = tie.close (tie.spec read-candidate-requires new-requires returns)
+read-model-spec = tie.close (tie.spec (λ c κs. search needs) (λ c κs. search needs) returns)

@@ -45,16 +45,5 @@ returns-11 c = unknown (c .before .before)
 
 pub shape-of-spec : {M : Type 1} → statement M
 shape-of-spec =
-    tie.close
-    (tie.spec
-    returns
-    returns-2
-    returns-3
-    returns-4
-    returns-5
-    returns-6
-    returns-7
-    returns-8
-    returns-9
-    returns-10
-    returns-11)
+    tie.close (tie.spec
+    returns returns-2 returns-3 returns-4 returns-5 returns-6 returns-7 returns-8 returns-9 returns-10 returns-11)

@@ -23,24 +23,6 @@ module _ (c : tie.After-read-model) where
   unfolding makerAt operation
   loads rs = ap loaded (c .read-model .ensures ∙ ap (blockAt _ _) (c .before .read-unsigned .ensures))
 
-add-read-model : tie.Need-add-read-model
-add-read-model c = search needs
-
-add-read-unsigned : tie.Need-add-read-unsigned
-add-read-unsigned c = search needs
-
-read-unsigned-requires : tie.Need-read-unsigned-requires
-read-unsigned-requires c κs = search needs
-
-read-model-requires : tie.Need-read-model-requires
-read-model-requires c κs = search needs
-
-is-good-requires : tie.Need-is-good-requires
-is-good-requires c κs = search needs
-
-refused-requires : tie.Need-refused-requires
-refused-requires c κs = search needs
-
 returns : tie.Need-returns
 returns c =
     let d = c .before .before in
@@ -59,13 +41,6 @@ returns-2 c =
 
 pub load-spec : {M : Type 1} → statement M
 load-spec =
-    tie.close
-    (tie.spec
-    add-read-model
-    add-read-unsigned
-    read-unsigned-requires
-    read-model-requires
-    is-good-requires
-    refused-requires
-    returns
-    returns-2)
+    tie.close (tie.spec
+    (λ c. search needs) (λ c. search needs) (λ c κs. search needs) (λ c κs. search needs) (λ c κs. search needs)
+    (λ c κs. search needs) returns returns-2)

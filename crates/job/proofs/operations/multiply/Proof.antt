@@ -17,18 +17,6 @@ read-operands-requires : tie.Need-read-operands-requires
 unfolding makerAt
 read-operands-requires c κs = let p = c .before .pre in record { names = p .names; room = omega arith; long = p .long }
 
-add-kept-degree : tie.Need-add-kept-degree
-add-kept-degree c = search needs
-
-shared-slice-read-kept-degree : tie.Need-shared-slice-read-kept-degree
-shared-slice-read-kept-degree c = search needs
-
-kept-degree-requires : tie.Need-kept-degree-requires
-kept-degree-requires c κs = search needs
-
-multiply-requires : tie.Need-multiply-requires
-multiply-requires c κs = search needs
-
 returns : tie.Need-returns
 unfolding makerAt operation
 returns c =
@@ -44,11 +32,5 @@ returns c =
 
 pub multiply-spec : {M : Type 1} → statement M
 multiply-spec =
-    tie.close
-    (tie.spec
-    read-operands-requires
-    add-kept-degree
-    shared-slice-read-kept-degree
-    kept-degree-requires
-    multiply-requires
-    returns)
+    tie.close (tie.spec
+    read-operands-requires (λ c. search needs) (λ c. search needs) (λ c κs. search needs) (λ c κs. search needs) returns)

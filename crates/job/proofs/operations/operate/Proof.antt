@@ -5,40 +5,22 @@ use borrow.Author.Needs.{needs}
 use Rattle.job.proofs.operations.operate.Statement.{statement}
 use Rattle.job.proofs.operations.operate.Tie as tie
 
-enum-told : tie.Need-enum-told
-enum-told c = search needs
-
 load-requires : tie.Need-load-requires
 load-requires c κs = let o = rw (c .enum-told .given .1) at (c .before .before .before .pre .0) in omega (arith, o .room)
-
-enum-told-2 : tie.Need-enum-told-2
-enum-told-2 c = search needs
 
 add-requires : tie.Need-add-requires
 add-requires c κs = rw (c .enum-told2 .given .1) at (c .before .before .before .pre .0)
 
-enum-told-3 : tie.Need-enum-told-3
-enum-told-3 c = search needs
-
 subtract-requires : tie.Need-subtract-requires
 subtract-requires c κs = rw (c .enum-told3 .given .1) at (c .before .before .before .pre .0)
 
-enum-told-4 : tie.Need-enum-told-4
-enum-told-4 c = search needs
-
 multiply-requires : tie.Need-multiply-requires
 multiply-requires c κs = rw (c .enum-told4 .given .1) at (c .before .before .before .pre .0)
-
-enum-told-5 : tie.Need-enum-told-5
-enum-told-5 c = search needs
 
 quotient-requires : tie.Need-quotient-requires
 quotient-requires c κs =
     let p = c .before .before .before .before .pre in
     (rw (c .before .enum-told5 .given .1) at (p .0), p .1)
-
-enum-told-6 : tie.Need-enum-told-6
-enum-told-6 c = search needs
 
 root-requires : tie.Need-root-requires
 root-requires c κs =
@@ -57,39 +39,15 @@ returns-3 c = rw (c .before .enum-told3 .given .1) (c .subtract .ensures, refl)
 returns-4 : tie.Need-returns-4
 returns-4 c = rw (c .before .enum-told4 .given .1) (c .multiply .ensures, refl)
 
-same-length : tie.Need-same-length
-same-length c = search needs
-
 returns-5 : tie.Need-returns-5
 returns-5 c = rw (c .before .before .before .enum-told5 .given .1) (c .before .quotient .ensures)
-
-same-length-2 : tie.Need-same-length-2
-same-length-2 c = search needs
 
 returns-6 : tie.Need-returns-6
 returns-6 c = rw (c .before .before .before .enum-told6 .given .1) (c .before .root .ensures)
 
 pub operate-spec : {M : Type 1} → statement M
 operate-spec =
-    tie.close
-    (tie.spec
-    enum-told
-    load-requires
-    enum-told-2
-    add-requires
-    enum-told-3
-    subtract-requires
-    enum-told-4
-    multiply-requires
-    enum-told-5
-    quotient-requires
-    enum-told-6
-    root-requires
-    returns
-    returns-2
-    returns-3
-    returns-4
-    same-length
-    returns-5
-    same-length-2
-    returns-6)
+    tie.close (tie.spec
+    (λ c. search needs) load-requires (λ c. search needs) add-requires (λ c. search needs) subtract-requires
+    (λ c. search needs) multiply-requires (λ c. search needs) quotient-requires (λ c. search needs) root-requires returns
+    returns-2 returns-3 returns-4 (λ c. search needs) returns-5 (λ c. search needs) returns-6)

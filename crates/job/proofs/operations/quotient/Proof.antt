@@ -19,27 +19,6 @@ read-operands-requires : tie.Need-read-operands-requires
 unfolding makerAt
 read-operands-requires c κs = let p = c .before .pre .0 in record { names = p .names; room = omega arith; long = p .long }
 
-add-read-candidate : tie.Need-add-read-candidate
-add-read-candidate c = search needs
-
-read-candidate-requires : tie.Need-read-candidate-requires
-read-candidate-requires c κs = search needs
-
-add-read-candidate-2 : tie.Need-add-read-candidate-2
-add-read-candidate-2 c = search needs
-
-read-candidate-requires-2 : tie.Need-read-candidate-requires-2
-read-candidate-requires-2 c κs = search needs
-
-quotient-requires : tie.Need-quotient-requires
-quotient-requires c κs = search needs
-
-outcome-requires : tie.Need-outcome-requires
-outcome-requires c κs = search needs
-
-same-length : tie.Need-same-length
-same-length c = search needs
-
 returns : tie.Need-returns
 unfolding makerAt operation
 returns c =
@@ -69,14 +48,6 @@ returns c =
 
 pub quotient-spec : {M : Type 1} → statement M
 quotient-spec =
-    tie.close
-    (tie.spec
-    read-operands-requires
-    add-read-candidate
-    read-candidate-requires
-    add-read-candidate-2
-    read-candidate-requires-2
-    quotient-requires
-    outcome-requires
-    same-length
-    returns)
+    tie.close (tie.spec
+    read-operands-requires (λ c. search needs) (λ c κs. search needs) (λ c. search needs) (λ c κs. search needs)
+    (λ c κs. search needs) (λ c κs. search needs) (λ c. search needs) returns)

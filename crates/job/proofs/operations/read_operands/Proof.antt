@@ -14,14 +14,8 @@ named : (c : tie.Start)
     → (byteAt (now (c .args .job)) (c .args .at + 1) < maxResults) × (byteAt (now (c .args .job)) (c .args .at + 2) < maxResults)
 named c = both-below maxResults (byteAt (now (c .args .job)) (c .args .at + 1)) (byteAt (now (c .args .job)) (c .args .at + 2)) (c .pre .names)
 
-add-named : tie.Need-add-named
-add-named c = search needs
-
 named-requires : tie.Need-named-requires
 named-requires c κs = let b = named (c .before) in omega arith
-
-add-named-2 : tie.Need-add-named-2
-add-named-2 c = search needs
 
 named-requires-2 : tie.Need-named-requires-2
 named-requires-2 c κs = let b = named (c .before .before) in omega arith
@@ -30,4 +24,4 @@ returns : tie.Need-returns
 returns c = (c .before .named .ensures, c .named2 .ensures)
 
 pub read-operands-spec : {M : Type 1} → statement M
-read-operands-spec = tie.close (tie.spec add-named named-requires add-named-2 named-requires-2 returns)
+read-operands-spec = tie.close (tie.spec (λ c. search needs) named-requires (λ c. search needs) named-requires-2 returns)

@@ -15,36 +15,12 @@ use borrow.Author.Needs.{needs}
 use Rattle.job.proofs.operations.root.Statement.{statement}
 use Rattle.job.proofs.operations.root.Tie as tie
 
-add-named : tie.Need-add-named
-add-named c = search needs
-
 named-requires : tie.Need-named-requires
 unfolding makerAt
 named-requires c κs =
     let g = c .before .args in
     let b = leb-false maxResults (byteAt (now (g .job)) (g .at + 1)) (c .before .pre .0 .names) in
     omega (arith, b, c .before .pre .0 .room, c .before .pre .0 .long)
-
-add-read-candidate : tie.Need-add-read-candidate
-add-read-candidate c = search needs
-
-read-candidate-requires : tie.Need-read-candidate-requires
-read-candidate-requires c κs = search needs
-
-add-read-candidate-2 : tie.Need-add-read-candidate-2
-add-read-candidate-2 c = search needs
-
-read-candidate-requires-2 : tie.Need-read-candidate-requires-2
-read-candidate-requires-2 c κs = search needs
-
-root-requires : tie.Need-root-requires
-root-requires c κs = search needs
-
-outcome-requires : tie.Need-outcome-requires
-outcome-requires c κs = search needs
-
-same-length : tie.Need-same-length
-same-length c = search needs
 
 returns : tie.Need-returns
 unfolding makerAt operation
@@ -72,15 +48,6 @@ returns c =
 
 pub root-spec : {M : Type 1} → statement M
 root-spec =
-    tie.close
-    (tie.spec
-    add-named
-    named-requires
-    add-read-candidate
-    read-candidate-requires
-    add-read-candidate-2
-    read-candidate-requires-2
-    root-requires
-    outcome-requires
-    same-length
-    returns)
+    tie.close (tie.spec
+    (λ c. search needs) named-requires (λ c. search needs) (λ c κs. search needs) (λ c. search needs) (λ c κs. search needs)
+    (λ c κs. search needs) (λ c κs. search needs) (λ c. search needs) returns)

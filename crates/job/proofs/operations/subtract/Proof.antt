@@ -16,9 +16,6 @@ read-operands-requires : tie.Need-read-operands-requires
 unfolding makerAt
 read-operands-requires c κs = let p = c .before .pre in record { names = p .names; room = omega arith; long = p .long }
 
-subtract-requires : tie.Need-subtract-requires
-subtract-requires c κs = search needs
-
 returns : tie.Need-returns
 unfolding makerAt operation
 returns c =
@@ -29,4 +26,4 @@ returns c =
     held-two h subtraction _ _ (byteAt (now (g .job)) (g .at + 1)) (byteAt (now (g .job)) (g .at + 2)) (o .0) (o .1) n)
 
 pub subtract-spec : {M : Type 1} → statement M
-subtract-spec = tie.close (tie.spec read-operands-requires subtract-requires returns)
+subtract-spec = tie.close (tie.spec read-operands-requires (λ c κs. search needs) returns)

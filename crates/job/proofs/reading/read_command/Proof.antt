@@ -93,21 +93,9 @@ returns : tie.Need-returns
 unfolding readOutcome readingNumber readingPlaces firstRefusal
 returns c = simp (le-leb _ _ (c .if1 .taken))
 
-shared-slice-read-shape-of : tie.Need-shared-slice-read-shape-of
-shared-slice-read-shape-of c = search needs
-
-shape-of-requires : tie.Need-shape-of-requires
-shape-of-requires c κs = search needs
-
-is-bad-kind-requires : tie.Need-is-bad-kind-requires
-is-bad-kind-requires c κs = search needs
-
 returns-2 : tie.Need-returns-2
 unfolding firstRefusal
 returns-2 c = rw (left1 (c .before .before)) (simp (sym (c .before .is-bad-kind .ensures) ∙ c .if2 .taken))
-
-sub-if3 : tie.Need-sub-if3
-sub-if3 c = search needs
 
 returns-3 : tie.Need-returns-3
 unfolding firstRefusal
@@ -131,22 +119,10 @@ returns-5 : tie.Need-returns-5
 unfolding firstRefusal
 returns-5 c = rw (left4 (c .before .before)) (simp (sym (c .before .has-bad-names .ensures) ∙ c .if5 .taken))
 
-is-full-requires : tie.Need-is-full-requires
-is-full-requires c κs = search needs
-
 returns-6 : tie.Need-returns-6
 unfolding firstRefusal
 returns-6 c =
     rw (left5 (c .before .before)) (simp (sym (c .before .is-full .ensures) ∙ c .if6 .taken))
-
-add-next : tie.Need-add-next
-add-next c = search needs
-
-add-next-2 : tie.Need-add-next-2
-add-next-2 c = search needs
-
-is-too-long-requires : tie.Need-is-too-long-requires
-is-too-long-requires c κs = search needs
 
 returns-7 : tie.Need-returns-7
 unfolding firstRefusal
@@ -158,23 +134,7 @@ returns-8 c = rw (left6 (c .before .before .before)) (simp (sym (c .before .is-t
 
 pub read-command-spec : {M : Type 1} → statement M
 read-command-spec =
-    tie.close
-    (tie.spec
-    returns
-    shared-slice-read-shape-of
-    shape-of-requires
-    is-bad-kind-requires
-    returns-2
-    sub-if3
-    returns-3
-    has-bad-values-requires
-    returns-4
-    has-bad-names-requires
-    returns-5
-    is-full-requires
-    returns-6
-    add-next
-    add-next-2
-    is-too-long-requires
-    returns-7
-    returns-8)
+    tie.close (tie.spec
+    returns (λ c. search needs) (λ c κs. search needs) (λ c κs. search needs) returns-2 (λ c. search needs) returns-3
+    has-bad-values-requires returns-4 has-bad-names-requires returns-5 (λ c κs. search needs) returns-6 (λ c. search needs)
+    (λ c. search needs) (λ c κs. search needs) returns-7 returns-8)

@@ -16,12 +16,6 @@ returns-2 c =
     let g = c .before .before .before .args in
     short-scratch (now (g .job)) (now (g .work)) (now (g .scratch)) (c .before .if1 .left) (c .if2 .taken)
 
-clear-work-requires : tie.Need-clear-work-requires
-clear-work-requires c κs = search needs
-
-clear-scratch-requires : tie.Need-clear-scratch-requires
-clear-scratch-requires c κs = search needs
-
 run-requires : tie.Need-run-requires
 run-requires c κs =
     let d = c .before .before .before in
@@ -36,12 +30,6 @@ run-requires c κs =
             (omega (arith, d .clear-scratch .kept .0, e .before .before .if2 .left)),
       ),
     )
-
-same-length : tie.Need-same-length
-same-length c = search needs
-
-same-length-2 : tie.Need-same-length-2
-same-length-2 c = search needs
 
 returns-3 : tie.Need-returns-3
 returns-3 c =
@@ -58,13 +46,6 @@ returns-3 c =
 
 pub check-spec : {M : Type 1} → statement M
 check-spec =
-    tie.close
-    (tie.spec
-    returns
-    returns-2
-    clear-work-requires
-    clear-scratch-requires
-    run-requires
-    same-length
-    same-length-2
+    tie.close (tie.spec
+    returns returns-2 (λ c κs. search needs) (λ c κs. search needs) run-requires (λ c. search needs) (λ c. search needs)
     returns-3)

@@ -70,12 +70,6 @@ step-requires c κs =
     let i = c .before .before .loop .inv in
     (omega (arith, i .0 .long, i .0 .same), (i .0 .few, subst⁻¹ Clear (i .1 .0) (i .1 .1)))
 
-enum-known-done : tie.Need-enum-known-done Inv-loop μ-loop
-enum-known-done c = search needs
-
-add-k : tie.Need-add-k Inv-loop μ-loop
-add-k c = search needs
-
 again : (c : tie.After-known-told Inv-loop μ-loop)
     → (at (c .before .before .before) < c .before .done .given .0 .0)
     × Going (job (c .before .before .before)) (now (begun (c .before .before .before) .args .work))
@@ -95,34 +89,16 @@ loop-again c =
     let s = c .before .before .before in
     (again c .1, (unchanged s, turn s .before .before .before .loop .inv .1 .1))
 
-enum-told : tie.Need-enum-told Inv-loop μ-loop
-enum-told c = search needs
-
-same-length : tie.Need-same-length Inv-loop μ-loop
-same-length c = search needs
-
-same-length-2 : tie.Need-same-length-2 Inv-loop μ-loop
-same-length-2 c = search needs
-
 returns : tie.Need-returns Inv-loop μ-loop
 returns c =
     let s = c .before .before in
     let r = going-ends (going s) (work s) (stepped s) refl (subst (Does s) (c .enum-told .given .1) (does s)) in
     (r .answer, (r .work-is, (unchanged s, r .vouched)))
 
-enum-known-done-2 : tie.Need-enum-known-done-2 Inv-loop μ-loop
-enum-known-done-2 c = search needs
-
 clear-work-requires : tie.Need-clear-work-requires Inv-loop μ-loop
 clear-work-requires c κs =
     let s = c .before .before .before .before in
     omega (arith, turn s .step .kept .1 .1 .1 .1 .0, going s .same, going s .long)
-
-same-length-3 : tie.Need-same-length-3 Inv-loop μ-loop
-same-length-3 c = search needs
-
-same-length-4 : tie.Need-same-length-4 Inv-loop μ-loop
-same-length-4 c = search needs
 
 returns-2 : tie.Need-returns-2 Inv-loop μ-loop
 returns-2 c =
@@ -135,22 +111,7 @@ returns-2 c =
 
 pub run-spec : {M : Type 1} → statement M
 run-spec =
-    tie.close
-    (tie.spec
-    Inv-loop
-    μ-loop
-    loop-holds
-    step-requires
-    enum-known-done
-    add-k
-    loop-less
-    loop-again
-    enum-told
-    same-length
-    same-length-2
-    returns
-    enum-known-done-2
-    clear-work-requires
-    same-length-3
-    same-length-4
-    returns-2)
+    tie.close (tie.spec
+    Inv-loop μ-loop loop-holds step-requires (λ c. search needs) (λ c. search needs) loop-less loop-again (λ c. search needs)
+    (λ c. search needs) (λ c. search needs) returns (λ c. search needs) clear-work-requires (λ c. search needs)
+    (λ c. search needs) returns-2)

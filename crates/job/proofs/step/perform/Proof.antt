@@ -23,15 +23,6 @@ known : (c : tie.Start) (r : Done) (work : List ℤ) (kind : Kind) → c .args .
     → StepsBy r (now (c .args .work)) work (c .args .count) (λ rs. performed (commandAt (c .args .kind) (now (c .args .job)) (c .args .at)) rs (c .args .next))
 known c r work kind e f = rw e f
 
-enum-told : tie.Need-enum-told
-enum-told c = search needs
-
-enum-told-2 : tie.Need-enum-told-2
-enum-told-2 c = search needs
-
-enum-known-kind : tie.Need-enum-known-kind
-enum-known-kind c = search needs
-
 operate-requires : tie.Need-operate-requires
 operate-requires c κs =
     let q = c .before .before .before in
@@ -57,9 +48,6 @@ add-result-requires c κs =
     let p = rw (k .1) at (s .pre .0) in
     (p .long, (leb-false maxResults (g .count) (p .space), d .operate .ensures .0 .storable))
 
-enum-told-3 : tie.Need-enum-told-3
-enum-told-3 c = search needs
-
 returns : tie.Need-returns
 returns c =
     let s = c .before .before .before in
@@ -73,12 +61,6 @@ returns-2 c =
           (λ rs t h. record { answer = ap (onward (g .next)) (h .count-is); holds = counted h }),
       refl,
     )
-
-same-length : tie.Need-same-length
-same-length c = search needs
-
-same-length-2 : tie.Need-same-length-2
-same-length-2 c = search needs
 
 returns-3 : tie.Need-returns-3
 returns-3 c =
@@ -104,17 +86,6 @@ returns-4 c =
 
 pub perform-spec : {M : Type 1} → statement M
 perform-spec =
-    tie.close
-    (tie.spec
-    enum-told
-    enum-told-2
-    enum-known-kind
-    operate-requires
-    add-result-requires
-    enum-told-3
-    returns
-    returns-2
-    same-length
-    same-length-2
-    returns-3
-    returns-4)
+    tie.close (tie.spec
+    (λ c. search needs) (λ c. search needs) (λ c. search needs) operate-requires add-result-requires (λ c. search needs)
+    returns returns-2 (λ c. search needs) (λ c. search needs) returns-3 returns-4)

@@ -11,15 +11,6 @@ use borrow.Author.Needs.{needs}
 use Rattle.job.proofs.step.step.Statement.{statement}
 use Rattle.job.proofs.step.step.Tie as tie
 
-read-next-requires : tie.Need-read-next-requires
-read-next-requires c κs = search needs
-
-enum-known-read : tie.Need-enum-known-read
-enum-known-read c = search needs
-
-enum-known-read-2 : tie.Need-enum-known-read-2
-enum-known-read-2 c = search needs
-
 perform-requires : tie.Need-perform-requires
 perform-requires c κs =
     let d = c .before .before .before in
@@ -43,12 +34,6 @@ returns c =
       refl,
     )
 
-same-length : tie.Need-same-length
-same-length c = search needs
-
-same-length-2 : tie.Need-same-length-2
-same-length-2 c = search needs
-
 returns-2 : tie.Need-returns-2
 returns-2 c =
     let p = c .before .before in
@@ -64,13 +49,6 @@ returns-2 c =
 
 pub step-spec : {M : Type 1} → statement M
 step-spec =
-    tie.close
-    (tie.spec
-    read-next-requires
-    enum-known-read
-    enum-known-read-2
-    perform-requires
-    returns
-    same-length
-    same-length-2
-    returns-2)
+    tie.close (tie.spec
+    (λ c κs. search needs) (λ c. search needs) (λ c. search needs) perform-requires returns (λ c. search needs)
+    (λ c. search needs) returns-2)

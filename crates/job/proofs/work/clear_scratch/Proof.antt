@@ -16,18 +16,6 @@ abbrev μ-loop : tie.MeasureT-loop
 loop-holds : tie.Need-loop-holds Inv-loop μ-loop
 loop-holds c = clearing-begins scratchPlaces _ (c .pre)
 
-mul-scratch : tie.Need-mul-scratch Inv-loop μ-loop
-mul-scratch c = search needs
-
-slice-set-of-scratch : tie.Need-slice-set-of-scratch Inv-loop μ-loop
-slice-set-of-scratch c = search needs
-
-add-i : tie.Need-add-i Inv-loop μ-loop
-add-i c = search needs
-
-loop-less : tie.Need-loop-less Inv-loop μ-loop
-loop-less c = search needs
-
 loop-again : tie.Need-loop-again Inv-loop μ-loop
 loop-again c = clearing-turn (c .before .loop .inv) (c .loop-test .taken)
 
@@ -39,15 +27,6 @@ returns c = ends (c .before .loop .inv) (c .loop-test .left)
 
 pub clear-scratch-spec : {M : Type 1} → statement M
 clear-scratch-spec =
-    tie.close
-    (tie.spec
-    Inv-loop
-    μ-loop
-    loop-holds
-    mul-scratch
-    slice-set-of-scratch
-    add-i
-    loop-less
-    loop-again
-    same-length
-    returns)
+    tie.close (tie.spec
+    Inv-loop μ-loop loop-holds (λ c. search needs) (λ c. search needs) (λ c. search needs) (λ c. search needs) loop-again
+    same-length returns)

@@ -34,18 +34,6 @@ Inv-loop a b sign coefficients₀ weight₀ i₀ coefficients total i = Walked (
 abbrev μ-loop : tie.MeasureT-loop
 μ-loop a b sign coefficients₀ weight₀ i₀ coefficients total i = 33 - i
 
-mul-c : tie.Need-mul-c Inv-loop μ-loop
-mul-c c = search signed-needs
-
-element-copy-out-c : tie.Need-element-copy-out-c Inv-loop μ-loop
-element-copy-out-c c = search signed-needs
-
-mul-c-2 : tie.Need-mul-c-2 Inv-loop μ-loop
-mul-c-2 c = search signed-needs
-
-element-copy-out-c-2 : tie.Need-element-copy-out-c-2 Inv-loop μ-loop
-element-copy-out-c-2 c = search signed-needs
-
 loop-holds : tie.Need-loop-holds Inv-loop μ-loop
 loop-holds c =
     rw (toZ-ofZ (c .fits .sign)) (record {
@@ -118,17 +106,8 @@ mul-c-3 c = simp (toZ-ofZ (fits-s c), toZ-ofZ (fits-y c)) (fits-sy c)
 add-c : tie.Need-add-c Inv-loop μ-loop
 add-c c = simp (toZ-ofZ (fits-s c), toZ-ofZ (fits-x c), toZ-ofZ (fits-y c), toZ-ofZ (fits-sy c)) (fits-v c)
 
-mul-coefficients : tie.Need-mul-coefficients Inv-loop μ-loop
-mul-coefficients c = search signed-needs
-
-array-set-from-coefficients : tie.Need-array-set-from-coefficients Inv-loop μ-loop
-array-set-from-coefficients c = search signed-needs
-
 cast-magnitude : tie.Need-cast-magnitude Inv-loop μ-loop
 cast-magnitude c = rw (v-reads c) (fits-widens (fits-v c))
-
-magnitude-requires : tie.Need-magnitude-requires Inv-loop μ-loop
-magnitude-requires c κs = tt
 
 -- what the turn adds to the weight
 weighed : (m : tie.After-magnitude Inv-loop μ-loop) → let l = l (m .before) in weight (drop (i l) (z l)) ≡ m .magnitude .result + weight (drop (i l + 1) (z l))
@@ -139,12 +118,6 @@ weighed m =
 
 add-weight : tie.Need-add-weight Inv-loop μ-loop
 add-weight m = let l = l (m .before) in omega (arith, weighed m, z-weight l, inv l .rest)
-
-add-i : tie.Need-add-i Inv-loop μ-loop
-add-i c = omega arith
-
-loop-less : tie.Need-loop-less Inv-loop μ-loop
-loop-less c = omega arith
 
 loop-again : tie.Need-loop-again Inv-loop μ-loop
 loop-again m =
@@ -163,23 +136,7 @@ returns c =
 
 pub combine-spec : {M : Type 1} → statement M
 combine-spec =
-    tie.close
-    (tie.spec
-    Inv-loop
-    μ-loop
-    loop-holds
-    mul-c
-    element-copy-out-c
-    mul-c-2
-    element-copy-out-c-2
-    mul-c-3
-    add-c
-    mul-coefficients
-    array-set-from-coefficients
-    cast-magnitude
-    magnitude-requires
-    add-weight
-    add-i
-    loop-less
-    loop-again
-    returns)
+    tie.close (tie.spec
+    Inv-loop μ-loop loop-holds (λ c. search signed-needs) (λ c. search signed-needs) (λ c. search signed-needs)
+    (λ c. search signed-needs) mul-c-3 add-c (λ c. search signed-needs) (λ c. search signed-needs) cast-magnitude (λ c κs. tt)
+    add-weight (λ c. omega arith) (λ c. omega arith) loop-again returns)

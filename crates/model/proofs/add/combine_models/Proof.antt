@@ -16,23 +16,11 @@ use Rattle.model.specs.declared.types.Model.{Model}
 use Rattle.model.proofs.add.combine_models.Statement.{statement}
 use Rattle.model.proofs.add.combine_models.Tie as tie
 
-is-good-requires : tie.Need-is-good-requires
-is-good-requires c κs = search needs
-
-refused-requires : tie.Need-refused-requires
-refused-requires c κs = search needs
-
 returns : tie.Need-returns
 unfolding combination outcome firstRefusal
 returns c =
     let g = c .before .before .is-good in
     rw (c .refused .ensures, ← (g .ensures), not-true (g .result) (c .before .if1 .taken))
-
-is-good-requires-2 : tie.Need-is-good-requires-2
-is-good-requires-2 c κs = search needs
-
-refused-requires-2 : tie.Need-refused-requires-2
-refused-requires-2 c κs = search needs
 
 module _ (c : tie.Else1) where
   abbrev s : tie.Start
@@ -64,18 +52,6 @@ combine-requires c κs =
     let lb : length (b e .coefficients) ≡ 33 = search needs in
     simp (toZ-ofZ (s e .fits .sign)) ((la, lb), (good-is (a e) (good-a e) .weight-fits, good-is (b e) (good-b d) .weight-fits, s e .pre))
 
-cast-radius : tie.Need-cast-radius
-cast-radius c = search needs
-
-cast-radius-2 : tie.Need-cast-radius-2
-cast-radius-2 c = search needs
-
-add-radius : tie.Need-add-radius
-add-radius c = search needs
-
-formed-requires : tie.Need-formed-requires
-formed-requires c κs = search needs
-
 returns-3 : tie.Need-returns-3
 unfolding combinedModel
 returns-3 c =
@@ -94,17 +70,6 @@ returns-3 c =
 
 pub combine-models-spec : {M : Type 1} → statement M
 combine-models-spec =
-    tie.close
-    (tie.spec
-    is-good-requires
-    refused-requires
-    returns
-    is-good-requires-2
-    refused-requires-2
-    returns-2
-    combine-requires
-    cast-radius
-    cast-radius-2
-    add-radius
-    formed-requires
-    returns-3)
+    tie.close (tie.spec
+    (λ c κs. search needs) (λ c κs. search needs) returns (λ c κs. search needs) (λ c κs. search needs) returns-2
+    combine-requires (λ c. search needs) (λ c. search needs) (λ c. search needs) (λ c κs. search needs) returns-3)

@@ -17,15 +17,6 @@ slice-aggregate-read-candidate c = simp length-take (omega arith)
 read-candidate-requires : tie.Need-read-candidate-requires
 read-candidate-requires c κs = simp length-take (omega arith)
 
-shared-slice-copy-out-unsigned : tie.Need-shared-slice-copy-out-unsigned
-shared-slice-copy-out-unsigned c = search needs
-
-unsigned-requires : tie.Need-unsigned-requires
-unsigned-requires c κs = search needs
-
-new-requires : tie.Need-new-requires
-new-requires c κs = search needs
-
 returns : tie.Need-returns
 returns c =
     let d = c .before .before .before in
@@ -37,11 +28,6 @@ returns c =
 
 pub read-spec : {M : Type 1} → statement M
 read-spec =
-    tie.close
-    (tie.spec
-    slice-aggregate-read-candidate
-    read-candidate-requires
-    shared-slice-copy-out-unsigned
-    unsigned-requires
-    new-requires
+    tie.close (tie.spec
+    slice-aggregate-read-candidate read-candidate-requires (λ c. search needs) (λ c κs. search needs) (λ c κs. search needs)
     returns)

@@ -11,27 +11,6 @@ use Rattle.model.specs.Areas.{unsignedOf}
 use Rattle.model.proofs.area.read_candidate.Statement.{statement}
 use Rattle.model.proofs.area.read_candidate.Tie as tie
 
-sub-copy : tie.Need-sub-copy
-sub-copy c = search needs
-
-part-copy-start : tie.Need-part-copy-start
-part-copy-start c = search needs
-
-part-copy-end : tie.Need-part-copy-end
-part-copy-end c = search needs
-
-slice-aggregate-copy : tie.Need-slice-aggregate-copy
-slice-aggregate-copy c = search needs
-
-copy-requires : tie.Need-copy-requires
-copy-requires c κs = search needs
-
-shared-slice-copy-out-unsigned : tie.Need-shared-slice-copy-out-unsigned
-shared-slice-copy-out-unsigned c = search needs
-
-unsigned-requires : tie.Need-unsigned-requires
-unsigned-requires c κs = search needs
-
 returns : tie.Need-returns
 returns c =
     let d = c .before .before .before in
@@ -43,13 +22,6 @@ returns c =
 
 pub read-candidate-spec : {M : Type 1} → statement M
 read-candidate-spec =
-    tie.close
-    (tie.spec
-    sub-copy
-    part-copy-start
-    part-copy-end
-    slice-aggregate-copy
-    copy-requires
-    shared-slice-copy-out-unsigned
-    unsigned-requires
-    returns)
+    tie.close (tie.spec
+    (λ c. search needs) (λ c. search needs) (λ c. search needs) (λ c. search needs) (λ c κs. search needs) (λ c. search needs)
+    (λ c κs. search needs) returns)

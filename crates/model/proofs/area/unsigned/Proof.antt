@@ -15,12 +15,6 @@ use Rattle.model.specs.Areas.{unsignedOf}
 use Rattle.model.proofs.area.unsigned.Statement.{statement}
 use Rattle.model.proofs.area.unsigned.Tie as tie
 
-cast-magnitude : tie.Need-cast-magnitude
-cast-magnitude c = search signed-needs
-
-magnitude-requires : tie.Need-magnitude-requires
-magnitude-requires c κs = search needs
-
 module _ (c : tie.After-magnitude) where
   abbrev x : ℤ
   x = c .before .args .x
@@ -62,12 +56,5 @@ returns-2 c = rw (size (c .before)) (natural (x (c .before)) (sign (c .before) f
 
 pub unsigned-spec : {M : Type 1} → statement M
 unsigned-spec =
-    tie.close
-    (tie.spec
-    cast-magnitude
-    magnitude-requires
-    sub-result
-    cast-result
-    cast-result-2
-    returns
-    returns-2)
+    tie.close (tie.spec
+    (λ c. search signed-needs) (λ c κs. search needs) sub-result cast-result cast-result-2 returns returns-2)

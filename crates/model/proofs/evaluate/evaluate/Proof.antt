@@ -85,18 +85,6 @@ module _ (u : tie.After-up) where
   up-is : u .up .result ≡ up (pos 4 *ℤ v k₂ +ℤ pos (w k₂)) (2 ^ 32)
   up-is = let n = sums k₂ in simp (toZ-ofZ (fits-value n), toZ-ofZ (fits-fourfold n), error-word n, toZ-ofZ (fits-above n)) at (u .up .ensures)
 
-is-good-requires : tie.Need-is-good-requires
-is-good-requires c κs = search needs
-
-cast-point : tie.Need-cast-point
-cast-point c = search signed-needs
-
-magnitude-requires : tie.Need-magnitude-requires
-magnitude-requires c κs = search needs
-
-cast-if2 : tie.Need-cast-if2
-cast-if2 c = search needs
-
 point-sums-requires : tie.Need-point-sums-requires
 point-sums-requires k κs =
     let m = k .before .before .before in
@@ -110,23 +98,14 @@ mul-value c = let n = sums (c .before .before) in simp (toZ-ofZ (fits-value n)) 
 cast-error : tie.Need-cast-error
 cast-error c = abs-fits w64 _ (omega (arith, error-small (sums (c .before .before .before))))
 
-cast-radius : tie.Need-cast-radius
-cast-radius c = search needs
-
 sub-floor : tie.Need-sub-floor
 sub-floor c = let n = sums (c .before .before .before) in simp (toZ-ofZ (fits-value n), toZ-ofZ (fits-fourfold n), error-word n) (fits-below n)
-
-floor-requires : tie.Need-floor-requires
-floor-requires c κs = search needs
 
 sub-low : tie.Need-sub-low
 sub-low c = let n = sums (k₁ c) in simp (toZ-ofZ (fits-floor c), radius-word n) (low n _ (floor-is c) .0)
 
 add-up : tie.Need-add-up
 add-up c = let n = sums (k₁ c) in simp (toZ-ofZ (fits-value n), toZ-ofZ (fits-fourfold n), error-word n) (fits-above n)
-
-up-requires : tie.Need-up-requires
-up-requires c κs = search needs
 
 add-high : tie.Need-add-high
 add-high c = let n = sums (k₂ c) in simp (toZ-ofZ (fits-up c), radius-word n) (high n _ (up-is c) .0)
@@ -150,22 +129,7 @@ returns-3 c = rw (sym (c .before .is-good .ensures) ∙ c .if1 .left)
 
 pub evaluate-spec : {M : Type 1} → statement M
 evaluate-spec =
-    tie.close
-    (tie.spec
-    is-good-requires
-    cast-point
-    magnitude-requires
-    cast-if2
-    point-sums-requires
-    mul-value
-    cast-error
-    cast-radius
-    sub-floor
-    floor-requires
-    sub-low
-    add-up
-    up-requires
-    add-high
-    returns
-    returns-2
-    returns-3)
+    tie.close (tie.spec
+    (λ c κs. search needs) (λ c. search signed-needs) (λ c κs. search needs) (λ c. search needs) point-sums-requires mul-value
+    cast-error (λ c. search needs) sub-floor (λ c κs. search needs) sub-low add-up (λ c κs. search needs) add-high returns
+    returns-2 returns-3)

@@ -144,17 +144,11 @@ mul-c c = omega (arith, s (c .before) .pre .0)
 element-copy-out-c : tie.Need-element-copy-out-c Inv-loop μ-loop
 element-copy-out-c c = omega (arith, s (c .before) .pre .0)
 
-cast-c : tie.Need-cast-c Inv-loop μ-loop
-cast-c c = search signed-needs
-
 mul-value : tie.Need-mul-value Inv-loop μ-loop
 mul-value c = simp (toZ-ofZ (fits-32 c), toZ-ofZ (fits-64 c)) (fits-term c)
 
 add-value : tie.Need-add-value Inv-loop μ-loop
 add-value c = simp (toZ-ofZ (fits-32 c), toZ-ofZ (fits-64 c), toZ-ofZ (fits-term c)) (fits-sum c)
-
-magnitude-requires : tie.Need-magnitude-requires Inv-loop μ-loop
-magnitude-requires c κs = tt
 
 mul-error : tie.Need-mul-error Inv-loop μ-loop
 mul-error m =
@@ -185,9 +179,6 @@ sub-after n = simp (toZ-ofZ (fits-near n)) (fits-after n)
 add-k : tie.Need-add-k Inv-loop μ-loop
 add-k n = omega (arith, s (l (c n)) .pre .0)
 
-loop-less : tie.Need-loop-less Inv-loop μ-loop
-loop-less c = omega arith
-
 loop-again : tie.Need-loop-again Inv-loop μ-loop
 loop-again n =
     let c = c n in
@@ -198,27 +189,7 @@ returns c = ends (walk (c .before)) (omega (arith, length-cs (s (c .before))))
 
 pub point-sums-spec : {M : Type 1} → statement M
 point-sums-spec =
-    tie.close
-    (tie.spec
-    Inv-loop
-    μ-loop
-    mul-next
-    loop-holds
-    mul-c
-    element-copy-out-c
-    cast-c
-    mul-value
-    add-value
-    magnitude-requires
-    mul-error
-    sub-error
-    mul-error-2
-    add-error
-    mul-near
-    mul-near-2
-    near-requires
-    sub-after
-    add-k
-    loop-less
-    loop-again
+    tie.close (tie.spec
+    Inv-loop μ-loop mul-next loop-holds mul-c element-copy-out-c (λ c. search signed-needs) mul-value add-value (λ c κs. tt)
+    mul-error sub-error mul-error-2 add-error mul-near mul-near-2 near-requires sub-after add-k (λ c. omega arith) loop-again
     returns)

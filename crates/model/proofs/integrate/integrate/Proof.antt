@@ -56,17 +56,8 @@ module _ (r : tie.After-rounded-integral) where
   weight-is : r .rounded-integral .result .weight ≡ weight (integralModel (a (c d)) .coefficients)
   weight-is = (simp (toZ-ofZ (fits-x d), toZ-ofZ (fits-double d)) at (r .rounded-integral .ensures .1)) ∙ ap weight (integral-doubled (a (c d)))
 
-is-good-requires : tie.Need-is-good-requires
-is-good-requires c κs = search needs
-
-array-copy-out-doubled : tie.Need-array-copy-out-doubled
-array-copy-out-doubled c = search needs
-
 mul-doubled : tie.Need-mul-doubled
 mul-doubled d = simp (toZ-ofZ (fits-x d)) (fits-double d)
-
-array-set-from-doubled : tie.Need-array-set-from-doubled
-array-set-from-doubled c = search needs
 
 rounded-integral-requires : tie.Need-rounded-integral-requires
 rounded-integral-requires k κs =
@@ -76,33 +67,6 @@ rounded-integral-requires k κs =
       omega arith,
       omega (arith, weight-doubled (a (c d) .coefficients), is-good (c d) .weight-fits),
     )
-
-cast-radius : tie.Need-cast-radius
-cast-radius c = search needs
-
-mul-radius : tie.Need-mul-radius
-mul-radius c = search needs
-
-cast-radius-2 : tie.Need-cast-radius-2
-cast-radius-2 c = search needs
-
-add-radius : tie.Need-add-radius
-add-radius c = search needs
-
-add-radius-2 : tie.Need-add-radius-2
-add-radius-2 c = search needs
-
-add-formed : tie.Need-add-formed
-add-formed c = search needs
-
-formed-requires : tie.Need-formed-requires
-formed-requires c κs = search needs
-
-refused-requires : tie.Need-refused-requires
-refused-requires c κs = search needs
-
-refused-requires-2 : tie.Need-refused-requires-2
-refused-requires-2 c κs = search needs
 
 returns : tie.Need-returns
 returns k =
@@ -119,22 +83,7 @@ returns-3 c = ap outcomeOf (c .refused2 .ensures) ∙ rw (sym (c .before .before
 
 pub integrate-spec : {M : Type 1} → statement M
 integrate-spec =
-    tie.close
-    (tie.spec
-    is-good-requires
-    array-copy-out-doubled
-    mul-doubled
-    array-set-from-doubled
-    rounded-integral-requires
-    cast-radius
-    mul-radius
-    cast-radius-2
-    add-radius
-    add-radius-2
-    add-formed
-    formed-requires
-    refused-requires
-    refused-requires-2
-    returns
-    returns-2
-    returns-3)
+    tie.close (tie.spec
+    (λ c κs. search needs) (λ c. search needs) mul-doubled (λ c. search needs) rounded-integral-requires (λ c. search needs)
+    (λ c. search needs) (λ c. search needs) (λ c. search needs) (λ c. search needs) (λ c. search needs) (λ c κs. search needs)
+    (λ c κs. search needs) (λ c κs. search needs) returns returns-2 returns-3)

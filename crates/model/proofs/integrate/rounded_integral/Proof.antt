@@ -117,17 +117,11 @@ add-k c = omega (arith, c .pre)
 loop-holds : tie.Need-loop-holds Inv-loop μ-loop
 loop-holds c = begins (ds c) (c .args .degree + 1) (length-ds c) (omega (arith, c .pre))
 
-sub-below : tie.Need-sub-below Inv-loop μ-loop
-sub-below c = omega arith
-
 mul-below : tie.Need-mul-below Inv-loop μ-loop
 mul-below c = omega (arith, inside (c .before), s (c .before) .pre)
 
 element-copy-out-below : tie.Need-element-copy-out-below Inv-loop μ-loop
 element-copy-out-below c = omega (arith, inside (c .before), s (c .before) .pre)
-
-cast-below : tie.Need-cast-below Inv-loop μ-loop
-cast-below c = search signed-needs
 
 sub-near : tie.Need-sub-near Inv-loop μ-loop
 sub-near b = simp (toZ-ofZ (fits-32 b), toZ-ofZ (fits-64 b)) (fits-numerator b)
@@ -150,20 +144,11 @@ mul-coefficients n = omega (arith, inside (at n), s (at n) .pre)
 array-set-from-coefficients : tie.Need-array-set-from-coefficients Inv-loop μ-loop
 array-set-from-coefficients n = omega (arith, inside (at n), s (at n) .pre)
 
-magnitude-requires : tie.Need-magnitude-requires Inv-loop μ-loop
-magnitude-requires c κs = tt
-
 add-weight : tie.Need-add-weight Inv-loop μ-loop
 add-weight m = let n = m .before in omega (arith, small (after n _ (size-is m)) (light (s (at n))) .total-small)
 
 sub-first : tie.Need-sub-first Inv-loop μ-loop
 sub-first m = simp (toZ-ofZ (fits-c (m .before))) (fits-first (m .before))
-
-sub-k : tie.Need-sub-k Inv-loop μ-loop
-sub-k m = omega arith
-
-loop-less : tie.Need-loop-less Inv-loop μ-loop
-loop-less m = omega arith
 
 loop-again : tie.Need-loop-again Inv-loop μ-loop
 loop-again m =
@@ -180,12 +165,6 @@ module _ (e : tie.After-loop Inv-loop μ-loop) where
 cast-coefficients-2 : tie.Need-cast-coefficients-2 Inv-loop μ-loop
 cast-coefficients-2 e = fits-first-32 e
 
-array-set-from-coefficients-2 : tie.Need-array-set-from-coefficients-2 Inv-loop μ-loop
-array-set-from-coefficients-2 e = omega arith
-
-magnitude-requires-2 : tie.Need-magnitude-requires-2 Inv-loop μ-loop
-magnitude-requires-2 c κs = tt
-
 add-weight-2 : tie.Need-add-weight-2 Inv-loop μ-loop
 add-weight-2 z = omega (arith, now-small (z .before .before), z .magnitude2 .ensures)
 
@@ -197,31 +176,8 @@ returns z =
 
 pub rounded-integral-spec : {M : Type 1} → statement M
 rounded-integral-spec =
-    tie.close
-    (tie.spec
-    Inv-loop
-    μ-loop
-    add-k
-    loop-holds
-    sub-below
-    mul-below
-    element-copy-out-below
-    cast-below
-    sub-near
-    mul-near
-    cast-near
-    near-requires
-    cast-coefficients
-    mul-coefficients
-    array-set-from-coefficients
-    magnitude-requires
-    add-weight
-    sub-first
-    sub-k
-    loop-less
-    loop-again
-    cast-coefficients-2
-    array-set-from-coefficients-2
-    magnitude-requires-2
-    add-weight-2
+    tie.close (tie.spec
+    Inv-loop μ-loop add-k loop-holds (λ c. omega arith) mul-below element-copy-out-below (λ c. search signed-needs) sub-near
+    mul-near cast-near near-requires cast-coefficients mul-coefficients array-set-from-coefficients (λ c κs. tt) add-weight
+    sub-first (λ m. omega arith) (λ m. omega arith) loop-again cast-coefficients-2 (λ e. omega arith) (λ c κs. tt) add-weight-2
     returns)

@@ -19,18 +19,6 @@ Inv-loop c total₀ i₀ total i = (i ≤ length c) × (total + weight (drop i c
 abbrev μ-loop : tie.MeasureT-loop
 μ-loop c total₀ i₀ total i = length c - i
 
-loop-holds : tie.Need-loop-holds Inv-loop μ-loop
-loop-holds c = omega arith
-
-mul-magnitude : tie.Need-mul-magnitude Inv-loop μ-loop
-mul-magnitude c = search signed-needs
-
-shared-slice-copy-out-magnitude : tie.Need-shared-slice-copy-out-magnitude Inv-loop μ-loop
-shared-slice-copy-out-magnitude c = search signed-needs
-
-magnitude-requires : tie.Need-magnitude-requires Inv-loop μ-loop
-magnitude-requires c κs = tt
-
 -- what a turn adds
 turn : (c : tie.After-magnitude Inv-loop μ-loop) →
     let l = c .before .before .before in
@@ -45,12 +33,6 @@ turn c =
 add-total : tie.Need-add-total Inv-loop μ-loop
 add-total c = omega (arith, turn c, c .before .before .before .before .pre)
 
-add-i : tie.Need-add-i Inv-loop μ-loop
-add-i c = omega arith
-
-loop-less : tie.Need-loop-less Inv-loop μ-loop
-loop-less c = omega arith
-
 loop-again : tie.Need-loop-again Inv-loop μ-loop
 loop-again c = omega (arith, turn c)
 
@@ -59,16 +41,6 @@ returns c = let l = c .before in omega (arith, weight-end (l .before .args .c .n
 
 pub weigh-spec : {M : Type 1} → statement M
 weigh-spec =
-    tie.close
-    (tie.spec
-    Inv-loop
-    μ-loop
-    loop-holds
-    mul-magnitude
-    shared-slice-copy-out-magnitude
-    magnitude-requires
-    add-total
-    add-i
-    loop-less
-    loop-again
-    returns)
+    tie.close (tie.spec
+    Inv-loop μ-loop (λ c. omega arith) (λ c. search signed-needs) (λ c. search signed-needs) (λ c κs. tt) add-total
+    (λ c. omega arith) (λ c. omega arith) loop-again returns)

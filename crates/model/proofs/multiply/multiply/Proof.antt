@@ -14,23 +14,11 @@ use Rattle.model.specs.declared.types.Model.{Model}
 use Rattle.model.proofs.multiply.multiply.Statement.{statement}
 use Rattle.model.proofs.multiply.multiply.Tie as tie
 
-measure-requires : tie.Need-measure-requires
-measure-requires c κs = search needs
-
-refused-requires : tie.Need-refused-requires
-refused-requires c κs = search needs
-
 returns : tie.Need-returns
 unfolding multiplication outcome firstRefusal
 returns c =
     let m = c .before .before .before .measure in
     rw (c .refused .ensures, ← (m .ensures .0), not-true (m .result .good) (c .before .if1 .taken))
-
-measure-requires-2 : tie.Need-measure-requires-2
-measure-requires-2 c κs = search needs
-
-refused-requires-2 : tie.Need-refused-requires-2
-refused-requires-2 c κs = search needs
 
 module _ (c : tie.Else1) where
   abbrev s : tie.Start
@@ -64,9 +52,6 @@ degree-is j =
     let d = s (e (j .before)) .args .kept in
     ⊎-elim (λ w. rw (eq-eqb d 255 (w .0 .taken)) (w .1)) (λ w. rw (ne-eqb d 255 (w .0 .left)) (w .1)) (j .if3 .came)
 
-refused-requires-3 : tie.Need-refused-requires-3
-refused-requires-3 c κs = search needs
-
 returns-3 : tie.Need-returns-3
 unfolding multiplication outcome firstRefusal
 returns-3 c =
@@ -91,15 +76,6 @@ returns-4 c =
 
 pub multiply-spec : {M : Type 1} → statement M
 multiply-spec =
-    tie.close
-    (tie.spec
-    measure-requires
-    refused-requires
-    returns
-    measure-requires-2
-    refused-requires-2
-    returns-2
-    refused-requires-3
-    returns-3
-    multiply-good-requires
-    returns-4)
+    tie.close (tie.spec
+    (λ c κs. search needs) (λ c κs. search needs) returns (λ c κs. search needs) (λ c κs. search needs) returns-2
+    (λ c κs. search needs) returns-3 multiply-good-requires returns-4)

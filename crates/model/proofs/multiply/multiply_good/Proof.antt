@@ -48,32 +48,17 @@ module _ (s : tie.Start) where
 add-top : tie.Need-add-top
 add-top c = let s = c .before .before in omega (arith, good-a s, good-b s)
 
-cast-first : tie.Need-cast-first
-cast-first c = search needs
-
-add-first : tie.Need-add-first
-add-first c = search needs
-
 array-share-prefix-first : tie.Need-array-share-prefix-first
 array-share-prefix-first c = let s = c .before .before .before .before .before .before in omega (arith, good-a s, length-a s)
 
 slice-aggregate-round-product : tie.Need-slice-aggregate-round-product
 slice-aggregate-round-product c = sym (first-length (c .before .before .before .before .before .before .before))
 
-cast-second : tie.Need-cast-second
-cast-second c = search needs
-
-add-second : tie.Need-add-second
-add-second c = search needs
-
 array-share-prefix-second : tie.Need-array-share-prefix-second
 array-share-prefix-second c = let s = c .before .before .before .before .before .before .before .before in omega (arith, good-b s, length-b s)
 
 slice-aggregate-round-product-2 : tie.Need-slice-aggregate-round-product-2
 slice-aggregate-round-product-2 c = sym (second-length (c .before .before .before .before .before .before .before .before .before))
-
-add-round-product : tie.Need-add-round-product
-add-round-product c = search needs
 
 -- the degree of the result
 module _ (j : tie.Joined1) where
@@ -114,12 +99,6 @@ module _ (c : tie.After-round-product) where
   unfolding productList
   rounded-from = simp (add-one, degree-is at) at (c .round-product .ensures)
 
-cast-radius-loss : tie.Need-cast-radius-loss
-cast-radius-loss c = search needs
-
-cast-radius-loss-2 : tie.Need-cast-radius-loss-2
-cast-radius-loss-2 c = search needs
-
 radius-loss-requires : tie.Need-radius-loss-requires
 radius-loss-requires c κs = let s = start (c .before .before .before) in omega (arith, s .pre .1, good-a s, good-b s)
 
@@ -128,15 +107,6 @@ add-loss c =
     let r = c .before .before .before .before .before in
     let s = start r in
     omega (arith, c .before .radius-loss .ensures .1, rounded-loss (productList (a s) (b s)) _ (r .round-product .result) (rounded-from r), weight-productList (a s) (b s) (s .pre .0 .0) (s .pre .0 .1))
-
-cast-up-unsigned : tie.Need-cast-up-unsigned
-cast-up-unsigned c = search needs
-
-up-unsigned-requires : tie.Need-up-unsigned-requires
-up-unsigned-requires c κs = search needs
-
-formed-requires : tie.Need-formed-requires
-formed-requires c κs = search needs
 
 returns : tie.Need-returns
 returns c =
@@ -153,24 +123,8 @@ returns c =
 
 pub multiply-good-spec : {M : Type 1} → statement M
 multiply-good-spec =
-    tie.close
-    (tie.spec
-    add-top
-    cast-first
-    add-first
-    array-share-prefix-first
-    slice-aggregate-round-product
-    cast-second
-    add-second
-    array-share-prefix-second
-    slice-aggregate-round-product-2
-    add-round-product
-    round-product-requires
-    cast-radius-loss
-    cast-radius-loss-2
-    radius-loss-requires
-    add-loss
-    cast-up-unsigned
-    up-unsigned-requires
-    formed-requires
-    returns)
+    tie.close (tie.spec
+    add-top (λ c. search needs) (λ c. search needs) array-share-prefix-first slice-aggregate-round-product (λ c. search needs)
+    (λ c. search needs) array-share-prefix-second slice-aggregate-round-product-2 (λ c. search needs) round-product-requires
+    (λ c. search needs) (λ c. search needs) radius-loss-requires add-loss (λ c. search needs) (λ c κs. search needs)
+    (λ c κs. search needs) returns)

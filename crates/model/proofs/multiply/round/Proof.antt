@@ -48,18 +48,6 @@ module _ (s : tie.Start Inv-loop μ-loop) where
   bounded : {out : List ℤ} {total loss k : ℕ} → Walk cs (weight (drop n all)) out total loss k → (total < 2 ^ 62) × (loss < 2 ^ 62)
   bounded w = let h = small w in omega (arith, weight-split n all, s .pre .2)
 
-mul-weigh : tie.Need-mul-weigh Inv-loop μ-loop
-mul-weigh c = search signed-needs
-
-sub-weigh : tie.Need-sub-weigh Inv-loop μ-loop
-sub-weigh c = search signed-needs
-
-part-weigh-start : tie.Need-part-weigh-start Inv-loop μ-loop
-part-weigh-start c = search signed-needs
-
-part-weigh-end : tie.Need-part-weigh-end Inv-loop μ-loop
-part-weigh-end c = search signed-needs
-
 weigh-requires : tie.Need-weigh-requires Inv-loop μ-loop
 weigh-requires c κs = let s = c .before in rw (rest-is s) (omega (arith, weight-drop (n s) (all s), s .pre))
 
@@ -67,9 +55,6 @@ loop-holds : tie.Need-loop-holds Inv-loop μ-loop
 loop-holds c =
     let s = c .before .before in
     rw (rw (rest-is s) at (c .weigh .ensures)) (begins (cs s) (weight (drop (n s) (all s))) (omega (arith, cs-length s, s .pre .0)))
-
-mul-exact : tie.Need-mul-exact Inv-loop μ-loop
-mul-exact c = search signed-needs
 
 shared-slice-copy-out-exact : tie.Need-shared-slice-copy-out-exact Inv-loop μ-loop
 shared-slice-copy-out-exact c = omega (arith, c .before .before .before .before .pre)
@@ -126,17 +111,11 @@ mul-magnitude c = simp (toZ-ofZ (fits-q c)) (fits-product c)
 sub-magnitude : tie.Need-sub-magnitude Inv-loop μ-loop
 sub-magnitude c = simp (toZ-ofZ (fits-x c), toZ-ofZ (fits-q c), toZ-ofZ (fits-product c)) (fits-loss c)
 
-magnitude-requires : tie.Need-magnitude-requires Inv-loop μ-loop
-magnitude-requires c κs = tt
-
 lost : (m : tie.After-magnitude Inv-loop μ-loop) → m .magnitude .result ≡ lossAt (x (m .before))
 lost m = let c = m .before in (simp (toZ-ofZ (fits-x c), toZ-ofZ (fits-q c), toZ-ofZ (fits-product c), toZ-ofZ (fits-loss c)) at (m .magnitude .ensures)) ∙ loss-is c
 
 add-loss : tie.Need-add-loss Inv-loop μ-loop
 add-loss m = let c = m .before in omega (arith, bounded (s c) (after c (natAbs (q c)) (m .magnitude .result) _ refl (lost m) (λ _. refl)) .1)
-
-magnitude-requires-2 : tie.Need-magnitude-requires-2 Inv-loop μ-loop
-magnitude-requires-2 c κs = tt
 
 module _ (r : tie.After-magnitude2 Inv-loop μ-loop) where
   abbrev c : tie.After-near Inv-loop μ-loop
@@ -154,18 +133,6 @@ add-weight r = let c = c r in omega (arith, bounded (s c) (after c (r .magnitude
 cast-coefficients : tie.Need-cast-coefficients Inv-loop μ-loop
 cast-coefficients t = simp (toZ-ofZ (fits-q (c (t .before)))) (narrows (t .before) (t .if1 .taken))
 
-mul-coefficients : tie.Need-mul-coefficients Inv-loop μ-loop
-mul-coefficients c = search signed-needs
-
-array-set-from-coefficients : tie.Need-array-set-from-coefficients Inv-loop μ-loop
-array-set-from-coefficients c = search signed-needs
-
-add-k : tie.Need-add-k Inv-loop μ-loop
-add-k c = search signed-needs
-
-loop-less : tie.Need-loop-less Inv-loop μ-loop
-loop-less c = search signed-needs
-
 loop-again : tie.Need-loop-again Inv-loop μ-loop
 loop-again j =
     let r = j .before in
@@ -177,29 +144,8 @@ returns c = let s = c .before .before .before .before in ends (all s) (n s) (s .
 
 pub round-spec : {M : Type 1} → statement M
 round-spec =
-    tie.close
-    (tie.spec
-    Inv-loop
-    μ-loop
-    mul-weigh
-    sub-weigh
-    part-weigh-start
-    part-weigh-end
-    weigh-requires
-    loop-holds
-    mul-exact
-    shared-slice-copy-out-exact
-    near-requires
-    mul-magnitude
-    sub-magnitude
-    magnitude-requires
-    add-loss
-    magnitude-requires-2
-    add-weight
-    cast-coefficients
-    mul-coefficients
-    array-set-from-coefficients
-    add-k
-    loop-less
-    loop-again
-    returns)
+    tie.close (tie.spec
+    Inv-loop μ-loop (λ c. search signed-needs) (λ c. search signed-needs) (λ c. search signed-needs) (λ c. search signed-needs)
+    weigh-requires loop-holds (λ c. search signed-needs) shared-slice-copy-out-exact near-requires mul-magnitude sub-magnitude
+    (λ c κs. tt) add-loss (λ c κs. tt) add-weight cast-coefficients (λ c. search signed-needs) (λ c. search signed-needs)
+    (λ c. search signed-needs) (λ c. search signed-needs) loop-again returns)

@@ -39,20 +39,8 @@ module _ (s : tie.Start) where
   prefix-length : length (take end C) ≡ end
   prefix-length = length-take-le end C (omega (arith, length-product ℤ-ring productPlaces a b, s .pre))
 
-slice-aggregate-add-products : tie.Need-slice-aggregate-add-products
-slice-aggregate-add-products c = search needs
-
 add-products-requires : tie.Need-add-products-requires
 add-products-requires c κs = omega (arith, weight-zeros 65, weights (c .before), c .before .pre)
-
-add-end : tie.Need-add-end
-add-end c = search needs
-
-sub-end : tie.Need-sub-end
-sub-end c = search needs
-
-array-share-prefix-c : tie.Need-array-share-prefix-c
-array-share-prefix-c c = search needs
 
 -- the list that was formed
 formed : (c : tie.After-add-products) → c .add-products .last .0 ≡ C (c .before .before)
@@ -76,13 +64,6 @@ returns c =
 
 pub round-product-spec : {M : Type 1} → statement M
 round-product-spec =
-    tie.close
-    (tie.spec
-    slice-aggregate-add-products
-    add-products-requires
-    add-end
-    sub-end
-    array-share-prefix-c
-    slice-aggregate-round
-    round-requires
-    returns)
+    tie.close (tie.spec
+    (λ c. search needs) add-products-requires (λ c. search needs) (λ c. search needs) (λ c. search needs) slice-aggregate-round
+    round-requires returns)

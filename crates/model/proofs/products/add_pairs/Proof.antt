@@ -55,18 +55,6 @@ loop-holds c =
       bound = omega arith;
     }
 
-add-add-pair : tie.Need-add-add-pair Inv-loop μ-loop
-add-add-pair c = search signed-needs
-
-mul-add-pair : tie.Need-mul-add-pair Inv-loop μ-loop
-mul-add-pair c = search signed-needs
-
-shared-slice-copy-out-add-pair : tie.Need-shared-slice-copy-out-add-pair Inv-loop μ-loop
-shared-slice-copy-out-add-pair c = search signed-needs
-
-cast-add-pair : tie.Need-cast-add-pair Inv-loop μ-loop
-cast-add-pair c = search signed-needs
-
 -- at the loop's head
 module _ (l : tie.At-loop Inv-loop μ-loop) where
   abbrev s : tie.Start Inv-loop μ-loop
@@ -107,12 +95,6 @@ add-pair-requires c κs =
     simp (toZ-ofZ (s h .fits .x), toZ-ofZ (fits-y c), toZ-ofZ (fits-widens (fits-y c)), toZ-ofZ (fits-v c))
     (omega (arith, inv h, part (x h) (b h) (k h) (omega arith), s h .pre))
 
-add-k : tie.Need-add-k Inv-loop μ-loop
-add-k c = omega arith
-
-loop-less : tie.Need-loop-less Inv-loop μ-loop
-loop-less c = omega arith
-
 loop-again : tie.Need-loop-again Inv-loop μ-loop
 loop-again m =
     let c = m .before .before in
@@ -130,19 +112,7 @@ returns c =
 
 pub add-pairs-spec : {M : Type 1} → statement M
 add-pairs-spec =
-    tie.close
-    (tie.spec
-    Inv-loop
-    μ-loop
-    loop-holds
-    add-add-pair
-    mul-add-pair
-    shared-slice-copy-out-add-pair
-    cast-add-pair
-    mul-add-pair-2
-    add-pair-requires
-    add-k
-    loop-less
-    loop-again
-    same-length
+    tie.close (tie.spec
+    Inv-loop μ-loop loop-holds (λ c. search signed-needs) (λ c. search signed-needs) (λ c. search signed-needs)
+    (λ c. search signed-needs) mul-add-pair-2 add-pair-requires (λ c. omega arith) (λ c. omega arith) loop-again same-length
     returns)

@@ -46,15 +46,6 @@ abbrev μ-loop : tie.MeasureT-loop
 loop-holds : tie.Need-loop-holds Inv-loop μ-loop
 loop-holds c = record { within = omega arith; size = refl; rest = refl; bound = omega arith }
 
-mul-add-row : tie.Need-mul-add-row Inv-loop μ-loop
-mul-add-row c = search signed-needs
-
-shared-slice-copy-out-add-row : tie.Need-shared-slice-copy-out-add-row Inv-loop μ-loop
-shared-slice-copy-out-add-row c = search signed-needs
-
-cast-add-row : tie.Need-cast-add-row Inv-loop μ-loop
-cast-add-row c = search signed-needs
-
 -- at the loop's head
 module _ (l : tie.At-loop Inv-loop μ-loop) where
   abbrev s : tie.Start Inv-loop μ-loop
@@ -83,12 +74,6 @@ add-row-requires c κs =
     simp (toZ-ofZ (fits-x c), toZ-ofZ (fits-widens (fits-x c)))
     (omega (arith, k .loop .inv, part (a k) (b k) (i k) (omega arith), s k .pre))
 
-add-i : tie.Need-add-i Inv-loop μ-loop
-add-i c = omega arith
-
-loop-less : tie.Need-loop-less Inv-loop μ-loop
-loop-less c = omega arith
-
 loop-again : tie.Need-loop-again Inv-loop μ-loop
 loop-again m =
     let c = m .before .before in
@@ -106,17 +91,6 @@ returns c =
 
 pub add-products-spec : {M : Type 1} → statement M
 add-products-spec =
-    tie.close
-    (tie.spec
-    Inv-loop
-    μ-loop
-    loop-holds
-    mul-add-row
-    shared-slice-copy-out-add-row
-    cast-add-row
-    add-row-requires
-    add-i
-    loop-less
-    loop-again
-    same-length
-    returns)
+    tie.close (tie.spec
+    Inv-loop μ-loop loop-holds (λ c. search signed-needs) (λ c. search signed-needs) (λ c. search signed-needs)
+    add-row-requires (λ c. omega arith) (λ c. omega arith) loop-again same-length returns)

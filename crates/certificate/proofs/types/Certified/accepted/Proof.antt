@@ -6,13 +6,10 @@ use Rattle.certificate.specs.Stages.{certifiedOf}
 use Rattle.certificate.proofs.types.Certified.accepted.Statement.{statement}
 use Rattle.certificate.proofs.types.Certified.accepted.Tie as tie
 
-new-requires : tie.Need-new-requires
-new-requires c κs = search needs
-
 returns : tie.Need-returns
 returns c =
     let a = c .before .before .args in
     ap (λ m. certifiedOf Accepted m (a .contraction) (a .residual) (a .displacement)) (c .new .ensures)
 
 pub accepted-spec : {M : Type 1} → statement M
-accepted-spec = tie.close (tie.spec new-requires returns)
+accepted-spec = tie.close (tie.spec (λ c κs. search needs) returns)

@@ -5,11 +5,8 @@ use Rattle.certificate.specs.Stages.{certifiedOf}
 use Rattle.certificate.proofs.types.Certified.refused.Statement.{statement}
 use Rattle.certificate.proofs.types.Certified.refused.Tie as tie
 
-zero-requires : tie.Need-zero-requires
-zero-requires c κs = search needs
-
 returns : tie.Need-returns
 returns c = ap (λ m. certifiedOf (c .before .args .verdict) m 0 0 0) (c .zero .ensures)
 
 pub refused-spec : {M : Type 1} → statement M
-refused-spec = tie.close (tie.spec zero-requires returns)
+refused-spec = tie.close (tie.spec (λ c κs. search needs) returns)

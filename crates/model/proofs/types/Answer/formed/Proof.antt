@@ -12,21 +12,12 @@ use Rattle.model.specs.declared.types.Verdict.the-variants.{Accepted}
 use Rattle.model.proofs.types.Answer.formed.Statement.{statement}
 use Rattle.model.proofs.types.Answer.formed.Tie as tie
 
-cast-new : tie.Need-cast-new
-cast-new c = search needs
-
-new-requires : tie.Need-new-requires
-new-requires c κs = search needs
-
 returns : tie.Need-returns
 unfolding formedOutcome outcome firstRefusal
 returns c =
     let a = c .before .before .before .before .args in
     rw (le-ltb maxWeight (a .weight) (omega arith), le-ltb maxRadius (a .radius) (omega arith), le-ltb maxDegree (a .degree) (omega arith))
     (ap (λ m. outcomeOf (answerOf Accepted m)) (c .new .ensures))
-
-refused-requires : tie.Need-refused-requires
-refused-requires c κs = search needs
 
 -- a test that fails is one that refuses
 large : (c : tie.Joined1) → (ltb maxWeight (c .before .args .weight) || (ltb maxRadius (c .before .args .radius) || ltb maxDegree (c .before .args .degree))) ≡ true
@@ -42,4 +33,4 @@ unfolding formedOutcome outcome firstRefusal
 returns-2 c = rw (c .refused .ensures, large (c .before))
 
 pub formed-spec : {M : Type 1} → statement M
-formed-spec = tie.close (tie.spec cast-new new-requires returns refused-requires returns-2)
+formed-spec = tie.close (tie.spec (λ c. search needs) (λ c κs. search needs) returns (λ c κs. search needs) returns-2)

@@ -5,11 +5,8 @@ use Rattle.model.specs.Models.{answerOf}
 use Rattle.model.proofs.types.Answer.refused.Statement.{statement}
 use Rattle.model.proofs.types.Answer.refused.Tie as tie
 
-zero-requires : tie.Need-zero-requires
-zero-requires c κs = search needs
-
 returns : tie.Need-returns
 returns c = ap (answerOf (c .before .args .verdict)) (c .zero .ensures)
 
 pub refused-spec : {M : Type 1} → statement M
-refused-spec = tie.close (tie.spec zero-requires returns)
+refused-spec = tie.close (tie.spec (λ c κs. search needs) returns)

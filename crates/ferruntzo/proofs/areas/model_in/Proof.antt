@@ -1,0 +1,21 @@
+-- `areas::model_in` meets its contract: numbers behind play no part.
+use mathlib.Core.Path.{_∙_}
+use native.Mathlib.Omega.{arith}
+use lib.ListN.{length-take}
+use denote.Ref.{now}
+use Rattle.model.specs.Areas.{modelPlaces}
+use Rattle.model.specs.AreaLaws.{model-front}
+use Rattle.ferruntzo.proofs.areas.model_in.Statement.{statement}
+use Rattle.ferruntzo.proofs.areas.model_in.Tie as tie
+
+slice-aggregate-read : tie.Need-slice-aggregate-read
+slice-aggregate-read c = simp length-take (omega arith)
+
+read-requires : tie.Need-read-requires
+read-requires c κs = simp length-take (omega arith)
+
+returns : tie.Need-returns
+returns c = c .read .ensures ∙ model-front modelPlaces (now (c .before .before .args .area)) (omega arith)
+
+pub model-in-spec : {M : Type 1} → statement M
+model-in-spec = tie.close (tie.spec slice-aggregate-read read-requires returns)

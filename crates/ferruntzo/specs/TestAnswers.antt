@@ -1,0 +1,53 @@
+-- What the exported tests answer and leave in their areas.
+use mathlib.Core.Bool.{Bool, _&&_}
+use mathlib.Core.List.{List, [], _∷_}
+use Prim.Native.Nat.{ℕ}
+use lib.IntN.{ℤ}
+use lib.ListN.{length}
+use Rattle.integer.specs.Clearing.{zeros}
+use Rattle.model.specs.Areas.{modelPlaces, candidatePlaces, areaModel, areaCandidate}
+use Rattle.certificate.specs.Tests.{scratchPlaces, Test, quotientTest, rootTest}
+use Rattle.ferruntzo.specs.Answers.{fits, numberOut, areaOut, modelOut}
+
+-- how many numbers m, N and b are
+abbrev pub reportPlaces : ℕ
+reportPlaces = 3
+
+-- the number, and what the scratch, the area of the result and that of m, N and b hold afterwards
+pub record TestAnswer : Type 0 where
+  pub number : ℕ
+  pub scratch : List ℤ
+  pub out : List ℤ
+  pub report : List ℕ
+
+abbrev pub testAnswer : ℕ → List ℤ → List ℤ → List ℕ → TestAnswer
+testAnswer n s o r = record { number = n; scratch = s; out = o; report = r }
+
+-- "These are zero after every call, unless the scratch itself … was too short"
+unfoldable pub answerOfTest : Bool → Test → List ℤ → List ℤ → List ℕ → TestAnswer
+answerOfTest fit t scratch out report =
+    testAnswer
+    (numberOut fit (t .number))
+    (areaOut fit scratchPlaces (zeros scratchPlaces) scratch)
+    (modelOut fit (t .model) out)
+    (areaOut fit reportPlaces (t .m ∷ t .N ∷ t .b ∷ []) report)
+
+-- whether every area has its numbers: those of the models, of h and w, the scratch, the result, and m, N and b
+abbrev pub testFits : Bool → List ℤ → List ℤ → List ℤ → List ℤ → List ℕ → Bool
+testFits models h w scratch out report =
+    models && fits candidatePlaces h && fits candidatePlaces w && fits scratchPlaces scratch && fits modelPlaces out
+    && fits reportPlaces report
+
+abbrev pub quotientAnswer : List ℤ → List ℤ → List ℤ → List ℤ → List ℤ → List ℤ → List ℕ → TestAnswer
+quotientAnswer f g h w scratch out report =
+    answerOfTest
+    (testFits (fits modelPlaces f && fits modelPlaces g) h w scratch out report)
+    (quotientTest (length scratch) (areaModel f) (areaModel g) (areaCandidate h) (areaCandidate w))
+    scratch out report
+
+abbrev pub rootAnswer : List ℤ → List ℤ → List ℤ → List ℤ → List ℤ → List ℕ → TestAnswer
+rootAnswer f h w scratch out report =
+    answerOfTest
+    (testFits (fits modelPlaces f) h w scratch out report)
+    (rootTest (length scratch) (areaModel f) (areaCandidate h) (areaCandidate w))
+    scratch out report
