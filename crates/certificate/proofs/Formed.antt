@@ -13,23 +13,23 @@ use Rattle.chebyshev.specs.Weight.{weight-zeros, weight-take}
 use Rattle.chebyshev.specs.Product.{addRows, product}
 use Rattle.chebyshev.specs.ProductLaws.{length-product}
 use Rattle.chebyshev.specs.ProductWeight.{weight-product}
-use Rattle.certificate.specs.Tests.{scratchPlaces}
+use Rattle.certificate.specs.Tests.{scratchSize}
 
-pub cleared : {part : List ℤ} → part ≡ zeros scratchPlaces → (length part ≡ scratchPlaces) × (weight part ≡ 0)
+pub cleared : {part : List ℤ} → part ≡ zeros scratchSize → (length part ≡ scratchSize) × (weight part ≡ 0)
 unfolding zeros
-cleared e = (ap length e ∙ length-zeros scratchPlaces, ap weight e ∙ weight-zeros scratchPlaces)
+cleared e = (ap length e ∙ length-zeros scratchSize, ap weight e ∙ weight-zeros scratchSize)
 
 -- the walk starts from zeros
-pub from-zeros : (a b : List ℤ) → addRows ℤ-ring (zeros scratchPlaces) 0 a b ≡ product ℤ-ring scratchPlaces a b
+pub from-zeros : (a b : List ℤ) → addRows ℤ-ring (zeros scratchSize) 0 a b ≡ product ℤ-ring scratchSize a b
 unfolding product zeros
 from-zeros a b = refl
 
 pub record Formed (a b c : List ℤ) : Type 0 where
-  pub width : length c ≡ scratchPlaces
+  pub width : length c ≡ scratchSize
   pub weight-le : weight c ≤ 2 * weight a * weight b
 
-pub formed : (n : ℕ) (a : List ℤ) (k : ℕ) (b c : List ℤ) → c ≡ product ℤ-ring scratchPlaces (take n a) (take k b) → Formed a b c
+pub formed : (n : ℕ) (a : List ℤ) (k : ℕ) (b c : List ℤ) → c ≡ product ℤ-ring scratchSize (take n a) (take k b) → Formed a b c
 formed n a k b c e = record {
-  width = ap length e ∙ length-product ℤ-ring scratchPlaces (take n a) (take k b);
-  weight-le = omega (arith, ap weight e, weight-product scratchPlaces (take n a) (take k b), mul-le-mul (weight-take n a) (weight-take k b));
+  width = ap length e ∙ length-product ℤ-ring scratchSize (take n a) (take k b);
+  weight-le = omega (arith, ap weight e, weight-product scratchSize (take n a) (take k b), mul-le-mul (weight-take n a) (weight-take k b));
 }

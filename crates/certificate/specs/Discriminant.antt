@@ -18,7 +18,7 @@ use Rattle.integer.specs.Rounding.{upℕ}
 use Rattle.chebyshev.specs.Coefficients.{weight, addLists, subtractLists, scaleList}
 use Rattle.chebyshev.specs.Product.{addAt, addPair, addRow, addRows, product}
 use Rattle.chebyshev.specs.Sign.{coefficientSum}
-use Rattle.model.specs.Models.{scale, firstRefusal, good, tooLarge, modelOf, constantModel, zeroModel}
+use Rattle.model.specs.Models.{scale, firstRefusal, good, tooLarge, makeModel, constantModel, zeroModel}
 use Rattle.model.specs.Operations.{productList}
 use Rattle.certificate.specs.Tests.{rootOf, rootPlaces, rootContraction, rootResidual, rootModel, displacement, tested}
 
@@ -53,7 +53,7 @@ weight-positive a h = omega (arith, sum-weight a, <-parts (pos 0) (coefficientSu
 -- m, N, b, 8·b·M, the same modulo 2^64, (S−m)² and the test's number, where f has radius e
 abbrev numbers : ℕ → List ℕ
 numbers e =
-    let f = modelOf 0 (pos (2 ^ 28) ∷ replicate 32 (pos 0)) e in
+    let f = makeModel 0 (pos (2 ^ 28) ∷ replicate 32 (pos 0)) e in
     let h = constantModel (pos (2 ^ 11)) in
     let w = constantModel (pos (2 ^ 28)) in
     let m = rootContraction h w in

@@ -9,7 +9,7 @@ use borrow.Author.Tests.{ltb-false, leb-false, not-false, le-ltb, lt-leb}
 use Rattle.model.specs.Models.{scale, maxRadius, good, tooLarge, firstRefusal}
 use Rattle.model.specs.RefusalLaws.{Passed, first-refusal-zero}
 use Rattle.model.specs.declared.types.Model.{Model}
-use Rattle.certificate.specs.Tests.{scratchPlaces, quotientPlaces, quotientOf, quotientModel, quotientContraction, quotientResidual, displacement, tested}
+use Rattle.certificate.specs.Tests.{scratchSize, quotientPlaces, quotientOf, quotientModel, quotientContraction, quotientResidual, displacement, tested}
 use Rattle.certificate.specs.PlaceLaws.{not-of-true}
 use Rattle.certificate.specs.Stages.{tested-zero}
 
@@ -21,7 +21,7 @@ abbrev pub quotientResult : Model → Model → Model → Model → Model
 quotientResult f g h w = quotientModel h (quotientContraction g w) (quotientDisplacement f g h w)
 
 pub record QuotientConditions (len : ℕ) (f g h w : Model) : Type 0 where
-  pub scratch : scratchPlaces ≤ len
+  pub scratch : scratchSize ≤ len
   pub good-f : good f ≡ true
   pub good-g : good g ≡ true
   pub good-h : good h ≡ true
@@ -43,7 +43,7 @@ module _ (len : ℕ) (f g h w : Model) where
 
       facts : Passed places → QuotientConditions len f g h w
       facts p = record {
-        scratch = ltb-false len scratchPlaces (p .0);
+        scratch = ltb-false len scratchSize (p .0);
         good-f = not-false (good f) (p .1 .0);
         good-g = not-false (good g) (p .1 .1 .0);
         good-h = not-false (good h) (p .1 .1 .1 .0);

@@ -10,9 +10,9 @@ use borrow.Author.Tests.{ltb-false, le-ltb}
 use Rattle.integer.specs.Integer.{ℤ-ring}
 use Rattle.integer.specs.Rounding.{upℕ}
 use Rattle.chebyshev.specs.Coefficients.{weight, subtractLists, scaleList}
-use Rattle.model.specs.Models.{scale, productPlaces, maxRadius, good, modelOf}
+use Rattle.model.specs.Models.{scale, productSize, maxRadius, good, makeModel}
 use Rattle.model.specs.declared.types.Model.{Model}
-use Rattle.certificate.specs.Tests.{scratchPlaces, quotientOf, quotientContraction, quotientResidual, quotientModel, displacement}
+use Rattle.certificate.specs.Tests.{scratchSize, quotientOf, quotientContraction, quotientResidual, quotientModel, displacement}
 use Rattle.certificate.specs.TwoSums.{twoSumsList, productList-good}
 use Rattle.certificate.specs.Stages.{large-radius}
 use Rattle.certificate.specs.QuotientConditions.{quotientResult, quotient-passes, quotient-result}
@@ -21,14 +21,14 @@ use Rattle.certificate.specs.QuotientConditions.{quotientResult, quotien
 unfoldable pub quotientM : Model → Model → ℕ
 quotientM g w =
     upℕ
-    (weight (subtractLists ℤ-ring (pos (2 * scale * scale) ∷ []) (twoSumsList productPlaces (w .coefficients) (g .coefficients))) + 2 * weight (w .coefficients) * g .radius)
+    (weight (subtractLists ℤ-ring (pos (2 * scale * scale) ∷ []) (twoSumsList productSize (w .coefficients) (g .coefficients))) + 2 * weight (w .coefficients) * g .radius)
     (2 * scale)
 
 -- "N = up((weight(C(g,h) − 2S·f) + 2S·e_f + 2·H·e_g)/(2S))"
 unfoldable pub quotientN : Model → Model → Model → ℕ
 quotientN f g h =
     upℕ
-    (weight (subtractLists ℤ-ring (twoSumsList productPlaces (g .coefficients) (h .coefficients)) (scaleList ℤ-ring (pos (2 * scale)) (f .coefficients)))
+    (weight (subtractLists ℤ-ring (twoSumsList productSize (g .coefficients) (h .coefficients)) (scaleList ℤ-ring (pos (2 * scale)) (f .coefficients)))
     + 2 * scale * f .radius
     + 2 * weight (h .coefficients) * g .radius)
     (2 * scale)
@@ -49,7 +49,7 @@ residual-is : (f g h : Model) → good g ≡ true → good h ≡ true → quotie
 unfolding quotientN quotientResidual
 residual-is f g h gg gh = rw (productList-good g h gg gh)
 
-module _ (len : ℕ) (f g h w : Model) (enough : scratchPlaces ≤ len) (gf : good f ≡ true) (gg : good g ≡ true) (gh : good h ≡ true) (gw : good w ≡ true) where
+module _ (len : ℕ) (f g h w : Model) (enough : scratchSize ≤ len) (gf : good f ≡ true) (gg : good g ≡ true) (gh : good h ≡ true) (gw : good w ≡ true) where
   -- "The test: m < S and N ≤ 2^28.", and the result's radius is within 2^28
   pub quotient-accepted : ((quotientOf len f g h w) .number ≡ 0) ↔ ((quotientM g w < scale) × (quotientN f g h ≤ 2 ^ 28) × (quotientRadius f g h w ≤ 2 ^ 28))
   unfolding quotientRadius quotientB displacement quotientModel
@@ -63,6 +63,6 @@ module _ (len : ℕ) (f g h w : Model) (enough : scratchPlaces ≤ len) (gf : go
       )
 
   pub quotient-accepted-result : (quotientOf len f g h w) .number ≡ 0
-      → quotientOf len f g h w ≡ record { number = 0; model = modelOf (h .degree) (h .coefficients) (quotientRadius f g h w); m = quotientM g w; N = quotientN f g h; b = quotientB f g h w }
+      → quotientOf len f g h w ≡ record { number = 0; model = makeModel (h .degree) (h .coefficients) (quotientRadius f g h w); m = quotientM g w; N = quotientN f g h; b = quotientB f g h w }
   unfolding quotientRadius quotientB displacement quotientModel
   quotient-accepted-result e = rw (← contraction-is g w gg gw, ← residual-is f g h gg gh) (quotient-result len f g h w e)

@@ -19,7 +19,7 @@ use Rattle.model.specs.RefusalLaws.{Passed, first-refusal-zero}
 use Rattle.model.specs.declared.types.Model.{Model}
 use Rattle.certificate.specs.PlaceLaws.{not-of-true, passed-last}
 use Rattle.certificate.specs.Stages.{tested-zero}
-use Rattle.certificate.specs.Tests.{scratchPlaces, rootOf, rootPlaces, rootModel, rootContraction, rootResidual, displacement, tested}
+use Rattle.certificate.specs.Tests.{scratchSize, rootOf, rootPlaces, rootModel, rootContraction, rootResidual, displacement, tested}
 
 -- b and the result of the test
 abbrev pub rootDisplacement : Model → Model → Model → ℕ
@@ -35,7 +35,7 @@ negativeDiscriminant f h w =
 
 -- refusals 1, 2 three times, 7, 5, 6 and 8 are not due
 pub record RootConditions (len : ℕ) (f h w : Model) : Type 0 where
-  pub scratch : scratchPlaces ≤ len
+  pub scratch : scratchSize ≤ len
   pub good-f : good f ≡ true
   pub good-h : good h ≡ true
   pub good-w : good w ≡ true
@@ -56,7 +56,7 @@ module _ (len : ℕ) (f h w : Model) where
   unfolding rootPlaces
   root-conditions = (
     λ p. record {
-      scratch = ltb-false len scratchPlaces (p .0);
+      scratch = ltb-false len scratchSize (p .0);
       good-f = not-false (good f) (p .1 .0);
       good-h = not-false (good h) (p .1 .1 .0);
       good-w = not-false (good w) (p .1 .1 .1 .0);

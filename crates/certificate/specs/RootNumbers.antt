@@ -10,7 +10,7 @@ use Rattle.chebyshev.specs.Coefficients.{weight}
 use Rattle.chebyshev.specs.Sign.{coefficientSum}
 use Rattle.model.specs.Models.{scale, maxRadius, good, numberOf, firstRefusal}
 use Rattle.model.specs.declared.types.Model.{Model}
-use Rattle.certificate.specs.Tests.{scratchPlaces, rootPlaces, rootContraction, rootResidual, displacement}
+use Rattle.certificate.specs.Tests.{scratchSize, rootPlaces, rootContraction, rootResidual, displacement}
 use Rattle.certificate.specs.Stages.{bad-model}
 use Rattle.certificate.specs.declared.types.RootNumbers.{RootNumbers}
 use Rattle.certificate.specs.declared.types.RootNumbers.the-variants.{Refused, Reached}
@@ -32,38 +32,38 @@ unfoldable pub rootOutcome : ℕ → Model → Model → Model → RootOutcome
 rootOutcome len f h w = outcomeAt (firstRefusal (rootPlaces len f h w)) f h w
 
 module _ (len : ℕ) (f h w : Model) where
-  pub root-short : len < scratchPlaces → rootOutcome len f h w ≡ refused 1
+  pub root-short : len < scratchSize → rootOutcome len f h w ≡ refused 1
   unfolding rootOutcome rootPlaces firstRefusal
-  root-short e = rw (lt-ltb len scratchPlaces e)
+  root-short e = rw (lt-ltb len scratchSize e)
 
-  module _ (room : scratchPlaces ≤ len) where
+  module _ (room : scratchSize ≤ len) where
     -- a scratch that is long enough plays no further part
-    pub root-room : rootOutcome len f h w ≡ rootOutcome scratchPlaces f h w
+    pub root-room : rootOutcome len f h w ≡ rootOutcome scratchSize f h w
     unfolding rootOutcome rootPlaces
-    root-room = rw (le-ltb len scratchPlaces room)
+    root-room = rw (le-ltb len scratchSize room)
 
     pub root-bad : (good f && (good h && good w)) ≡ false → rootOutcome len f h w ≡ refused 2
     unfolding rootOutcome rootPlaces firstRefusal
-    root-bad e = rw (le-ltb len scratchPlaces room, bad-model true (good f) (good h) (good w) _ e)
+    root-bad e = rw (le-ltb len scratchSize room, bad-model true (good f) (good h) (good w) _ e)
 
     module _ (gf : good f ≡ true) (gh : good h ≡ true) (gw : good w ≡ true) where
       pub root-helper : leZ (coefficientSum (w .coefficients)) (pos 0) ≡ true → rootOutcome len f h w ≡ refused 7
       unfolding rootOutcome rootPlaces firstRefusal
-      root-helper e = rw (le-ltb len scratchPlaces room, gf, gh, gw, e)
+      root-helper e = rw (le-ltb len scratchSize room, gf, gh, gw, e)
 
       module _ (positive : leZ (coefficientSum (w .coefficients)) (pos 0) ≡ false) where
         pub root-not-contracting : scale ≤ rootContraction h w → rootOutcome len f h w ≡ refused 5
         unfolding rootOutcome rootPlaces firstRefusal
-        root-not-contracting e = rw (le-ltb len scratchPlaces room, gf, gh, gw, positive, le-leb scale (rootContraction h w) e)
+        root-not-contracting e = rw (le-ltb len scratchSize room, gf, gh, gw, positive, le-leb scale (rootContraction h w) e)
 
         module _ (contracting : rootContraction h w < scale) where
           pub root-large-residual : maxRadius < rootResidual f h → rootOutcome len f h w ≡ refused 6
           unfolding rootOutcome rootPlaces firstRefusal
           root-large-residual e =
-              rw (le-ltb len scratchPlaces room, gf, gh, gw, positive, lt-leb scale (rootContraction h w) contracting, lt-ltb maxRadius (rootResidual f h) e)
+              rw (le-ltb len scratchSize room, gf, gh, gw, positive, lt-leb scale (rootContraction h w) contracting, lt-ltb maxRadius (rootResidual f h) e)
 
           pub root-reached : rootResidual f h ≤ maxRadius
               → rootOutcome len f h w ≡ reached (weight (w .coefficients)) (rootContraction h w) (rootResidual f h) (displacement w (rootResidual f h))
           unfolding rootOutcome rootPlaces firstRefusal
           root-reached e =
-              rw (le-ltb len scratchPlaces room, gf, gh, gw, positive, lt-leb scale (rootContraction h w) contracting, le-ltb maxRadius (rootResidual f h) e)
+              rw (le-ltb len scratchSize room, gf, gh, gw, positive, lt-leb scale (rootContraction h w) contracting, le-ltb maxRadius (rootResidual f h) e)

@@ -16,7 +16,7 @@ use Rattle.chebyshev.specs.Coefficients.{weight, subtractLists}
 use Rattle.chebyshev.specs.CoefficientLaws.{getD-subtract}
 use Rattle.chebyshev.specs.Weight.{weight-at, weight-take}
 use Rattle.chebyshev.specs.ProductWeight.{weight-product}
-use Rattle.model.specs.Models.{scale, maxRadius, productPlaces, terms, tooLarge}
+use Rattle.model.specs.Models.{scale, maxRadius, productSize, terms, tooLarge}
 use Rattle.model.specs.ModelLaws.{good-is}
 use Rattle.model.specs.Operations.{productList}
 use Rattle.model.specs.declared.types.Model.{Model}
@@ -42,7 +42,7 @@ square-bound h w =
       difference s d,
       abs d,
       weight-at c 0,
-      weight-product productPlaces (terms w) (terms h),
+      weight-product productSize (terms w) (terms h),
       mul-le-mul (weight-take (suc (w .degree)) (w .coefficients)) (weight-take (suc (h .degree)) (h .coefficients)),
     )
 

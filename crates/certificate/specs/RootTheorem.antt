@@ -13,22 +13,22 @@ use Rattle.integer.specs.Integer.{ℤ-ring}
 use Rattle.integer.specs.Rounding.{upℕ}
 use Rattle.chebyshev.specs.Coefficients.{weight, subtractLists, scaleList}
 use Rattle.chebyshev.specs.Sign.{coefficientSum}
-use Rattle.model.specs.Models.{scale, productPlaces, good, modelOf}
+use Rattle.model.specs.Models.{scale, productSize, good, makeModel}
 use Rattle.model.specs.declared.types.Model.{Model}
-use Rattle.certificate.specs.Tests.{scratchPlaces, rootOf, rootModel, rootContraction, rootResidual, displacement}
+use Rattle.certificate.specs.Tests.{scratchSize, rootOf, rootModel, rootContraction, rootResidual, displacement}
 use Rattle.certificate.specs.TwoSums.{twoSumsList, productList-good}
 use Rattle.certificate.specs.RootConditions.{RootConditions, root-passes, root-result}
 use Rattle.certificate.specs.RootRadius.{root-radius-bound, root-fits}
 
 -- "m = up(weight(S² − C(w,h))/S)"
 unfoldable pub rootM : Model → Model → ℕ
-rootM h w = upℕ (weight (subtractLists ℤ-ring (pos (scale * scale) ∷ []) (twoSumsList productPlaces (w .coefficients) (h .coefficients)))) scale
+rootM h w = upℕ (weight (subtractLists ℤ-ring (pos (scale * scale) ∷ []) (twoSumsList productSize (w .coefficients) (h .coefficients)))) scale
 
 -- "N = up((weight(C(h,h) − 2S·f) + 2S·e_f)/(2S))"
 unfoldable pub rootN : Model → Model → ℕ
 rootN f h =
     upℕ
-    (weight (subtractLists ℤ-ring (twoSumsList productPlaces (h .coefficients) (h .coefficients)) (scaleList ℤ-ring (pos (2 * scale)) (f .coefficients)))
+    (weight (subtractLists ℤ-ring (twoSumsList productSize (h .coefficients) (h .coefficients)) (scaleList ℤ-ring (pos (2 * scale)) (f .coefficients)))
     + 2 * scale * f .radius)
     (2 * scale)
 
@@ -54,7 +54,7 @@ residual-is : (f h : Model) → good h ≡ true → rootResidual f h ≡ rootN f
 unfolding rootN rootResidual
 residual-is f h gh = rw (productList-good h h gh gh)
 
-module _ (len : ℕ) (f h w : Model) (enough : scratchPlaces ≤ len) (gf : good f ≡ true) (gh : good h ≡ true) (gw : good w ≡ true) where
+module _ (len : ℕ) (f h w : Model) (enough : scratchSize ≤ len) (gf : good f ≡ true) (gh : good h ≡ true) (gw : good w ≡ true) where
   conditions-holds : RootConditions len f h w ↔ RootHolds f h w
   unfolding rootB displacement
   conditions-holds =
@@ -77,6 +77,6 @@ module _ (len : ℕ) (f h w : Model) (enough : scratchPlaces ≤ len) (gf : good
 
   -- "Result h with radius up(2·b·S/(S−m))"
   pub root-accepted-result : (rootOf len f h w) .number ≡ 0
-      → rootOf len f h w ≡ record { number = 0; model = modelOf (h .degree) (h .coefficients) (rootRadius f h w); m = rootM h w; N = rootN f h; b = rootB f h w }
+      → rootOf len f h w ≡ record { number = 0; model = makeModel (h .degree) (h .coefficients) (rootRadius f h w); m = rootM h w; N = rootN f h; b = rootB f h w }
   unfolding rootRadius rootB displacement rootModel
   root-accepted-result e = rw (← contraction-is h w gh gw, ← residual-is f h gh) (root-result len f h w e)

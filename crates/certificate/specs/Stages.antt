@@ -10,15 +10,15 @@ use lib.ListN.{length, drop}
 use borrow.Author.Tests.{ne-eqb, lt-ltb, le-ltb, le-leb, lt-leb}
 use Rattle.integer.specs.Clearing.{zeros}
 use Rattle.chebyshev.specs.Coefficients.{weight}
-use Rattle.model.specs.Models.{scale, maxDegree, maxWeight, maxRadius, good, tooLarge, modelOf, zeroModel, firstRefusal}
+use Rattle.model.specs.Models.{scale, maxDegree, maxWeight, maxRadius, good, tooLarge, makeModel, zeroModel, firstRefusal}
 use Rattle.model.specs.ModelLaws.{good-is}
 use Rattle.model.specs.declared.types.Model.{Model}
 use Rattle.model.specs.declared.types.Verdict.{Verdict}
-use Rattle.certificate.specs.Tests.{Test, tested, scratchPlaces, scratchAfter, testPlaces, displacement, quotientOf, quotientContraction, quotientResidual, quotientModel}
-use Rattle.certificate.specs.declared.types.Certified.{Certified}
+use Rattle.certificate.specs.Tests.{Test, tested, scratchSize, scratchAfter, testPlaces, displacement, quotientOf, quotientContraction, quotientResidual, quotientModel}
+use Rattle.certificate.specs.declared.types.TestOutcome.{TestOutcome}
 
 -- the answer with these parts
-abbrev pub certifiedOf : Verdict → Model → ℕ → ℕ → ℕ → Certified
+abbrev pub certifiedOf : Verdict → Model → ℕ → ℕ → ℕ → TestOutcome
 certifiedOf v r m n b = record { verdict = v; model = r; contraction = m; residual = n; displacement = b }
 
 -- the answer of a refusal with number k
@@ -64,7 +64,7 @@ module _ (m n : ℕ) (ps : List (Bool × ℕ)) (r : Model) (i j k : ℕ) where
 -- ---- the place of the result
 
 -- of a good model with another radius only the radius can be too large
-pub large-radius : (h : Model) (r : ℕ) → good h ≡ true → tooLarge (modelOf (h .degree) (h .coefficients) r) ≡ ltb maxRadius r
+pub large-radius : (h : Model) (r : ℕ) → good h ≡ true → tooLarge (makeModel (h .degree) (h .coefficients) r) ≡ ltb maxRadius r
 unfolding tooLarge
 large-radius h r g =
     let p = good-is h g in
@@ -72,13 +72,13 @@ large-radius h r g =
 
 -- ---- the scratch
 
-pub scratch-short : (s : List ℤ) → length s < scratchPlaces → scratchAfter s ≡ s
+pub scratch-short : (s : List ℤ) → length s < scratchSize → scratchAfter s ≡ s
 unfolding scratchAfter
-scratch-short s e = rw (lt-leb scratchPlaces (length s) e)
+scratch-short s e = rw (lt-leb scratchSize (length s) e)
 
-pub scratch-cleared : (s : List ℤ) → scratchPlaces ≤ length s → scratchAfter s ≡ zeros scratchPlaces ++ drop scratchPlaces s
+pub scratch-cleared : (s : List ℤ) → scratchSize ≤ length s → scratchAfter s ≡ zeros scratchSize ++ drop scratchSize s
 unfolding scratchAfter zeros
-scratch-cleared s e = rw (le-leb scratchPlaces (length s) e)
+scratch-cleared s e = rw (le-leb scratchSize (length s) e)
 
 -- ---- the quotient test
 
@@ -91,22 +91,22 @@ bad-model true false c d k e = refl
 bad-model false b c d k e = refl
 
 module _ (len : ℕ) (f g h w : Model) where
-  pub quotient-short : len < scratchPlaces → quotientOf len f g h w ≡ refusedTest 1
+  pub quotient-short : len < scratchSize → quotientOf len f g h w ≡ refusedTest 1
   unfolding quotientOf
-  quotient-short e = tested-refuse _ 1 _ _ _ _ _ (lt-ltb len scratchPlaces e) (omega arith)
+  quotient-short e = tested-refuse _ 1 _ _ _ _ _ (lt-ltb len scratchSize e) (omega arith)
 
-  module _ (room : scratchPlaces ≤ len) where
+  module _ (room : scratchSize ≤ len) where
     -- a scratch that is long enough plays no further part
-    pub quotient-room : quotientOf len f g h w ≡ quotientOf scratchPlaces f g h w
+    pub quotient-room : quotientOf len f g h w ≡ quotientOf scratchSize f g h w
     unfolding quotientOf
-    quotient-room = rw (le-ltb len scratchPlaces room)
+    quotient-room = rw (le-ltb len scratchSize room)
 
     pub quotient-bad : (good f && (good g && (good h && good w))) ≡ false → quotientOf len f g h w ≡ refusedTest 2
     unfolding quotientOf tested firstRefusal
-    quotient-bad e = rw (le-ltb len scratchPlaces room, bad-model (good f) (good g) (good h) (good w) _ e)
+    quotient-bad e = rw (le-ltb len scratchSize room, bad-model (good f) (good g) (good h) (good w) _ e)
 
     pub quotient-tests : good f ≡ true → good g ≡ true → good h ≡ true → good w ≡ true → (m n b : ℕ)
         → m ≡ quotientContraction g w → n ≡ quotientResidual f g h → b ≡ displacement w n
         → quotientOf len f g h w ≡ tested (testPlaces m n ++ ((tooLarge (quotientModel h m b), 3) ∷ [])) (quotientModel h m b) m n b
     unfolding quotientOf tested firstRefusal
-    quotient-tests gf gg gh gw m n b em en eb = rw (le-ltb len scratchPlaces room, gf, gg, gh, gw, eb, en, em)
+    quotient-tests gf gg gh gw m n b em en eb = rw (le-ltb len scratchSize room, gf, gg, gh, gw, eb, en, em)

@@ -11,21 +11,21 @@ use Rattle.integer.specs.Integer.{ℤ-ring}
 use Rattle.integer.specs.Rounding.{upℕ}
 use Rattle.chebyshev.specs.Coefficients.{weight, subtractLists, scaleList}
 use Rattle.chebyshev.specs.Sign.{coefficientSum}
-use Rattle.model.specs.Models.{scale, productPlaces, maxRadius, good, tooLarge, modelOf, zeroModel, numberOf, firstRefusal, candidateModel}
+use Rattle.model.specs.Models.{scale, productSize, maxRadius, good, tooLarge, makeModel, zeroModel, numberOf, firstRefusal, candidateModel}
 use Rattle.model.specs.Operations.{productList}
 use Rattle.model.specs.declared.types.Model.{Model}
 use Rattle.model.specs.declared.types.Candidate.{Candidate}
-use Rattle.certificate.specs.declared.types.Certified.{Certified}
+use Rattle.certificate.specs.declared.types.TestOutcome.{TestOutcome}
 
 -- ---- the scratch
 
 -- "Each test borrows a scratch of 65 signed 64-bit numbers."
-abbrev pub scratchPlaces : ℕ
-scratchPlaces = productPlaces
+abbrev pub scratchSize : ℕ
+scratchSize = productSize
 
 -- "These are zero after every call, unless the scratch itself … was too short; numbers behind them stay."
 unfoldable pub scratchAfter : List ℤ → List ℤ
-scratchAfter s = cond (leb scratchPlaces (length s)) (replicate scratchPlaces (pos 0) ++ drop scratchPlaces s) s
+scratchAfter s = cond (leb scratchSize (length s)) (replicate scratchSize (pos 0) ++ drop scratchSize s) s
 
 -- ---- the numbers of the tests; "inside weight( ) a bare number stands at place 0"
 
@@ -51,7 +51,7 @@ quotientResidual f g h =
 
 -- "Result h with radius up(b·S/(S−m))"
 unfoldable pub quotientModel : Model → ℕ → ℕ → Model
-quotientModel h m b = modelOf (h .degree) (h .coefficients) (upℕ (b * scale) (scale - m))
+quotientModel h m b = makeModel (h .degree) (h .coefficients) (upℕ (b * scale) (scale - m))
 
 -- "m = up(weight(S² − C(w,h))/S)"
 unfoldable pub rootContraction : Model → Model → ℕ
@@ -66,7 +66,7 @@ rootResidual f h =
 
 -- "Result h with radius up(2·b·S/(S−m))"
 unfoldable pub rootModel : Model → ℕ → ℕ → Model
-rootModel h m b = modelOf (h .degree) (h .coefficients) (upℕ (2 * b * scale) (scale - m))
+rootModel h m b = makeModel (h .degree) (h .coefficients) (upℕ (2 * b * scale) (scale - m))
 
 -- ---- the answers: number, model, m, N and b. "Any other number an entry answers, or a record holds, is zero on refusal too."
 
@@ -77,7 +77,7 @@ pub record Test : Type 0 where
   pub N : ℕ
   pub b : ℕ
 
-abbrev pub testOf : Certified → Test
+abbrev pub testOf : TestOutcome → Test
 testOf r = record { number = numberOf (r .verdict); model = r .model; m = r .contraction; N = r .residual; b = r .displacement }
 
 unfoldable pub tested : List (Bool × ℕ) → Model → ℕ → ℕ → ℕ → Test
@@ -98,7 +98,7 @@ abbrev pub quotientPlaces : ℕ → Model → Model → Model → Model → List
 quotientPlaces len f g h w =
     let m = quotientContraction g w in
     let n = quotientResidual f g h in
-    (ltb len scratchPlaces, 1) ∷ (not (good f), 2) ∷ (not (good g), 2) ∷ (not (good h), 2) ∷ (not (good w), 2)
+    (ltb len scratchSize, 1) ∷ (not (good f), 2) ∷ (not (good g), 2) ∷ (not (good h), 2) ∷ (not (good w), 2)
     ∷ (testPlaces m n ++ ((tooLarge (quotientModel h m (displacement w n)), 3) ∷ []))
 
 unfoldable pub quotientOf : ℕ → Model → Model → Model → Model → Test
@@ -111,7 +111,7 @@ quotientOf len f g h w =
 -- Root of f, through N: the places that every root command shares; "root: helper", 7, "Σ w_k ≤ 0"
 unfoldable pub rootPlaces : ℕ → Model → Model → Model → List (Bool × ℕ)
 rootPlaces len f h w =
-    (ltb len scratchPlaces, 1) ∷ (not (good f), 2) ∷ (not (good h), 2) ∷ (not (good w), 2)
+    (ltb len scratchSize, 1) ∷ (not (good f), 2) ∷ (not (good h), 2) ∷ (not (good w), 2)
     ∷ (leZ (coefficientSum (w .coefficients)) (pos 0), 7) ∷ testPlaces (rootContraction h w) (rootResidual f h)
 
 -- "The test: Σ w_k > 0, m < S, N ≤ 2^28, (S−m)² ≥ 8·b·M."

@@ -11,7 +11,7 @@ use Rattle.integer.specs.Integer.{ℤ-ring}
 use Rattle.chebyshev.specs.Product.{product}
 use Rattle.chebyshev.specs.ProductLaws.{length-product}
 use Rattle.chebyshev.specs.ProductSums.{twoSums, product-two-sums}
-use Rattle.model.specs.Models.{productPlaces, good}
+use Rattle.model.specs.Models.{productSize, good}
 use Rattle.model.specs.GoodLaws.{product-coefficients}
 use Rattle.model.specs.Operations.{productList}
 use Rattle.model.specs.declared.types.Model.{Model}
@@ -47,5 +47,5 @@ product-two-sums-list width a b =
     product-two-sums ℤ-ring width a b k l ∙ sym (at-tabulate width (λ k. twoSums ℤ-ring k a b) k l))
 
 -- of good models, over all coefficients
-pub productList-good : (a b : Model) → good a ≡ true → good b ≡ true → productList a b ≡ twoSumsList productPlaces (a .coefficients) (b .coefficients)
-productList-good a b ga gb = product-coefficients a b ga gb ∙ product-two-sums-list productPlaces (a .coefficients) (b .coefficients)
+pub productList-good : (a b : Model) → good a ≡ true → good b ≡ true → productList a b ≡ twoSumsList productSize (a .coefficients) (b .coefficients)
+productList-good a b ga gb = product-coefficients a b ga gb ∙ product-two-sums-list productSize (a .coefficients) (b .coefficients)

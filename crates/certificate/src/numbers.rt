@@ -6,7 +6,7 @@ ghost use Rattle.integer.specs.Rounding.{upℕ};
 ghost use Rattle.integer.specs.Clearing.{zeros};
 ghost use Rattle.chebyshev.specs.Coefficients.{weight as weightOf};
 ghost use Rattle.model.specs.Models.{scale, maxWeight, maxRadius, good, candidateModel};
-ghost use Rattle.certificate.specs.Tests.{scratchPlaces, quotientContraction, quotientResidual, rootContraction, rootResidual};
+ghost use Rattle.certificate.specs.Tests.{scratchSize, quotientContraction, quotientResidual, rootContraction, rootResidual};
 use crate::residual::constant_residual;
 use crate::residual::product_residual;
 use integer::rounding::up_unsigned;
@@ -22,8 +22,8 @@ const SQUARE: i64 = Model::SCALE * Model::SCALE;
 
 // m of the quotient; `weight` is M.
 pub(crate) fn quotient_contraction(part: &mut [i64], g: Model, w: Candidate, weight: u64) -> u64
-    requires { ⌜ (now part ≡ zeros scratchPlaces) × (good g ≡ true) × (good (candidateModel w) ≡ true) × (weight ≡ weightOf (w .coefficients)) ⌝ }
-    ensures { λ r. ⌜ (r ≡ quotientContraction g (candidateModel w)) × (now (part .exit) ≡ zeros scratchPlaces) ⌝ }
+    requires { ⌜ (now part ≡ zeros scratchSize) × (good g ≡ true) × (good (candidateModel w) ≡ true) × (weight ≡ weightOf (w .coefficients)) ⌝ }
+    ensures { λ r. ⌜ (r ≡ quotientContraction g (candidateModel w)) × (now (part .exit) ≡ zeros scratchSize) ⌝ }
 {
     let distance = constant_residual(
         part,
@@ -44,8 +44,8 @@ pub(crate) fn quotient_residual(
     h: Candidate,
     weight: u64,
 ) -> u64
-    requires { ⌜ (now part ≡ zeros scratchPlaces) × (good f ≡ true) × (good g ≡ true) × (good (candidateModel h) ≡ true) × (weight ≡ weightOf (h .coefficients)) ⌝ }
-    ensures { λ r. ⌜ (r ≡ quotientResidual f g (candidateModel h)) × (now (part .exit) ≡ zeros scratchPlaces) ⌝ }
+    requires { ⌜ (now part ≡ zeros scratchSize) × (good f ≡ true) × (good g ≡ true) × (good (candidateModel h) ≡ true) × (weight ≡ weightOf (h .coefficients)) ⌝ }
+    ensures { λ r. ⌜ (r ≡ quotientResidual f g (candidateModel h)) × (now (part .exit) ≡ zeros scratchSize) ⌝ }
 {
     let distance = product_residual(
         part,
@@ -63,8 +63,8 @@ pub(crate) fn quotient_residual(
 
 // m of the root.
 pub(crate) fn root_contraction(part: &mut [i64], h: Candidate, w: Candidate) -> u64
-    requires { ⌜ (now part ≡ zeros scratchPlaces) × (good (candidateModel h) ≡ true) × (good (candidateModel w) ≡ true) ⌝ }
-    ensures { λ r. ⌜ (r ≡ rootContraction (candidateModel h) (candidateModel w)) × (now (part .exit) ≡ zeros scratchPlaces) ⌝ }
+    requires { ⌜ (now part ≡ zeros scratchSize) × (good (candidateModel h) ≡ true) × (good (candidateModel w) ≡ true) ⌝ }
+    ensures { λ r. ⌜ (r ≡ rootContraction (candidateModel h) (candidateModel w)) × (now (part .exit) ≡ zeros scratchSize) ⌝ }
 {
     let distance = constant_residual(
         part,
@@ -79,8 +79,8 @@ pub(crate) fn root_contraction(part: &mut [i64], h: Candidate, w: Candidate) -> 
 
 // N of the root.
 pub(crate) fn root_residual(part: &mut [i64], f: Model, h: Candidate) -> u64
-    requires { ⌜ (now part ≡ zeros scratchPlaces) × (good f ≡ true) × (good (candidateModel h) ≡ true) ⌝ }
-    ensures { λ r. ⌜ (r ≡ rootResidual f (candidateModel h)) × (now (part .exit) ≡ zeros scratchPlaces) ⌝ }
+    requires { ⌜ (now part ≡ zeros scratchSize) × (good f ≡ true) × (good (candidateModel h) ≡ true) ⌝ }
+    ensures { λ r. ⌜ (r ≡ rootResidual f (candidateModel h)) × (now (part .exit) ≡ zeros scratchSize) ⌝ }
 {
     let distance = product_residual(
         part,

@@ -8,13 +8,13 @@ ghost use Rattle.integer.specs.Integer.{ℤ-ring};
 ghost use Rattle.integer.specs.Clearing.{zeros};
 ghost use Rattle.chebyshev.specs.Coefficients.{weight};
 ghost use Rattle.chebyshev.specs.Product.{product};
-ghost use Rattle.model.specs.Models.{scale, places, maxDegree};
-ghost use Rattle.certificate.specs.Tests.{scratchPlaces};
+ghost use Rattle.model.specs.Models.{scale, coefficientCount, maxDegree};
+ghost use Rattle.certificate.specs.Tests.{scratchSize};
 ghost use Rattle.certificate.specs.Residuals.{residualList, constantResidual};
 use integer::absolute::magnitude;
 use model::products::add_products;
+use model::types::COEFFICIENTS;
 use model::types::Model;
-use model::types::PLACES;
 
 // 2S, one unit of a coefficient in units of C.
 const UNIT: i64 = 2 * Model::SCALE;
@@ -98,10 +98,10 @@ fn drain_residual(part: &mut [i64], start: usize, f: &[i32]) -> u64
 }
 
 // C(a, b) of coefficients up to the degrees n and k, in a part that is zero.
-fn form(part: &mut [i64], a: &[i32; PLACES], n: u32, b: &[i32; PLACES], k: u32)
-    requires { ⌜ (now part ≡ zeros scratchPlaces) × (2 * weight (now a) * weight (now b) < 2 ^ 63) ⌝ }
-    requires { ⌜ (length (now a) ≡ places) × (length (now b) ≡ places) × (n ≤ maxDegree) × (k ≤ maxDegree) ⌝ }
-    ensures { λ _. ⌜ now (part .exit) ≡ product ℤ-ring scratchPlaces (take (suc n) (now (a .entry))) (take (suc k) (now (b .entry))) ⌝ }
+fn form(part: &mut [i64], a: &[i32; COEFFICIENTS], n: u32, b: &[i32; COEFFICIENTS], k: u32)
+    requires { ⌜ (now part ≡ zeros scratchSize) × (2 * weight (now a) * weight (now b) < 2 ^ 63) ⌝ }
+    requires { ⌜ (length (now a) ≡ coefficientCount) × (length (now b) ≡ coefficientCount) × (n ≤ maxDegree) × (k ≤ maxDegree) ⌝ }
+    ensures { λ _. ⌜ now (part .exit) ≡ product ℤ-ring scratchSize (take (suc n) (now (a .entry))) (take (suc k) (now (b .entry))) ⌝ }
 {
     let x = &a[..];
     let y = &b[..];
@@ -111,16 +111,16 @@ fn form(part: &mut [i64], a: &[i32; PLACES], n: u32, b: &[i32; PLACES], k: u32)
 // The weight of c - C(a, b). The part is zero before and after.
 pub(crate) fn constant_residual(
     part: &mut [i64],
-    a: &[i32; PLACES],
+    a: &[i32; COEFFICIENTS],
     n: u32,
-    b: &[i32; PLACES],
+    b: &[i32; COEFFICIENTS],
     k: u32,
     c: i64,
 ) -> u64
-    requires { ⌜ (now part ≡ zeros scratchPlaces) × (2 * weight (now a) * weight (now b) + natAbs c < 2 ^ 63) ⌝ }
-    requires { ⌜ (length (now a) ≡ places) × (length (now b) ≡ places) × (n ≤ maxDegree) × (k ≤ maxDegree) ⌝ }
-    ensures { λ r. ⌜ r ≡ weight (constantResidual 0 c (product ℤ-ring scratchPlaces (take (suc n) (now (a .entry))) (take (suc k) (now (b .entry))))) ⌝ }
-    ensures { λ _. ⌜ now (part .exit) ≡ zeros scratchPlaces ⌝ }
+    requires { ⌜ (now part ≡ zeros scratchSize) × (2 * weight (now a) * weight (now b) + natAbs c < 2 ^ 63) ⌝ }
+    requires { ⌜ (length (now a) ≡ coefficientCount) × (length (now b) ≡ coefficientCount) × (n ≤ maxDegree) × (k ≤ maxDegree) ⌝ }
+    ensures { λ r. ⌜ r ≡ weight (constantResidual 0 c (product ℤ-ring scratchSize (take (suc n) (now (a .entry))) (take (suc k) (now (b .entry))))) ⌝ }
+    ensures { λ _. ⌜ now (part .exit) ≡ zeros scratchSize ⌝ }
 {
     form(part, a, n, b, k);
     drain_constant(part, 0, c)
@@ -129,16 +129,16 @@ pub(crate) fn constant_residual(
 // The weight of C(a, b) - 2S f. The part is zero before and after.
 pub(crate) fn product_residual(
     part: &mut [i64],
-    a: &[i32; PLACES],
+    a: &[i32; COEFFICIENTS],
     n: u32,
-    b: &[i32; PLACES],
+    b: &[i32; COEFFICIENTS],
     k: u32,
-    f: &[i32; PLACES],
+    f: &[i32; COEFFICIENTS],
 ) -> u64
-    requires { ⌜ (now part ≡ zeros scratchPlaces) × (2 * weight (now a) * weight (now b) + 2 * scale * weight (now f) < 2 ^ 63) ⌝ }
-    requires { ⌜ (length (now a) ≡ places) × (length (now b) ≡ places) × (length (now f) ≡ places) × (n ≤ maxDegree) × (k ≤ maxDegree) ⌝ }
-    ensures { λ r. ⌜ r ≡ weight (residualList (product ℤ-ring scratchPlaces (take (suc n) (now (a .entry))) (take (suc k) (now (b .entry)))) (now (f .entry))) ⌝ }
-    ensures { λ _. ⌜ now (part .exit) ≡ zeros scratchPlaces ⌝ }
+    requires { ⌜ (now part ≡ zeros scratchSize) × (2 * weight (now a) * weight (now b) + 2 * scale * weight (now f) < 2 ^ 63) ⌝ }
+    requires { ⌜ (length (now a) ≡ coefficientCount) × (length (now b) ≡ coefficientCount) × (length (now f) ≡ coefficientCount) × (n ≤ maxDegree) × (k ≤ maxDegree) ⌝ }
+    ensures { λ r. ⌜ r ≡ weight (residualList (product ℤ-ring scratchSize (take (suc n) (now (a .entry))) (take (suc k) (now (b .entry)))) (now (f .entry))) ⌝ }
+    ensures { λ _. ⌜ now (part .exit) ≡ zeros scratchSize ⌝ }
 {
     form(part, a, n, b, k);
     drain_residual(part, 0, f)

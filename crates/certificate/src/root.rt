@@ -8,8 +8,8 @@ ghost use lib.ListN.{length};
 ghost use Rattle.integer.specs.Clearing.{zeros};
 ghost use Rattle.chebyshev.specs.Coefficients.{weight as weightOf};
 ghost use Rattle.chebyshev.specs.Sign.{coefficientSum};
-ghost use Rattle.model.specs.Models.{scale, places, maxWeight, good, tooLarge, candidateModel};
-ghost use Rattle.certificate.specs.Tests.{scratchPlaces, scratchAfter, testOf, tested, rootModel, rootTest};
+ghost use Rattle.model.specs.Models.{scale, coefficientCount, maxWeight, good, tooLarge, candidateModel};
+ghost use Rattle.certificate.specs.Tests.{scratchSize, scratchAfter, testOf, tested, rootModel, rootTest};
 ghost use Rattle.certificate.specs.RootNumbers.{rootOutcomeOf, rootOutcome};
 use crate::numbers::SCALE;
 use crate::numbers::displacement;
@@ -17,24 +17,24 @@ use crate::numbers::root_contraction;
 use crate::numbers::root_radius;
 use crate::numbers::root_residual;
 use crate::residual::clear;
-use crate::types::Certified;
 use crate::types::RootNumbers;
-use crate::types::SCRATCH_PLACES;
+use crate::types::SCRATCH_SIZE;
+use crate::types::TestOutcome;
 use model::measure::measure;
 use model::measure::measure_candidate;
+use model::types::COEFFICIENTS;
 use model::types::Candidate;
 use model::types::Model;
-use model::types::PLACES;
 use model::types::Verdict;
 
 // Σ w_k
-fn total(coefficients: &[i32; PLACES]) -> i64
-    requires { ⌜ length (now coefficients) ≡ places ⌝ }
+fn total(coefficients: &[i32; COEFFICIENTS]) -> i64
+    requires { ⌜ length (now coefficients) ≡ coefficientCount ⌝ }
     ensures { λ r. ⌜ r ≡ coefficientSum (now (coefficients .entry)) ⌝ }
 {
     let mut sum: i64 = 0;
     let mut k = 0;
-    while k < PLACES {
+    while k < COEFFICIENTS {
         sum = sum + (coefficients[k] as i64);
         k += 1;
     }
@@ -49,9 +49,9 @@ fn numbers_of_good(
     w: Candidate,
     weight: u64,
 ) -> RootNumbers
-    requires { ⌜ (now part ≡ zeros scratchPlaces) × (good f ≡ true) × (good (candidateModel h) ≡ true) × (good (candidateModel w) ≡ true) × (weight ≡ weightOf (w .coefficients)) ⌝ }
-    ensures { λ (r : RootNumbers). ⌜ rootOutcomeOf r ≡ rootOutcome scratchPlaces f (candidateModel h) (candidateModel w) ⌝ }
-    ensures { λ _. ⌜ now (part .exit) ≡ zeros scratchPlaces ⌝ }
+    requires { ⌜ (now part ≡ zeros scratchSize) × (good f ≡ true) × (good (candidateModel h) ≡ true) × (good (candidateModel w) ≡ true) × (weight ≡ weightOf (w .coefficients)) ⌝ }
+    ensures { λ (r : RootNumbers). ⌜ rootOutcomeOf r ≡ rootOutcome scratchSize f (candidateModel h) (candidateModel w) ⌝ }
+    ensures { λ _. ⌜ now (part .exit) ≡ zeros scratchSize ⌝ }
 {
     if total(&w.coefficients) <= 0 {
         return RootNumbers::Refused(Verdict::HelperNotPositive);
@@ -77,9 +77,9 @@ fn numbers_of_good(
 
 // The places through N in a part of the scratch, which is zero afterwards.
 fn numbers_in(part: &mut [i64], f: Model, h: Candidate, w: Candidate) -> RootNumbers
-    requires { ⌜ length (now part) ≡ scratchPlaces ⌝ }
-    ensures { λ (r : RootNumbers). ⌜ rootOutcomeOf r ≡ rootOutcome scratchPlaces f (candidateModel h) (candidateModel w) ⌝ }
-    ensures { λ _. ⌜ now (part .exit) ≡ zeros scratchPlaces ⌝ }
+    requires { ⌜ length (now part) ≡ scratchSize ⌝ }
+    ensures { λ (r : RootNumbers). ⌜ rootOutcomeOf r ≡ rootOutcome scratchSize f (candidateModel h) (candidateModel w) ⌝ }
+    ensures { λ _. ⌜ now (part .exit) ≡ zeros scratchSize ⌝ }
 {
     clear(part);
     if measure(f).good {
@@ -98,34 +98,34 @@ pub(crate) fn root_numbers(f: Model, h: Candidate, w: Candidate, scratch: &mut [
     ensures { λ (r : RootNumbers). ⌜ rootOutcomeOf r ≡ rootOutcome (length (now (scratch .entry))) f (candidateModel h) (candidateModel w) ⌝ }
     ensures { λ _. ⌜ now (scratch .exit) ≡ scratchAfter (now (scratch .entry)) ⌝ }
 {
-    if scratch.len() < SCRATCH_PLACES {
+    if scratch.len() < SCRATCH_SIZE {
         return RootNumbers::Refused(Verdict::ShortArea);
     }
-    numbers_in(&mut scratch[..SCRATCH_PLACES], f, h, w)
+    numbers_in(&mut scratch[..SCRATCH_SIZE], f, h, w)
 }
 
 // Discriminant and radius. 8·b·M may pass 64 bits, so b is compared with (S-m)² / (8·M). The result is never too large.
-fn root_result(h: Candidate, weight: u64, m: u64, n: u64, b: u64) -> Certified
+fn root_result(h: Candidate, weight: u64, m: u64, n: u64, b: u64) -> TestOutcome
     requires { ⌜ (good (candidateModel h) ≡ true) × (0 < weight) × (weight ≤ maxWeight) × (m < scale) × (b ≤ 2 ^ 36) ⌝ }
     requires { ⌜ (scale - m) * scale ≤ 2 ^ 29 * weight ⌝ }
-    ensures { λ (r : Certified). ⌜ testOf r ≡ tested ((ltb ((scale - m) * (scale - m)) (8 * b * weight), 8) ∷ (tooLarge (rootModel (candidateModel h) m b), 3) ∷ []) (rootModel (candidateModel h) m b) m n b ⌝ }
+    ensures { λ (r : TestOutcome). ⌜ testOf r ≡ tested ((ltb ((scale - m) * (scale - m)) (8 * b * weight), 8) ∷ (tooLarge (rootModel (candidateModel h) m b), 3) ∷ []) (rootModel (candidateModel h) m b) m n b ⌝ }
 {
     let gap = SCALE - m;
     if b <= gap * gap / (8 * weight) {
         let radius = root_radius(b, m);
-        Certified::accepted(h, radius as u32, m, n, b)
+        TestOutcome::accepted(h, radius as u32, m, n, b)
     } else {
-        Certified::refused(Verdict::NegativeDiscriminant)
+        TestOutcome::refused(Verdict::NegativeDiscriminant)
     }
 }
 
-pub fn root(f: Model, h: Candidate, w: Candidate, scratch: &mut [i64]) -> Certified
-    ensures { λ (r : Certified). ⌜ testOf r ≡ rootTest (length (now (scratch .entry))) f h w ⌝ }
+pub fn root(f: Model, h: Candidate, w: Candidate, scratch: &mut [i64]) -> TestOutcome
+    ensures { λ (r : TestOutcome). ⌜ testOf r ≡ rootTest (length (now (scratch .entry))) f h w ⌝ }
     ensures { λ _. ⌜ now (scratch .exit) ≡ scratchAfter (now (scratch .entry)) ⌝ }
 {
     let numbers = root_numbers(f, h, w, scratch);
     match numbers {
-        RootNumbers::Refused(verdict) => Certified::refused(verdict),
+        RootNumbers::Refused(verdict) => TestOutcome::refused(verdict),
         RootNumbers::Reached {
             weight,
             contraction: m,

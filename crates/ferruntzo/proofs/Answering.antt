@@ -7,7 +7,7 @@ use borrow.Author.Tests.{leb-true}
 use lib.IntN.{ℤ}
 use lib.ListN.{length, drop}
 use Rattle.model.specs.Models.{numberOf, Outcome, outcomeOf}
-use Rattle.model.specs.Areas.{modelPlaces, words, Storable}
+use Rattle.model.specs.Areas.{modelSize, words, Storable}
 use Rattle.model.specs.declared.types.Answer.{Answer}
 use Rattle.ferruntzo.specs.Answers.{fits, numberOut, areaOut, modelOut}
 
@@ -47,9 +47,9 @@ module _ (r : Answer) (o : Outcome) (same : outcomeOf r ≡ o) where
   answer-storable s = rw (ap (λ (a : Outcome). a .model) same) s
 
   pub answered : {fit : Bool} {n : ℕ} {now : List ℤ} (out : List ℤ) → fit ≡ true
-      → n ≡ numberOf (r .verdict) → now ≡ words (r .model) ++ drop modelPlaces out
+      → n ≡ numberOf (r .verdict) → now ≡ words (r .model) ++ drop modelSize out
       → (n ≡ numberOut fit (o .number)) × (now ≡ modelOut fit (o .model) out)
   answered out h number area = (
     number-given h (number ∙ ap (λ (a : Outcome). a .number) same),
-    area-given modelPlaces (words (o .model)) out h (area ∙ ap (λ (a : Outcome). words (a .model) ++ drop modelPlaces out) same),
+    area-given modelSize (words (o .model)) out h (area ∙ ap (λ (a : Outcome). words (a .model) ++ drop modelSize out) same),
   )

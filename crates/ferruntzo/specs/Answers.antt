@@ -6,7 +6,7 @@ use Prim.Native.Nat.{ℕ}
 use lib.Dec.{leb}
 use lib.IntN.{ℤ}
 use lib.ListN.{length, drop}
-use Rattle.model.specs.Areas.{modelPlaces, words}
+use Rattle.model.specs.Areas.{modelSize, words}
 use Rattle.model.specs.Evaluation.{Enclosure}
 use Rattle.model.specs.Models.{Outcome}
 use Rattle.model.specs.Operations.{addition, subtraction, multiplication}
@@ -15,8 +15,8 @@ use Rattle.ferruntzo.specs.declared.operations.Operation.{Operation}
 use Rattle.ferruntzo.specs.declared.operations.Operation.the-variants.{Add, Subtract, Multiply}
 
 -- how many numbers the bounds of an evaluation have
-abbrev pub boundsPlaces : ℕ
-boundsPlaces = 2
+abbrev pub boundsSize : ℕ
+boundsSize = 2
 
 -- ---- whether every area has its numbers
 
@@ -25,15 +25,15 @@ fits n s = leb n (length s)
 
 -- two models and a result
 abbrev pub binaryFits : List ℤ → List ℤ → List ℤ → Bool
-binaryFits a b out = fits modelPlaces a && fits modelPlaces b && fits modelPlaces out
+binaryFits a b out = fits modelSize a && fits modelSize b && fits modelSize out
 
 -- a model and a result
 abbrev pub unaryFits : List ℤ → List ℤ → Bool
-unaryFits a out = fits modelPlaces a && fits modelPlaces out
+unaryFits a out = fits modelSize a && fits modelSize out
 
 -- a model and bounds
 abbrev pub boundsFit : List ℤ → List ℤ → Bool
-boundsFit a bounds = fits modelPlaces a && fits boundsPlaces bounds
+boundsFit a bounds = fits modelSize a && fits boundsSize bounds
 
 -- ---- the answer, and what an area holds afterwards
 
@@ -45,10 +45,10 @@ unfoldable pub areaOut : {A : Type 0} → Bool → ℕ → List A → List A →
 areaOut fit n new old = cond fit (new ++ drop n old) old
 
 abbrev pub modelOut : Bool → Model → List ℤ → List ℤ
-modelOut fit m out = areaOut fit modelPlaces (words m) out
+modelOut fit m out = areaOut fit modelSize (words m) out
 
 abbrev pub boundsOut : Bool → Enclosure → List ℤ → List ℤ
-boundsOut fit e bounds = areaOut fit boundsPlaces (e .low ∷ e .high ∷ []) bounds
+boundsOut fit e bounds = areaOut fit boundsSize (e .low ∷ e .high ∷ []) bounds
 
 -- ---- the operations on two models
 

@@ -7,8 +7,8 @@ use Rattle.job.specs.Work.{checkOf, workAfter, scratchAfterJob, answered}
 use Rattle.ferruntzo.specs.Answers.{fits, numberOut, areaOut}
 
 -- how many numbers an answer has: the count of results, and the number of the refused command
-abbrev pub answerPlaces : ℕ
-answerPlaces = 2
+abbrev pub answerSize : ℕ
+answerSize = 2
 
 -- the number, and what the work area, the scratch and the area of the answer hold afterwards
 pub record JobAnswer : Type 0 where
@@ -26,7 +26,7 @@ unfoldable pub checkAnswer : List ℕ → List ℤ → List ℤ → List ℕ →
 checkAnswer job work scratch answer =
     let a = answered (checkOf job work scratch) in
     jobAnswer
-    (numberOut (fits answerPlaces answer) (a .number))
-    (cond (fits answerPlaces answer) (workAfter job work scratch) work)
-    (cond (fits answerPlaces answer) (scratchAfterJob work scratch) scratch)
-    (areaOut (fits answerPlaces answer) answerPlaces (a .count ∷ a .command ∷ []) answer)
+    (numberOut (fits answerSize answer) (a .number))
+    (cond (fits answerSize answer) (workAfter job work scratch) work)
+    (cond (fits answerSize answer) (scratchAfterJob work scratch) scratch)
+    (areaOut (fits answerSize answer) answerSize (a .count ∷ a .command ∷ []) answer)

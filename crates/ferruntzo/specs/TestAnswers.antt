@@ -5,13 +5,13 @@ use Prim.Native.Nat.{ℕ}
 use lib.IntN.{ℤ}
 use lib.ListN.{length}
 use Rattle.integer.specs.Clearing.{zeros}
-use Rattle.model.specs.Areas.{modelPlaces, candidatePlaces, areaModel, areaCandidate}
-use Rattle.certificate.specs.Tests.{scratchPlaces, Test, quotientTest, rootTest}
+use Rattle.model.specs.Areas.{modelSize, candidateSize, areaModel, areaCandidate}
+use Rattle.certificate.specs.Tests.{scratchSize, Test, quotientTest, rootTest}
 use Rattle.ferruntzo.specs.Answers.{fits, numberOut, areaOut, modelOut}
 
 -- how many numbers m, N and b are
-abbrev pub reportPlaces : ℕ
-reportPlaces = 3
+abbrev pub numbersSize : ℕ
+numbersSize = 3
 
 -- the number, and what the scratch, the area of the result and that of m, N and b hold afterwards
 pub record TestAnswer : Type 0 where
@@ -28,26 +28,26 @@ unfoldable pub answerOfTest : Bool → Test → List ℤ → List ℤ → List �
 answerOfTest fit t scratch out report =
     testAnswer
     (numberOut fit (t .number))
-    (areaOut fit scratchPlaces (zeros scratchPlaces) scratch)
+    (areaOut fit scratchSize (zeros scratchSize) scratch)
     (modelOut fit (t .model) out)
-    (areaOut fit reportPlaces (t .m ∷ t .N ∷ t .b ∷ []) report)
+    (areaOut fit numbersSize (t .m ∷ t .N ∷ t .b ∷ []) report)
 
 -- whether every area has its numbers: those of the models, of h and w, the scratch, the result, and m, N and b
 abbrev pub testFits : Bool → List ℤ → List ℤ → List ℤ → List ℤ → List ℕ → Bool
 testFits models h w scratch out report =
-    models && fits candidatePlaces h && fits candidatePlaces w && fits scratchPlaces scratch && fits modelPlaces out
-    && fits reportPlaces report
+    models && fits candidateSize h && fits candidateSize w && fits scratchSize scratch && fits modelSize out
+    && fits numbersSize report
 
 abbrev pub quotientAnswer : List ℤ → List ℤ → List ℤ → List ℤ → List ℤ → List ℤ → List ℕ → TestAnswer
 quotientAnswer f g h w scratch out report =
     answerOfTest
-    (testFits (fits modelPlaces f && fits modelPlaces g) h w scratch out report)
+    (testFits (fits modelSize f && fits modelSize g) h w scratch out report)
     (quotientTest (length scratch) (areaModel f) (areaModel g) (areaCandidate h) (areaCandidate w))
     scratch out report
 
 abbrev pub rootAnswer : List ℤ → List ℤ → List ℤ → List ℤ → List ℤ → List ℕ → TestAnswer
 rootAnswer f h w scratch out report =
     answerOfTest
-    (testFits (fits modelPlaces f) h w scratch out report)
+    (testFits (fits modelSize f) h w scratch out report)
     (rootTest (length scratch) (areaModel f) (areaCandidate h) (areaCandidate w))
     scratch out report

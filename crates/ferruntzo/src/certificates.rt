@@ -4,28 +4,28 @@ ghost use mathlib.Core.List.{[], _∷_, _++_};
 ghost use Prim.Native.Nat.{_≤_};
 ghost use lib.ListN.{length, drop};
 ghost use Rattle.model.specs.Models.{numberOf};
-ghost use Rattle.model.specs.Areas.{modelPlaces, words, Storable};
-ghost use Rattle.ferruntzo.specs.TestAnswers.{reportPlaces, testAnswer, quotientAnswer, rootAnswer};
+ghost use Rattle.model.specs.Areas.{modelSize, words, Storable};
+ghost use Rattle.ferruntzo.specs.TestAnswers.{numbersSize, testAnswer, quotientAnswer, rootAnswer};
 use crate::areas::SHORT_AREA;
 use crate::areas::candidate_in;
 use crate::areas::model_in;
 use crate::areas::write_answer;
 use certificate::quotient::quotient;
 use certificate::root::root;
-use certificate::types::Certified;
-use certificate::types::SCRATCH_PLACES;
-use model::area::CANDIDATE_PLACES;
-use model::area::MODEL_PLACES;
+use certificate::types::SCRATCH_SIZE;
+use certificate::types::TestOutcome;
+use model::area::CANDIDATE_SIZE;
+use model::area::MODEL_SIZE;
 
 // Document 01's m, N and b.
-const REPORT_PLACES: usize = 3;
+const NUMBERS_SIZE: usize = 3;
 
 // Writes a test's model and its m, N and b into areas, and gives the number of its verdict.
-fn write_test(test: Certified, out: &mut [i32], report: &mut [u64]) -> u32
-    requires { ⌜ (modelPlaces ≤ length (now out)) × (reportPlaces ≤ length (now report)) × Storable (test .model) ⌝ }
+fn write_test(test: TestOutcome, out: &mut [i32], report: &mut [u64]) -> u32
+    requires { ⌜ (modelSize ≤ length (now out)) × (numbersSize ≤ length (now report)) × Storable (test .model) ⌝ }
     ensures { λ r. ⌜ r ≡ numberOf (test .verdict) ⌝ }
-    ensures { λ _. ⌜ now (out .exit) ≡ words (test .model) ++ drop modelPlaces (now (out .entry)) ⌝ }
-    ensures { λ _. ⌜ now (report .exit) ≡ (test .contraction ∷ test .residual ∷ test .displacement ∷ []) ++ drop reportPlaces (now (report .entry)) ⌝ }
+    ensures { λ _. ⌜ now (out .exit) ≡ words (test .model) ++ drop modelSize (now (out .entry)) ⌝ }
+    ensures { λ _. ⌜ now (report .exit) ≡ (test .contraction ∷ test .residual ∷ test .displacement ∷ []) ++ drop numbersSize (now (report .entry)) ⌝ }
 {
     report[0] = test.contraction;
     report[1] = test.residual;
@@ -47,13 +47,13 @@ pub extern "C" fn ferruntzo_quotient(
 ) -> u32
     ensures { λ r. ⌜ testAnswer r (now (scratch .exit)) (now (out .exit)) (now (report .exit)) ≡ quotientAnswer (now (f .entry)) (now (g .entry)) (now (h .entry)) (now (w .entry)) (now (scratch .entry)) (now (out .entry)) (now (report .entry)) ⌝ }
 {
-    if (MODEL_PLACES <= f.len())
-        & (MODEL_PLACES <= g.len())
-        & (CANDIDATE_PLACES <= h.len())
-        & (CANDIDATE_PLACES <= w.len())
-        & (SCRATCH_PLACES <= scratch.len())
-        & (MODEL_PLACES <= out.len())
-        & (REPORT_PLACES <= report.len())
+    if (MODEL_SIZE <= f.len())
+        & (MODEL_SIZE <= g.len())
+        & (CANDIDATE_SIZE <= h.len())
+        & (CANDIDATE_SIZE <= w.len())
+        & (SCRATCH_SIZE <= scratch.len())
+        & (MODEL_SIZE <= out.len())
+        & (NUMBERS_SIZE <= report.len())
     {
         let test = quotient(
             model_in(f),
@@ -80,12 +80,12 @@ pub extern "C" fn ferruntzo_root(
 ) -> u32
     ensures { λ r. ⌜ testAnswer r (now (scratch .exit)) (now (out .exit)) (now (report .exit)) ≡ rootAnswer (now (f .entry)) (now (h .entry)) (now (w .entry)) (now (scratch .entry)) (now (out .entry)) (now (report .entry)) ⌝ }
 {
-    if (MODEL_PLACES <= f.len())
-        & (CANDIDATE_PLACES <= h.len())
-        & (CANDIDATE_PLACES <= w.len())
-        & (SCRATCH_PLACES <= scratch.len())
-        & (MODEL_PLACES <= out.len())
-        & (REPORT_PLACES <= report.len())
+    if (MODEL_SIZE <= f.len())
+        & (CANDIDATE_SIZE <= h.len())
+        & (CANDIDATE_SIZE <= w.len())
+        & (SCRATCH_SIZE <= scratch.len())
+        & (MODEL_SIZE <= out.len())
+        & (NUMBERS_SIZE <= report.len())
     {
         let test = root(model_in(f), candidate_in(h), candidate_in(w), scratch);
         write_test(test, out, report)

@@ -9,7 +9,7 @@ use job::types::Report;
 use model::types::number_of;
 
 // The count of results, and the number of the refused command.
-const ANSWER_PLACES: usize = 2;
+const ANSWER_SIZE: usize = 2;
 
 // Checks a job. The last clause is requirement 3.
 #[no_mangle]
@@ -22,7 +22,7 @@ pub extern "C" fn ferruntzo_check(
     ensures { λ r. ⌜ jobAnswer r (now (work .exit)) (now (scratch .exit)) (now (answer .exit)) ≡ checkAnswer (now (job .entry)) (now (work .entry)) (now (scratch .entry)) (now (answer .entry)) ⌝ }
     ensures { λ r. ⌜ (r ≡ 0 → Requirement3 (now (job .entry)) (getD (now (answer .exit)) 0 0) (now (work .exit))) ⌝ }
 {
-    if ANSWER_PLACES <= answer.len() {
+    if ANSWER_SIZE <= answer.len() {
         let report = check(job, work, scratch);
         match report {
             Report::Accepted(count) => {

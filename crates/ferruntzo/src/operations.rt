@@ -12,7 +12,7 @@ use crate::areas::model_in;
 use crate::areas::write_answer;
 use model::add::add;
 use model::add::subtract;
-use model::area::MODEL_PLACES;
+use model::area::MODEL_SIZE;
 use model::evaluate::evaluate;
 use model::integrate::integrate;
 use model::multiply::multiply;
@@ -21,7 +21,7 @@ use model::types::Model;
 use model::types::number_of;
 
 // The low and the high bound of an evaluation.
-const BOUNDS_PLACES: usize = 2;
+const BOUNDS_SIZE: usize = 2;
 
 // An operation on two models; multiply with its kept degree.
 enum Operation {
@@ -45,7 +45,7 @@ fn operate(operation: Operation, a: &[i32], b: &[i32], out: &mut [i32]) -> u32
     ensures { λ r. ⌜ r ≡ numberOut (binaryFits (now (a .entry)) (now (b .entry)) (now (out .entry))) (operationOf operation (areaModel (now (a .entry))) (areaModel (now (b .entry))) .number) ⌝ }
     ensures { λ _. ⌜ now (out .exit) ≡ modelOut (binaryFits (now (a .entry)) (now (b .entry)) (now (out .entry))) (operationOf operation (areaModel (now (a .entry))) (areaModel (now (b .entry))) .model) (now (out .entry)) ⌝ }
 {
-    if (MODEL_PLACES <= a.len()) & (MODEL_PLACES <= b.len()) & (MODEL_PLACES <= out.len()) {
+    if (MODEL_SIZE <= a.len()) & (MODEL_SIZE <= b.len()) & (MODEL_SIZE <= out.len()) {
         let answer = perform(operation, model_in(a), model_in(b));
         let verdict = answer.verdict;
         write_answer(out, verdict, answer.model)
@@ -87,7 +87,7 @@ pub extern "C" fn ferruntzo_integrate(a: &[i32], out: &mut [i32]) -> u32
     ensures { λ r. ⌜ r ≡ numberOut (unaryFits (now (a .entry)) (now (out .entry))) (integration (areaModel (now (a .entry))) .number) ⌝ }
     ensures { λ _. ⌜ now (out .exit) ≡ modelOut (unaryFits (now (a .entry)) (now (out .entry))) (integration (areaModel (now (a .entry))) .model) (now (out .entry)) ⌝ }
 {
-    if (MODEL_PLACES <= a.len()) & (MODEL_PLACES <= out.len()) {
+    if (MODEL_SIZE <= a.len()) & (MODEL_SIZE <= out.len()) {
         let answer = integrate(model_in(a));
         let verdict = answer.verdict;
         write_answer(out, verdict, answer.model)
@@ -102,7 +102,7 @@ pub extern "C" fn ferruntzo_evaluate(a: &[i32], p: i32, bounds: &mut [i64]) -> u
     ensures { λ r. ⌜ r ≡ numberOut (boundsFit (now (a .entry)) (now (bounds .entry))) (evaluation (areaModel (now (a .entry))) p .number) ⌝ }
     ensures { λ _. ⌜ now (bounds .exit) ≡ boundsOut (boundsFit (now (a .entry)) (now (bounds .entry))) (evaluation (areaModel (now (a .entry))) p) (now (bounds .entry)) ⌝ }
 {
-    if (MODEL_PLACES <= a.len()) & (BOUNDS_PLACES <= bounds.len()) {
+    if (MODEL_SIZE <= a.len()) & (BOUNDS_SIZE <= bounds.len()) {
         let enclosure = evaluate(model_in(a), p);
         let verdict = enclosure.verdict;
         let low = enclosure.low;

@@ -11,7 +11,7 @@ use Rattle.model.specs.declared.types.Model.{Model}
 use Rattle.model.specs.declared.types.Verdict.{Verdict}
 use Rattle.job.specs.Commands.{maxResults}
 use Rattle.job.specs.Jobs.{Step, more, over, no, command, accepted, refused, jobOf}
-use Rattle.job.specs.Work.{workPlaces, workOf, stretches, answerOf, answered, resultsOf}
+use Rattle.job.specs.Work.{workSize, workOf, stretches, answerOf, answered, resultsOf}
 use Rattle.job.specs.Order.{Reaches, start}
 use Rattle.job.specs.OrderLaws.{reaches-bounds, stops-there, ends-there, moves-on}
 use Rattle.job.specs.Steps.{Holds, Stepped}
@@ -27,15 +27,15 @@ use Rattle.job.proofs.Requirement.{requirement}
 pub record Going (job : List ℕ) (begun work : List ℤ) (at k count : ℕ) : Type 0 where
   pub rs : List Model
   pub reaches : Reaches job k rs at
-  pub holds : Holds work count rs (drop workPlaces begun)
-  pub long : workPlaces ≤ length begun
+  pub holds : Holds work count rs (drop workSize begun)
+  pub long : workSize ≤ length begun
   pub same : length work ≡ length begun
   pub few : count ≤ maxResults
   pub number : k ≤ at
   pub position : at ≤ length job
 
-pub going-begins : (job : List ℕ) (w : List ℤ) → workPlaces ≤ length w
-    → w ≡ zeros workPlaces ++ drop workPlaces w → Going job w w 0 0 0
+pub going-begins : (job : List ℕ) (w : List ℤ) → workSize ≤ length w
+    → w ≡ zeros workSize ++ drop workSize w → Going job w w 0 0 0
 unfolding workOf stretches
 going-begins job w long e = record {
   rs = [];
@@ -58,12 +58,12 @@ refused-claims job v k work count e = let z : _≡_ {A = ℕ} 0 1 = cc e in absu
 -- what the run answers and leaves
 pub record Ran (job : List ℕ) (begun : List ℤ) (r : Report) (work : List ℤ) : Type 0 where
   pub answer : answerOf r ≡ answered (jobOf job)
-  pub work-is : work ≡ workOf (resultsOf (jobOf job)) ++ drop workPlaces begun
+  pub work-is : work ≡ workOf (resultsOf (jobOf job)) ++ drop workSize begun
   pub vouched : Claimed job r work
 
 module _ {job : List ℕ} {begun work : List ℤ} {at k count : ℕ} (g : Going job begun work at k count) (work′ : List ℤ) where
   abbrev t : List ℤ
-  t = drop workPlaces begun
+  t = drop workSize begun
 
   pub going-again : (s : Step) (a c : ℕ) → command job k (g .rs) at ≡ s → Stepped (More a c) work′ (g .rs) t s
       → length work′ ≡ length work → (at < a) × Going job begun work′ a (k + 1) c
@@ -103,7 +103,7 @@ module _ {job : List ℕ} {begun work : List ℤ} {at k count : ℕ} (g : Going 
 
   -- after a refusal the area is cleared
   pub going-stops : (s : Step) (v : Verdict) (work″ : List ℤ) → command job k (g .rs) at ≡ s
-      → Stepped (Stopped v) work′ (g .rs) t s → work″ ≡ zeros workPlaces ++ drop workPlaces work′ → Ran job begun (Refused v k) work″
+      → Stepped (Stopped v) work′ (g .rs) t s → work″ ≡ zeros workSize ++ drop workSize work′ → Ran job begun (Refused v k) work″
   unfolding workOf stretches
   going-stops (no n) v work″ e d c =
       let b = reaches-bounds (g .reaches) in
@@ -111,7 +111,7 @@ module _ {job : List ℕ} {begun work : List ℤ} {at k count : ℕ} (g : Going 
       let en : numberOf v ≡ n = cc (d .answer) in
       record {
         answer = rw (o, en);
-        work-is = rw o (c ∙ ap (λ (l : List ℤ). zeros workPlaces ++ l) (behind (d .holds) (b .results)));
+        work-is = rw o (c ∙ ap (λ (l : List ℤ). zeros workSize ++ l) (behind (d .holds) (b .results)));
         vouched = refused-claims job v k work″;
       }
   going-stops over v work″ e d c = let z : _≡_ {A = ℕ} 0 1 = cc (d .answer) in absurd (omega arith)

@@ -11,7 +11,7 @@ use Rattle.model.specs.Models.{good, zeroModel, firstRefusal, Outcome, outcome}
 use Rattle.model.specs.ModelLaws.{good-is}
 use Rattle.model.specs.Areas.{Storable}
 use Rattle.model.specs.OutcomeFits.{answer-storable}
-use Rattle.certificate.specs.Tests.{scratchPlaces, rootPlaces, rootOf}
+use Rattle.certificate.specs.Tests.{scratchSize, rootPlaces, rootOf}
 use Rattle.model.specs.declared.types.Model.{Model}
 use Rattle.job.specs.Makers.{Maker, loadPlaces, resultAt, namesBad, operation}
 use Rattle.job.specs.CommandLaws.{both-below}
@@ -63,6 +63,6 @@ module _ {w : List ℤ} {count : ℕ} {rs : List Model} {t : List ℤ} (h : Hold
 -- ---- the length of the scratch
 
 -- as `quotient-room` of the certificate crate
-pub root-room : (len : ℕ) (f h w : Model) → scratchPlaces ≤ len → rootOf len f h w ≡ rootOf scratchPlaces f h w
+pub root-room : (len : ℕ) (f h w : Model) → scratchSize ≤ len → rootOf len f h w ≡ rootOf scratchSize f h w
 unfolding rootOf rootPlaces
-root-room len f h w room = rw (le-ltb len scratchPlaces room)
+root-room len f h w room = rw (le-ltb len scratchSize room)

@@ -20,7 +20,7 @@ use Rattle.job.specs.Makers.{Maker, Row, of-none, of-one, of-two, rowOf,
 use Rattle.job.specs.Commands.{maxResults, shapeAt, nextAt, commandAt, readingPlaces, readingNumber, ReadOutcome, found, refusal, readOutcome}
 use Rattle.job.specs.Jobs.{no, performed, command}
 use Rattle.job.specs.CommandLaws.{both-below, Readable, readable, reading-numbered}
-use Rattle.job.specs.Work.{workPlaces}
+use Rattle.job.specs.Work.{workSize}
 use Rattle.job.specs.Steps.{Performable}
 use Rattle.job.specs.declared.types.Kind.{Kind}
 
@@ -79,7 +79,7 @@ module _ (job : List ℕ) (k count at : ℕ) (kind : Kind) (next : ℕ) (work : 
   found-readable =
       readable job k count at (first-refusal-zero (readingPlaces job k count at) (reading-numbered job k count at) .0 found-none)
 
-  pub found-performable : count ≤ maxResults → workPlaces ≤ length work → Performable kind job count at work
+  pub found-performable : count ≤ maxResults → workSize ≤ length work → Performable kind job count at work
   found-performable few long =
       let r = found-readable in record {
         names = rw kind-is at (r .names-good);

@@ -5,7 +5,7 @@ use Prim.Native.Nat.{ℕ, zero, suc, _+_, _*_, _-_, _^_}
 use lib.Dec.{ltb}
 use lib.IntN.{ℤ, pos, negsuc}
 use lib.ListN.{getD}
-use Rattle.model.specs.Models.{places, modelOf}
+use Rattle.model.specs.Models.{coefficientCount, makeModel}
 use Rattle.model.specs.declared.types.Model.{Model}
 
 -- the byte at a position
@@ -27,4 +27,4 @@ signedsAt s i (suc n) = signed (unsignedAt s i) ∷ signedsAt s (i + 4) n
 
 -- the block from i on, with a radius
 abbrev pub blockAt : List ℕ → ℕ → ℕ → Model
-blockAt s i e = modelOf (byteAt s i) (signedsAt s (i + 1) places) e
+blockAt s i e = makeModel (byteAt s i) (signedsAt s (i + 1) coefficientCount) e

@@ -9,17 +9,17 @@ use lib.Dec.{leb}
 use lib.IntN.{ℤ}
 use lib.ListN.{length}
 use Rattle.model.specs.RefusalLaws.{Passed}
-use Rattle.certificate.specs.Tests.{scratchPlaces}
+use Rattle.certificate.specs.Tests.{scratchSize}
 use Rattle.model.specs.declared.types.Model.{Model}
 use Rattle.job.specs.Jobs.{accepted, refused, jobOf}
 use Rattle.job.specs.Places.{First, here, later}
 use Rattle.job.specs.Order.{RefusesAt, EndsWith}
 use Rattle.job.specs.OrderLaws.{refused-exactly, accepted-exactly}
-use Rattle.job.specs.Work.{workPlaces, areasFit, checkOf}
+use Rattle.job.specs.Work.{workSize, areasFit, checkOf}
 
 -- "1: too short"
 abbrev pub areaPlaces : List ℤ → List ℤ → List (Bool × ℕ)
-areaPlaces w s = (not (leb workPlaces (length w)), 1) ∷ (not (leb scratchPlaces (length s)), 1) ∷ []
+areaPlaces w s = (not (leb workSize (length w)), 1) ∷ (not (leb scratchSize (length s)), 1) ∷ []
 
 -- two tests that are to hold
 module _ where
@@ -51,10 +51,10 @@ module _ where
 
 module _ (job : List ℕ) (w s : List ℤ) where
   abbrev a : Bool
-  a = leb workPlaces (length w)
+  a = leb workSize (length w)
 
   abbrev b : Bool
-  b = leb scratchPlaces (length s)
+  b = leb scratchSize (length s)
 
   fit : areasFit w s ≡ true → checkOf job w s ≡ jobOf job
   unfolding checkOf

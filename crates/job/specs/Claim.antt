@@ -14,7 +14,7 @@ use Rattle.integer.specs.FractionInverse.{_/ℚ_}
 use Rattle.model.specs.Values.{Allows, OnInterval}
 use Rattle.model.specs.RefusalLaws.{outcome-zero}
 use Rattle.model.specs.OperationsSound.{addition-sound, subtraction-sound, multiplication-sound}
-use Rattle.certificate.specs.Tests.{scratchPlaces}
+use Rattle.certificate.specs.Tests.{scratchSize}
 use Rattle.certificate.specs.QuotientSound.{quotient-sound, quotient-nonzero}
 use Rattle.certificate.specs.RootSound.{root-sound, root-overlap}
 use Rattle.model.specs.declared.types.Model.{Model}
@@ -87,11 +87,11 @@ module _ (cs : List Command) (rs : List Model)
         record {
           v = r .v /ℚ s .v;
           lies = quotient-lies (box j) (box k) (box i) (r .v) (s .v) z f (r .lies) (s .lies);
-          allowed = rw (gives i (quotient j k h w) e) (quotient-sound scratchPlaces (resultAt rs j) (resultAt rs k) h w (passes i (quotient j k h w) e) x on (r .v) (s .v) (r .allowed) (s .allowed));
+          allowed = rw (gives i (quotient j k h w) e) (quotient-sound scratchSize (resultAt rs j) (resultAt rs k) h w (passes i (quotient j k h w) e) x on (r .v) (s .v) (r .allowed) (s .allowed));
         }
     overlaps box (root-box i j h w e p l n u) =
         let r = overlaps box p in
-        let o = root-overlap scratchPlaces (resultAt rs j) h w (passes i (root j h w) e) x (r .v) on (r .allowed)
+        let o = root-overlap scratchSize (resultAt rs j) h w (passes i (root j h w) e) x (r .v) on (r .allowed)
         (box i .low) (box i .high) (box j .low) (box j .high) l n u (box i .ordered) (r .lies .above) (r .lies .below) in
         record {
           v = o .0;
@@ -101,8 +101,8 @@ module _ (cs : List Command) (rs : List Model)
 
     pub divisor-nonzero : (i j k : ℕ) (h w : Model) → commandOf cs i ≡ result (quotient j k h w) → (v : ℚ) → Allows (resultAt rs k) x v → ¬ (v ≡ whole (pos 0))
     unfolding operation
-    divisor-nonzero i j k h w e v a = quotient-nonzero scratchPlaces (resultAt rs j) (resultAt rs k) h w (passes i (quotient j k h w) e) x on v a
+    divisor-nonzero i j k h w e v a = quotient-nonzero scratchSize (resultAt rs j) (resultAt rs k) h w (passes i (quotient j k h w) e) x on v a
 
     pub radicand-positive : (i j : ℕ) (h w : Model) → commandOf cs i ≡ result (root j h w) → (v : ℚ) → Allows (resultAt rs j) x v → whole (pos 0) <ℚ v
     unfolding operation
-    radicand-positive i j h w e v a = root-sound scratchPlaces (resultAt rs j) h w (passes i (root j h w) e) x v on a .positive
+    radicand-positive i j h w e v a = root-sound scratchSize (resultAt rs j) h w (passes i (root j h w) e) x v on a .positive

@@ -18,7 +18,7 @@ use Rattle.chebyshev.specs.Kinds.{firstKind}
 use Rattle.chebyshev.specs.Coefficients.{value, valueFrom}
 use Rattle.chebyshev.specs.CoefficientLaws.{value-constant}
 use Rattle.chebyshev.specs.Allows.{allows}
-use Rattle.model.specs.Models.{scale, modelOf, firstRefusal}
+use Rattle.model.specs.Models.{scale, makeModel, firstRefusal}
 use Rattle.model.specs.Values.{position, AllowsAt, Allows}
 use Rattle.model.specs.ValueLaws.{valueAt, valueAt-append-zeros}
 use Rattle.model.specs.declared.types.Model.{Model}
@@ -38,10 +38,10 @@ ends l a h b o = record { low = l /1+ a; high = h /1+ b; ordered = o }
 
 -- the models of the blocks: a constant, and a multiple of T_1
 abbrev constantOf : ℕ → Model
-constantOf c = modelOf 0 ((pos c ∷ []) ++ replicate 32 (pos 0)) 0
+constantOf c = makeModel 0 ((pos c ∷ []) ++ replicate 32 (pos 0)) 0
 
 abbrev linearOf : ℕ → Model
-linearOf c = modelOf 1 ((pos 0 ∷ pos c ∷ []) ++ replicate 31 (pos 0)) 0
+linearOf c = makeModel 1 ((pos 0 ∷ pos c ∷ []) ++ replicate 31 (pos 0)) 0
 
 -- 4; 1/3; 4 + 1/3; (4 + 1/3) − 1/3; around 4/3; around 1; around 2
 abbrev boxes : List Box

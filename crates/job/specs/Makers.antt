@@ -8,7 +8,7 @@ use lib.Dec.{leb}
 use lib.ListN.{getD}
 use Rattle.model.specs.Models.{good, zeroModel, Outcome, outcome}
 use Rattle.model.specs.Operations.{additionPlaces, addition, subtractionPlaces, subtraction, multiplicationPlaces, multiplication}
-use Rattle.certificate.specs.Tests.{scratchPlaces, Test, quotientPlaces, quotientOf, rootTestPlaces, rootOf}
+use Rattle.certificate.specs.Tests.{scratchSize, Test, quotientPlaces, quotientOf, rootTestPlaces, rootOf}
 use Rattle.model.specs.declared.types.Model.{Model}
 
 -- a maker of a result with its operands; a kept degree 0xFF is read as 32, a candidate as a model with radius 0
@@ -42,8 +42,8 @@ rowOf (load m) = of-none (record { places = loadPlaces m; outcome = outcome (loa
 rowOf (add i j) = of-two i j (λ f g. record { places = additionPlaces f g; outcome = addition f g })
 rowOf (subtract i j) = of-two i j (λ f g. record { places = subtractionPlaces f g; outcome = subtraction f g })
 rowOf (multiply i j d) = of-two i j (λ f g. record { places = multiplicationPlaces d f g; outcome = multiplication d f g })
-rowOf (quotient i j h w) = of-two i j (λ f g. record { places = quotientPlaces scratchPlaces f g h w; outcome = fromTest (quotientOf scratchPlaces f g h w) })
-rowOf (root i h w) = of-one i (λ f. record { places = rootTestPlaces scratchPlaces f h w; outcome = fromTest (rootOf scratchPlaces f h w) })
+rowOf (quotient i j h w) = of-two i j (λ f g. record { places = quotientPlaces scratchSize f g h w; outcome = fromTest (quotientOf scratchSize f g h w) })
+rowOf (root i h w) = of-one i (λ f. record { places = rootTestPlaces scratchSize f h w; outcome = fromTest (rootOf scratchSize f h w) })
 
 -- ---- what follows from a row
 

@@ -6,15 +6,15 @@ use Prim.Native.Nat.{ℕ, _+_, _≤_, _<_}
 use lib.Dec.{leb}
 use lib.IntN.{ℤ}
 use lib.ListN.{length}
-use Rattle.model.specs.Models.{places, numberOf, Outcome}
+use Rattle.model.specs.Models.{coefficientCount, numberOf, Outcome}
 use Rattle.model.specs.Areas.{Storable}
-use Rattle.certificate.specs.Tests.{scratchPlaces, scratchAfter}
+use Rattle.certificate.specs.Tests.{scratchSize, scratchAfter}
 use Rattle.model.specs.declared.types.Model.{Model}
 use Rattle.job.specs.Bytes.{byteAt}
 use Rattle.job.specs.Makers.{Maker, namesBad, operation}
 use Rattle.job.specs.Commands.{maxResults, operandsOf, layoutOf, makerAt, commandAt, badNames, makesResult}
 use Rattle.job.specs.Jobs.{Step, more, over, no}
-use Rattle.job.specs.Work.{workPlaces, workOf}
+use Rattle.job.specs.Work.{workSize, workOf}
 use Rattle.job.specs.declared.types.Done.{Done}
 use Rattle.job.specs.declared.types.Done.the-variants.{More, Over, Refused}
 use Rattle.job.specs.declared.types.Kind.{Kind}
@@ -23,7 +23,7 @@ use Rattle.job.specs.declared.types.Operation.{Operation}
 -- each result has its 33 coefficients
 abbrev pub Sized : List Model → Type 0
 Sized [] = Unit
-Sized (m ∷ rs) = (length (m .coefficients) ≡ places) × Sized rs
+Sized (m ∷ rs) = (length (m .coefficients) ≡ coefficientCount) × Sized rs
 
 -- a work area holds these results, with t behind its 1,120 numbers
 pub record Holds (w : List ℤ) (count : ℕ) (rs : List Model) (t : List ℤ) : Type 0 where
@@ -73,13 +73,13 @@ pub record Performs (m : Maker) (w : List ℤ) (o : Outcome) : Type 0 where
 pub record Operable (op : Operation) (job : List ℕ) (at : ℕ) (work : List ℤ) : Type 0 where
   pub names : namesBad (makerAt op job at) maxResults ≡ false
   pub room : at + 1 + operandsOf op .width ≤ length job
-  pub long : workPlaces ≤ length work
+  pub long : workSize ≤ length work
 
 -- the two bytes after a command name results, as reading them needs it
 pub record NamesTwo (job : List ℕ) (at : ℕ) (work : List ℤ) : Type 0 where
   pub names : (leb maxResults (byteAt job (at + 1)) || leb maxResults (byteAt job (at + 2))) ≡ false
   pub room : at + 2 < length job
-  pub long : workPlaces ≤ length work
+  pub long : workSize ≤ length work
 
 -- a command that was read, as performing it needs it
 pub record Performable (kind : Kind) (job : List ℕ) (count at : ℕ) (work : List ℤ) : Type 0 where
@@ -87,9 +87,9 @@ pub record Performable (kind : Kind) (job : List ℕ) (count at : ℕ) (work : L
   pub space : (makesResult kind && leb maxResults count) ≡ false
   pub few : count ≤ maxResults
   pub room : at + 1 + layoutOf kind .width ≤ length job
-  pub long : workPlaces ≤ length work
+  pub long : workSize ≤ length work
 
 -- a scratch whose 65 numbers are zero
 pub record Clear (scratch : List ℤ) : Type 0 where
-  pub long : scratchPlaces ≤ length scratch
+  pub long : scratchSize ≤ length scratch
   pub clear : scratchAfter scratch ≡ scratch

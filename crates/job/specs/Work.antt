@@ -8,24 +8,24 @@ use lib.IntN.{ℤ}
 use lib.ListN.{length, take, drop}
 use Rattle.integer.specs.Clearing.{zeros}
 use Rattle.model.specs.Models.{numberOf}
-use Rattle.model.specs.Areas.{modelPlaces, words, areaModel}
-use Rattle.certificate.specs.Tests.{scratchPlaces}
+use Rattle.model.specs.Areas.{modelSize, words, areaModel}
+use Rattle.certificate.specs.Tests.{scratchSize}
 use Rattle.model.specs.declared.types.Model.{Model}
 use Rattle.job.specs.Jobs.{JobOutcome, accepted, refused, jobOf}
 use Rattle.job.specs.declared.types.Report.{Report}
 use Rattle.job.specs.declared.types.Report.the-variants.{Accepted, Refused}
 
 -- the numbers of the whole area
-abbrev pub workPlaces : ℕ
-workPlaces = 1120
+abbrev pub workSize : ℕ
+workSize = 1120
 
 -- the model in stretch i of a work area
 abbrev pub stretch : List ℤ → ℕ → Model
-stretch w i = areaModel (take modelPlaces (drop (modelPlaces * i) w))
+stretch w i = areaModel (take modelSize (drop (modelSize * i) w))
 
 -- the area with a model written into stretch i
 abbrev pub storedAt : List ℤ → ℕ → Model → List ℤ
-storedAt w i m = take (modelPlaces * i) w ++ (words m ++ drop (modelPlaces * i + modelPlaces) w)
+storedAt w i m = take (modelSize * i) w ++ (words m ++ drop (modelSize * i + modelSize) w)
 
 unfoldable pub stretches : List Model → List ℤ
 stretches [] = []
@@ -33,13 +33,13 @@ stretches (m ∷ rs) = words m ++ stretches rs
 
 -- the 1,120 numbers: the results, later stretches zero
 unfoldable pub workOf : List Model → List ℤ
-workOf rs = stretches rs ++ zeros (workPlaces - modelPlaces * length rs)
+workOf rs = stretches rs ++ zeros (workSize - modelSize * length rs)
 
 -- ---- the entry
 
 -- the lent areas are long enough, "work area before scratch"
 abbrev pub areasFit : List ℤ → List ℤ → Bool
-areasFit w s = leb workPlaces (length w) && leb scratchPlaces (length s)
+areasFit w s = leb workSize (length w) && leb scratchSize (length s)
 
 -- "too short; neither is touched"; "refusal 1 goes with command 0"
 unfoldable pub checkOf : List ℕ → List ℤ → List ℤ → JobOutcome
@@ -52,11 +52,11 @@ resultsOf (refused n k) = []
 -- "An accepted job leaves later stretches zero; a refused one leaves all 1,120 zero, save that refusal 1 touches nothing.
 -- Numbers behind stay."
 unfoldable pub workAfter : List ℕ → List ℤ → List ℤ → List ℤ
-workAfter job w s = cond (areasFit w s) (workOf (resultsOf (jobOf job)) ++ drop workPlaces w) w
+workAfter job w s = cond (areasFit w s) (workOf (resultsOf (jobOf job)) ++ drop workSize w) w
 
 -- the scratch after a job: its 65 numbers are zero unless an area was too short
 unfoldable pub scratchAfterJob : List ℤ → List ℤ → List ℤ
-scratchAfterJob w s = cond (areasFit w s) (zeros scratchPlaces ++ drop scratchPlaces s) s
+scratchAfterJob w s = cond (areasFit w s) (zeros scratchSize ++ drop scratchSize s) s
 
 -- "The answer is the count, or the refusal with its command, counted from 0"; the numbers not in use are zero
 pub record Answer : Type 0 where

@@ -9,21 +9,21 @@ ghost use Rattle.certificate.specs.Tests.{testOf};
 ghost use Rattle.job.specs.Bytes.{byteAt};
 ghost use Rattle.job.specs.Commands.{keptByte, maxResults, makerAt};
 ghost use Rattle.job.specs.Makers.{fromTest};
-ghost use Rattle.job.specs.Work.{workPlaces, stretch};
+ghost use Rattle.job.specs.Work.{workSize, stretch};
 ghost use Rattle.job.specs.Steps.{Performs, Operable, NamesTwo, Clear};
 use crate::bytes::read_candidate;
 use crate::bytes::read_model;
 use crate::bytes::read_unsigned;
 use crate::types::Operation;
 use crate::work::stretch_at;
-use certificate::types::Certified;
+use certificate::types::TestOutcome;
 use model::types::Answer;
 use model::types::Model;
 use model::types::Verdict;
 
 // The result that byte i of the job names.
 fn named(job: &[u8], i: usize, work: &[i32]) -> Model
-    requires { ⌜ (i < length (now job)) × ((byteAt (now job) i < maxResults) × (workPlaces ≤ length (now work))) ⌝ }
+    requires { ⌜ (i < length (now job)) × ((byteAt (now job) i < maxResults) × (workSize ≤ length (now work))) ⌝ }
     ensures { λ (m : Model). ⌜ m ≡ stretch (now (work .entry)) (byteAt (now (job .entry)) i) ⌝ }
 {
     stretch_at(work, job[i] as usize)
@@ -97,7 +97,7 @@ fn multiply(job: &[u8], at: usize, work: &[i32]) -> Answer
 }
 
 // A test's verdict and result.
-fn outcome(r: Certified) -> Answer
+fn outcome(r: TestOutcome) -> Answer
     ensures { λ (a : Answer). ⌜ outcomeOf a ≡ fromTest (testOf r) ⌝ }
 {
     let verdict = r.verdict;

@@ -5,23 +5,23 @@ ghost use Prim.Native.Nat.{ℕ, _≤_};
 ghost use lib.ListN.{length, drop};
 ghost use Rattle.job.specs.Jobs.{jobOf};
 ghost use Rattle.integer.specs.Clearing.{zeros};
-ghost use Rattle.job.specs.Work.{workPlaces, workOf, resultsOf, checkOf, workAfter, scratchAfterJob, answerOf, answered};
+ghost use Rattle.job.specs.Work.{workSize, workOf, resultsOf, checkOf, workAfter, scratchAfterJob, answerOf, answered};
 ghost use Rattle.job.specs.Steps.{Clear};
 ghost use Rattle.job.specs.Boxes.{Requirement3};
 use crate::step::step;
 use crate::types::Done;
 use crate::types::Report;
-use crate::work::WORK_PLACES;
+use crate::work::WORK_SIZE;
 use crate::work::clear_scratch;
 use crate::work::clear_work;
-use certificate::types::SCRATCH_PLACES;
+use certificate::types::SCRATCH_SIZE;
 use model::types::Verdict;
 
 // A job over cleared areas.
 fn run(job: &[u8], work: &mut [i32], scratch: &mut [i64]) -> Report
-    requires { ⌜ (workPlaces ≤ length (now work)) × ((now work ≡ zeros workPlaces ++ drop workPlaces (now work)) × Clear (now scratch)) ⌝ }
+    requires { ⌜ (workSize ≤ length (now work)) × ((now work ≡ zeros workSize ++ drop workSize (now work)) × Clear (now scratch)) ⌝ }
     ensures { λ (r : Report). ⌜ answerOf r ≡ answered (jobOf (now (job .entry))) ⌝ }
-    ensures { λ _. ⌜ now (work .exit) ≡ workOf (resultsOf (jobOf (now (job .entry)))) ++ drop workPlaces (now (work .entry)) ⌝ }
+    ensures { λ _. ⌜ now (work .exit) ≡ workOf (resultsOf (jobOf (now (job .entry)))) ++ drop workSize (now (work .entry)) ⌝ }
     ensures { λ _. ⌜ now (scratch .exit) ≡ now (scratch .entry) ⌝ }
     ensures { λ (r : Report). ⌜ ((count : ℕ) → r ≡ Report.Accepted count → Requirement3 (now (job .entry)) count (now (work .exit))) ⌝ }
 {
@@ -55,10 +55,10 @@ pub fn check(job: &[u8], work: &mut [i32], scratch: &mut [i64]) -> Report
     ensures { λ _. ⌜ now (scratch .exit) ≡ scratchAfterJob (now (work .entry)) (now (scratch .entry)) ⌝ }
     ensures { λ (r : Report). ⌜ ((count : ℕ) → r ≡ Report.Accepted count → Requirement3 (now (job .entry)) count (now (work .exit))) ⌝ }
 {
-    if work.len() < WORK_PLACES {
+    if work.len() < WORK_SIZE {
         return Report::Refused(Verdict::ShortArea, 0);
     }
-    if scratch.len() < SCRATCH_PLACES {
+    if scratch.len() < SCRATCH_SIZE {
         return Report::Refused(Verdict::ShortArea, 0);
     }
     clear_work(work);

@@ -6,7 +6,7 @@ ghost use Rattle.model.specs.Models.{outcomeOf};
 ghost use Rattle.model.specs.Areas.{Storable};
 ghost use Rattle.job.specs.Commands.{maxResults, commandAt};
 ghost use Rattle.job.specs.Jobs.{resulting, performed, command};
-ghost use Rattle.job.specs.Work.{workPlaces};
+ghost use Rattle.job.specs.Work.{workSize};
 ghost use Rattle.job.specs.Steps.{StepsBy, Performable, Clear};
 use crate::operations::operate;
 use crate::reader::read_next;
@@ -19,7 +19,7 @@ use model::types::Verdict;
 
 // The operation's answer becomes the next result.
 fn add_result(work: &mut [i32], count: usize, next: usize, a: Answer) -> Done
-    requires { ⌜ (workPlaces ≤ length (now work)) × ((count < maxResults) × Storable (a .model)) ⌝ }
+    requires { ⌜ (workSize ≤ length (now work)) × ((count < maxResults) × Storable (a .model)) ⌝ }
     ensures { λ (r : Done). ⌜ StepsBy r (now (work .entry)) (now (work .exit)) count (λ rs. resulting rs next (outcomeOf a)) ⌝ }
 {
     let verdict = a.verdict;
@@ -68,7 +68,7 @@ pub(crate) fn step(
     work: &mut [i32],
     scratch: &mut [i64],
 ) -> Done
-    requires { ⌜ (workPlaces ≤ length (now work)) × ((count ≤ maxResults) × Clear (now scratch)) ⌝ }
+    requires { ⌜ (workSize ≤ length (now work)) × ((count ≤ maxResults) × Clear (now scratch)) ⌝ }
     ensures { λ (r : Done). ⌜ StepsBy r (now (work .entry)) (now (work .exit)) count (λ rs. command (now (job .entry)) k rs at) ⌝ }
     ensures { λ _. ⌜ now (scratch .exit) ≡ now (scratch .entry) ⌝ }
 {

@@ -1,7 +1,7 @@
 // Checks a job from standard input: a line for each result, number, degree, radius, then 'accepted' and the count; or one
 // line, 'refused', number, command.
 use job::types::Report;
-use job::work::WORK_PLACES;
+use job::work::WORK_SIZE;
 use libc::STDOUT_FILENO;
 use model::types::Verdict;
 
@@ -41,7 +41,7 @@ fn line(work: &[i32], i: usize) {
     if 32 <= i {
         return;
     }
-    if work.len() < WORK_PLACES {
+    if work.len() < WORK_SIZE {
         return;
     }
     let m = job::work::stretch_at(work, i);

@@ -11,7 +11,7 @@ use Rattle.integer.specs.Parts.{abs, apart, sum}
 use Rattle.integer.specs.Rounding.{near}
 use Rattle.chebyshev.specs.Coefficients.{weight}
 use Rattle.chebyshev.specs.Weight.{weight-drop}
-use Rattle.model.specs.Models.{scale, places, maxWeight}
+use Rattle.model.specs.Models.{scale, coefficientCount, maxWeight}
 use Rattle.model.specs.Evaluation.{pointTerm, pointSum, pointError}
 use Rattle.model.specs.EvaluationLaws.{term-size, sum-size, error-size}
 
@@ -68,7 +68,7 @@ pub record Small (value : ℤ) (error : ℕ) (t next : ℤ) : Type 0 where
   pub next-small : natAbs next ≤ 2 ^ 31
 
 pub small : {p : ℤ} {cs : List ℤ} {value : ℤ} {error : ℕ} {t next : ℤ} {k : ℕ} → Walk p cs value error t next k
-    → natAbs p ≤ scale → length cs ≤ places → weight cs ≤ maxWeight → Small value error t next
+    → natAbs p ≤ scale → length cs ≤ coefficientCount → weight cs ≤ maxWeight → Small value error t next
 small {p} {cs} {value} {error} {t} {next} {k} w hp hl hw = record {
   value-small = omega (arith, difference value (pointSum p k (drop k cs)) (pointSum p 0 cs) (w .value-rest), sum-size p 0 32 cs hp (omega arith), rest);
   error-small = omega (arith, w .error-rest, error-size 0 32 cs (omega arith));

@@ -4,16 +4,16 @@ use mathlib.Core.List.{List, [], _∷_, _++_}
 use Prim.Native.Nat.{ℕ, _+_, _-_, _^_, _≤_}
 use lib.IntN.{ℤ, pos, negsuc}
 use lib.ListN.{getD, take, drop}
-use Rattle.model.specs.Models.{maxDegree, places, maxRadius, modelOf}
+use Rattle.model.specs.Models.{maxDegree, coefficientCount, maxRadius, makeModel}
 use Rattle.model.specs.declared.types.Model.{Model}
 use Rattle.model.specs.declared.types.Candidate.{Candidate}
 
 -- how many numbers a model has, and a candidate
-abbrev pub modelPlaces : ℕ
-modelPlaces = 35
+abbrev pub modelSize : ℕ
+modelSize = 35
 
-abbrev pub candidatePlaces : ℕ
-candidatePlaces = 34
+abbrev pub candidateSize : ℕ
+candidateSize = 34
 
 -- the numbers of a model
 abbrev pub words : Model → List ℤ
@@ -30,8 +30,8 @@ unsignedOf (negsuc n) = 2 ^ 32 - 1 - n
 
 -- the model in the first 35 numbers of an area
 abbrev pub areaModel : List ℤ → Model
-areaModel s = modelOf (unsignedOf (getD s 0 (pos 0))) (take places (drop 1 s)) (unsignedOf (getD s (places + 1) (pos 0)))
+areaModel s = makeModel (unsignedOf (getD s 0 (pos 0))) (take coefficientCount (drop 1 s)) (unsignedOf (getD s (coefficientCount + 1) (pos 0)))
 
 -- the candidate in the first 34 numbers of an area
 abbrev pub areaCandidate : List ℤ → Candidate
-areaCandidate s = record { degree = unsignedOf (getD s 0 (pos 0)); coefficients = take places (drop 1 s) }
+areaCandidate s = record { degree = unsignedOf (getD s 0 (pos 0)); coefficients = take coefficientCount (drop 1 s) }

@@ -1,13 +1,14 @@
 -- Document 01, "Plain operations": evaluate at p/S.
-use mathlib.Core.Bool.{Bool, not, cond}
+use mathlib.Core.Bool.{Bool}
 use mathlib.Core.List.{List, [], _∷_}
 use Prim.Native.Nat.{ℕ, zero, suc, _+_, _*_, _-_, _^_}
-use lib.Dec.{eqb, ltb}
+use lib.Dec.{ltb}
 use lib.IntN.{ℤ, pos, natAbs, _+ℤ_, _-ℤ_, _*ℤ_}
 use Rattle.integer.specs.Rounding.{floor, up, near}
-use Rattle.model.specs.Models.{scale, terms, good, numberOf, firstRefusal}
+use Rattle.model.specs.Models.{scale, terms, badPlace}
+use Rattle.model.specs.Outcomes.{Outcome, outcome, judged}
 use Rattle.model.specs.declared.types.Model.{Model}
-use Rattle.model.specs.declared.types.Bounds.{Bounds}
+use Rattle.model.specs.declared.types.BoundsOutcome.{BoundsOutcome}
 
 -- "t_0 = 2^30, t_1 = 2^10·p, t_(k+2) = near(2·p·t_(k+1)/S) − t_k"
 unfoldable pub pointTerm : ℤ → ℕ → ℤ
@@ -32,22 +33,21 @@ lowBound a p = floor (pos 4 *ℤ pointSum p 0 (terms a) -ℤ pos (pointError 0 (
 unfoldable pub highBound : Model → ℤ → ℤ
 highBound a p = up (pos 4 *ℤ pointSum p 0 (terms a) +ℤ pos (pointError 0 (terms a))) (2 ^ 32) +ℤ pos (a .radius)
 
--- "refused evaluation gives bounds 0 and 0"
-pub record Enclosure : Type 0 where
-  pub number : ℕ
+pub record Bounds : Type 0 where
   pub low : ℤ
   pub high : ℤ
 
-abbrev pub enclosureOf : Bounds → Enclosure
-enclosureOf r = record { number = numberOf (r .verdict); low = r .low; high = r .high }
-
-unfoldable pub enclosure : List (Bool × ℕ) → ℤ → ℤ → Enclosure
-enclosure ps l h = record {
-  number = firstRefusal ps;
-  low = cond (eqb (firstRefusal ps) 0) l (pos 0);
-  high = cond (eqb (firstRefusal ps) 0) h (pos 0);
-}
+-- "refused evaluation gives bounds 0 and 0"
+abbrev pub zeroBounds : Bounds
+zeroBounds = record { low = pos 0; high = pos 0 }
 
 -- "point: 4, p outside −S..S"
-unfoldable pub evaluation : Model → ℤ → Enclosure
-evaluation a p = enclosure ((not (good a), 2) ∷ (ltb scale (natAbs p), 4) ∷ []) (lowBound a p) (highBound a p)
+abbrev pub evaluationPlaces : Model → ℤ → List (Bool × ℕ)
+evaluationPlaces a p = badPlace a ∷ (ltb scale (natAbs p), 4) ∷ []
+
+unfoldable pub evaluation : Model → ℤ → Outcome Bounds
+evaluation a p = outcome (evaluationPlaces a p) (record { low = lowBound a p; high = highBound a p }) zeroBounds
+
+-- what the code's answer means
+abbrev pub boundsOf : BoundsOutcome → Outcome Bounds
+boundsOf r = judged (r .verdict) (record { low = r .low; high = r .high })

@@ -10,8 +10,9 @@ use lib.ListN.{length}
 use borrow.Author.Tests.{le-ltb}
 use Rattle.integer.specs.Parts.{abs-add, abs-mul}
 use Rattle.chebyshev.specs.Coefficients.{weight}
-use Rattle.model.specs.Models.{scale, good, firstRefusal}
-use Rattle.model.specs.Evaluation.{pointTerm, pointSum, pointError, lowBound, highBound, enclosure, evaluation}
+use Rattle.model.specs.Models.{scale, good}
+use Rattle.model.specs.Outcomes.{accepted, outcome}
+use Rattle.model.specs.Evaluation.{pointTerm, pointSum, pointError, lowBound, highBound, evaluation}
 use Rattle.model.specs.EvaluationError.{term-range}
 use Rattle.model.specs.declared.types.Model.{Model}
 
@@ -48,6 +49,6 @@ error-size k m (c ∷ a) l = go (m * (m - 1)) (natAbs c) (k * (k - 1)) (pointErr
 
 -- ---- a point that is accepted
 
-pub evaluation-accepted : (a : Model) (p : ℤ) → good a ≡ true → natAbs p ≤ scale → evaluation a p ≡ record { number = 0; low = lowBound a p; high = highBound a p }
-unfolding evaluation enclosure firstRefusal
+pub evaluation-accepted : (a : Model) (p : ℤ) → good a ≡ true → natAbs p ≤ scale → evaluation a p ≡ accepted (record { low = lowBound a p; high = highBound a p })
+unfolding evaluation outcome
 evaluation-accepted a p e h = rw (e, le-ltb scale (natAbs p) h)

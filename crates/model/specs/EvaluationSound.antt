@@ -1,10 +1,9 @@
 -- Document 01, of the bounds of an evaluation: "Each allowed value lies between them."
 use mathlib.Core.Path.{_≡_, _∙_, ap}
-use mathlib.Core.Bool.{true, not}
+use mathlib.Core.Bool.{true}
 use mathlib.Core.List.{List, [], _∷_, map}
 use Prim.Native.Nat.{ℕ, suc, _+_, _*_, _-_, _^_, _<_, _≤_}
 use native.Mathlib.Omega.{arith}
-use lib.Dec.{ltb}
 use borrow.Author.Tests.{ltb-false, not-false}
 use lib.IntN.{ℤ, pos, negℤ, natAbs, _+ℤ_, _-ℤ_, _*ℤ_}
 use Rattle.integer.specs.FractionRounding.{natural-positive}
@@ -19,10 +18,11 @@ use Rattle.chebyshev.specs.Coefficients.{valueFrom, value}
 use Rattle.chebyshev.specs.Allows.{allows}
 use Rattle.model.specs.Models.{scale, terms, good}
 use Rattle.model.specs.GoodLaws.{value-terms}
-use Rattle.model.specs.Evaluation.{pointTerm, pointSum, pointError, lowBound, highBound, enclosure, evaluation}
-use Rattle.model.specs.RefusalLaws.{first-refusal-zero}
+use Rattle.model.specs.Evaluation.{pointTerm, pointSum, pointError, lowBound, highBound, Bounds, zeroBounds, evaluationPlaces, evaluation}
+use Rattle.model.specs.Outcomes.{accepted}
+use Rattle.model.specs.Values.{position, AllowsAt, Allows}
+use Rattle.model.specs.PlaceLaws.{outcome-accepted}
 use Rattle.model.specs.EvaluationError.{point, term-error}
-use Rattle.model.specs.EvaluationLaws.{evaluation-accepted}
 use Rattle.model.specs.declared.types.Model.{Model}
 
 -- ---- |x − y| ≤ w as two inequalities
@@ -84,10 +84,10 @@ module _ (p : ℤ) (h : natAbs p ≤ scale) where
 
 -- ---- the theorem
 
-pub evaluation-sound : (a : Model) (p : ℤ) (v : ℚ) → good a ≡ true → natAbs p ≤ scale → allows scale (a .coefficients) (a .radius) (point p) v
+bounds-sound : (a : Model) (p : ℤ) (v : ℚ) → good a ≡ true → natAbs p ≤ scale → allows scale (a .coefficients) (a .radius) (point p) v
     → (whole (lowBound a p) ≤ℚ (v *ℚ whole (pos scale))) × ((v *ℚ whole (pos scale)) ≤ℚ whole (highBound a p))
 unfolding allows lowBound highBound value
-evaluation-sound a p v g h l = (
+bounds-sound a p v g h l = (
   rw (whole-add (floor (s -ℤ pos w) (2 ^ 32)) (negℤ (pos (a .radius))), ← whole-neg)
       (by-certificate ℚ-ordered (_⊞_ ℚ-ordered (gap ℚ-ordered below) (gap ℚ-ordered (plus-above u y e near)))
       (regroup (whole (floor (s -ℤ pos w) (2 ^ 32))) e y u)),
@@ -131,14 +131,10 @@ evaluation-sound a p v g h l = (
 
 -- ---- the same of the answer
 
-accepted : (a : Model) (p : ℤ) → evaluation a p .number ≡ 0 → (good a ≡ true) × (natAbs p ≤ scale)
-unfolding evaluation enclosure
-accepted a p e =
-    let passed = first-refusal-zero ((not (good a), 2) ∷ (ltb scale (natAbs p), 4) ∷ []) (omega arith) .0 e in
-    (not-false (good a) (passed .0), ltb-false scale (natAbs p) (passed .1 .0))
-
-pub evaluation-answer : (a : Model) (p : ℤ) (v : ℚ) → evaluation a p .number ≡ 0 → allows scale (a .coefficients) (a .radius) (point p) v
-    → (whole (evaluation a p .low) ≤ℚ (v *ℚ whole (pos scale))) × ((v *ℚ whole (pos scale)) ≤ℚ whole (evaluation a p .high))
-evaluation-answer a p v e l =
-    let q = accepted a p e in
-    rw (evaluation-accepted a p (q .0) (q .1)) (evaluation-sound a p v (q .0) (q .1) l)
+-- "Each allowed value lies between them."
+pub evaluation-sound : (a : Model) (p : ℤ) {b : Bounds} → evaluation a p ≡ accepted b
+    → (v : ℚ) → Allows a (point p) v → (whole (b .low) ≤ℚ (v *ℚ whole (pos scale))) × ((v *ℚ whole (pos scale)) ≤ℚ whole (b .high))
+unfolding evaluation position AllowsAt
+evaluation-sound a p e v l =
+    let (passed, result) = outcome-accepted (evaluationPlaces a p) _ zeroBounds e in
+    rw result (bounds-sound a p v (not-false (good a) (passed .0)) (ltb-false scale (natAbs p) (passed .1 .0)) l)

@@ -17,7 +17,7 @@ use Rattle.chebyshev.specs.Product.{product}
 use Rattle.chebyshev.specs.ProductSums.{product-zeros-left, product-zeros-right}
 use Rattle.chebyshev.specs.ProductLaws.{value-product-whole}
 use Rattle.chebyshev.specs.ProductWeight.{weight-product}
-use Rattle.model.specs.Models.{places, productPlaces, maxWeight, terms, beyond, good}
+use Rattle.model.specs.Models.{coefficientCount, productSize, maxWeight, terms, beyond, good}
 use Rattle.model.specs.ModelLaws.{good-is}
 use Rattle.model.specs.ValueLaws.{valueAt, valueAt-append-zeros}
 use Rattle.model.specs.Operations.{productList}
@@ -42,7 +42,7 @@ module _ (m : Model) (h : good m ≡ true) where
       sym (take-append-drop (suc (m .degree)) (m .coefficients))
       ∙ ap (λ l. terms m ++ l) (weight-zero (beyond m) (good-is m h .beyond-zero))
 
-  pub length-terms : length (terms m) ≤ places
+  pub length-terms : length (terms m) ≤ coefficientCount
   length-terms = omega (arith, length-take (suc (m .degree)) (m .coefficients), good-is m h .degree-fits)
 
   pub weight-terms : weight (terms m) ≤ maxWeight
@@ -56,20 +56,20 @@ module _ (m : Model) (h : good m ≡ true) where
 
 module _ (a b : Model) (ha : good a ≡ true) (hb : good b ≡ true) where
   -- the list C of two good models is that of all their coefficients
-  pub product-coefficients : productList a b ≡ product ℤ-ring productPlaces (a .coefficients) (b .coefficients)
+  pub product-coefficients : productList a b ≡ product ℤ-ring productSize (a .coefficients) (b .coefficients)
   unfolding productList
   product-coefficients =
-      sym (ap₂ (product ℤ-ring productPlaces) (coefficients-terms a ha) (coefficients-terms b hb)
-      ∙ product-zeros-left ℤ-ring productPlaces (terms a) (length (beyond a)) (terms b ++ replicate (length (beyond b)) (pos 0))
-      ∙ product-zeros-right ℤ-ring productPlaces (terms a) (terms b) (length (beyond b)))
+      sym (ap₂ (product ℤ-ring productSize) (coefficients-terms a ha) (coefficients-terms b hb)
+      ∙ product-zeros-left ℤ-ring productSize (terms a) (length (beyond a)) (terms b ++ replicate (length (beyond b)) (pos 0))
+      ∙ product-zeros-right ℤ-ring productSize (terms a) (terms b) (length (beyond b)))
 
   pub weight-productList : weight (productList a b) ≤ 2 ^ 57
   unfolding productList
-  weight-productList = omega (arith, weight-product productPlaces (terms a) (terms b), mul-le-mul (weight-terms a ha) (weight-terms b hb))
+  weight-productList = omega (arith, weight-product productSize (terms a) (terms b), mul-le-mul (weight-terms a ha) (weight-terms b hb))
 
   -- 2·value a·value b = value C
   pub value-productList : (x : ℚ) → whole (pos 2) *ℚ valueAt x (a .coefficients) *ℚ valueAt x (b .coefficients) ≡ valueAt x (productList a b)
   unfolding productList
   value-productList x =
       ap₂ (λ u v. whole (pos 2) *ℚ u *ℚ v) (value-terms a ha x) (value-terms b hb x)
-      ∙ value-product-whole ℚ-ring x productPlaces (terms a) (terms b) (omega (arith, length-terms a ha, length-terms b hb))
+      ∙ value-product-whole ℚ-ring x productSize (terms a) (terms b) (omega (arith, length-terms a ha, length-terms b hb))

@@ -1,5 +1,5 @@
 -- Document 01, "Plain operations": integrate from −1.
-use mathlib.Core.Bool.{not}
+use mathlib.Core.Bool.{Bool}
 use mathlib.Core.List.{List, [], _∷_, _++_}
 use Prim.Native.Nat.{ℕ, suc, _+_, _*_, _-_}
 use lib.IntN.{ℤ, pos, _-ℤ_, _*ℤ_}
@@ -7,7 +7,8 @@ use lib.ListN.{replicate, drop, length}
 use Rattle.integer.specs.Integer.{ℤ-ring}
 use Rattle.integer.specs.Rounding.{near}
 use Rattle.chebyshev.specs.Coefficients.{subtractLists}
-use Rattle.model.specs.Models.{places, terms, good, tooLarge, Outcome, outcome}
+use Rattle.model.specs.Models.{coefficientCount, terms, makeModel, zeroModel, badPlace, largePlace}
+use Rattle.model.specs.Outcomes.{Outcome, outcome}
 use Rattle.model.specs.declared.types.Model.{Model}
 
 -- 2·a_0, a_1, a_2, …
@@ -36,11 +37,13 @@ integralList cs = alternating (halved 1 (numerators cs)) ∷ halved 1 (numerator
 
 -- "Radius 2e + n + 1."
 unfoldable pub integralModel : Model → Model
-integralModel a = record {
-  degree = a .degree + 1;
-  coefficients = integralList (terms a) ++ replicate (places - length (integralList (terms a))) (pos 0);
-  radius = 2 * a .radius + a .degree + 1;
-}
+integralModel a =
+    makeModel (a .degree + 1)
+    (integralList (terms a) ++ replicate (coefficientCount - length (integralList (terms a))) (pos 0))
+    (2 * a .radius + a .degree + 1)
 
-unfoldable pub integration : Model → Outcome
-integration a = outcome ((not (good a), 2) ∷ (tooLarge (integralModel a), 3) ∷ []) (integralModel a)
+abbrev pub integrationPlaces : Model → List (Bool × ℕ)
+integrationPlaces a = badPlace a ∷ largePlace (integralModel a) ∷ []
+
+unfoldable pub integration : Model → Outcome Model
+integration a = outcome (integrationPlaces a) (integralModel a) zeroModel

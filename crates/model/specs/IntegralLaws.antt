@@ -15,11 +15,11 @@ use Rattle.integer.specs.RoundingSize.{near-size}
 use Rattle.chebyshev.specs.Coefficients.{weight, subtractLists}
 use Rattle.chebyshev.specs.CoefficientLaws.{length-subtract, getD-subtract}
 use Rattle.chebyshev.specs.Weight.{weight-subtract, weight-drop, weight-append-zeros}
-use Rattle.model.specs.Models.{maxDegree, places, terms, good, tooLarge, zeroModel, firstRefusal, answerOf, outcomeOf, outcome}
-use Rattle.model.specs.Formed.{formedOutcome, formed-is}
+use Rattle.model.specs.Models.{maxDegree, coefficientCount, terms, good, tooLarge, zeroModel}
+use Rattle.model.specs.Outcomes.{refused, outcome}
+use Rattle.model.specs.Formed.{unlessLarge, formedOutcome, formed-is}
 use Rattle.model.specs.Integral.{doubleFirst, numerators, halved, alternating, integralList, integralModel, integration}
 use Rattle.model.specs.declared.types.Model.{Model}
-use Rattle.model.specs.declared.types.Verdict.the-variants.{LargeResult}
 
 -- c_1, c_2, … from ds
 unfoldable pub roundedTail : List ℤ → List ℤ
@@ -27,7 +27,7 @@ roundedTail ds = halved 1 (subtractLists ℤ-ring ds (drop 2 ds))
 
 -- c_0, c_1, … in a model's places
 unfoldable pub roundedIntegral : List ℤ → List ℤ
-roundedIntegral ds = (alternating (roundedTail ds) ∷ roundedTail ds) ++ replicate (places - suc (length (roundedTail ds))) (pos 0)
+roundedIntegral ds = (alternating (roundedTail ds) ∷ roundedTail ds) ++ replicate (coefficientCount - suc (length (roundedTail ds))) (pos 0)
 
 drop-doubled : (cs : List ℤ) → drop 2 (doubleFirst cs) ≡ drop 2 cs
 unfolding doubleFirst
@@ -41,7 +41,7 @@ take-doubled (c ∷ cs) n = refl
 
 pub integral-is : (a : Model) → roundedIntegral (doubleFirst (terms a)) ≡ integralModel a .coefficients
 unfolding integralModel integralList numerators roundedIntegral roundedTail
-integral-is a = ap (λ later. let cs = halved 1 (subtractLists ℤ-ring (doubleFirst (terms a)) later) in (alternating cs ∷ cs) ++ replicate (places - suc (length cs)) (pos 0)) (drop-doubled (terms a))
+integral-is a = ap (λ later. let cs = halved 1 (subtractLists ℤ-ring (doubleFirst (terms a)) later) in (alternating cs ∷ cs) ++ replicate (coefficientCount - suc (length cs)) (pos 0)) (drop-doubled (terms a))
 
 -- ds in code: the coefficients with the first doubled, up to the degree
 pub integral-doubled : (a : Model) → roundedIntegral (take (suc (a .degree)) (set (a .coefficients) 0 (pos 2 *ℤ getD (a .coefficients) 0 (pos 0)))) ≡ integralModel a .coefficients
@@ -93,18 +93,18 @@ alternating-size (c ∷ l) = omega (arith, abs-sub c (alternating l), alternatin
 
 pub weight-integral : (ds : List ℤ) → weight (roundedIntegral ds) ≡ weight (roundedTail ds) + natAbs (alternating (roundedTail ds))
 unfolding roundedIntegral weight
-weight-integral ds = omega (arith, weight-append-zeros (roundedTail ds) (places - suc (length (roundedTail ds))))
+weight-integral ds = omega (arith, weight-append-zeros (roundedTail ds) (coefficientCount - suc (length (roundedTail ds))))
 
 -- ---- the answer
 
 -- from what code has of the result: its coefficients cs and its weight w
 pub integration-formed : (a : Model) (cs : List ℤ) (w : ℕ) → good a ≡ true → cs ≡ integralModel a .coefficients → w ≡ weight (integralModel a .coefficients)
     → formedOutcome (a .degree + 1) cs w (2 * a .radius + a .degree + 1) ≡ integration a
-unfolding integration integralModel outcome firstRefusal
+unfolding integration integralModel unlessLarge outcome
 integration-formed a cs w e f g =
     ap (λ (v : ℕ). formedOutcome (a .degree + 1) cs v (2 * a .radius + a .degree + 1)) g ∙ formed-is (integralModel a) cs (λ _. f) ∙ rw e
 
 -- "degree 32 gives 3"
-pub integration-degree : (a : Model) → good a ≡ true → maxDegree ≤ a .degree → outcomeOf (answerOf LargeResult zeroModel) ≡ integration a
-unfolding integration integralModel tooLarge outcome firstRefusal
+pub integration-degree : (a : Model) → good a ≡ true → maxDegree ≤ a .degree → refused 3 zeroModel ≡ integration a
+unfolding integration integralModel tooLarge outcome
 integration-degree a e h = rw (e, lt-ltb maxDegree (a .degree + 1) (omega arith)) (simp or-true)

@@ -2,7 +2,7 @@
 -- the model's by at most e units in total absolute difference, again summed over coefficients", and "c_0 makes the value at −1
 -- exactly 0".
 use mathlib.Core.Path.{_≡_, refl, sym, _∙_, ap, ap₂}
-use mathlib.Core.Bool.{true, not}
+use mathlib.Core.Bool.{true}
 use mathlib.Core.List.{List, [], _∷_, _++_, map}
 use Prim.Native.Nat.{ℕ, zero, suc, _+_, _*_, _-_, _<_, _≤_}
 use native.Mathlib.Omega.{arith}
@@ -23,10 +23,15 @@ use Rattle.chebyshev.specs.NormLaws.{value-distance}
 use Rattle.chebyshev.specs.Primitive.{numerator, primitive}
 use Rattle.chebyshev.specs.PrimitiveLaws.{numerator-first, numerator-next}
 use Rattle.chebyshev.specs.PrimitiveNorm.{Rounded, primitive-rounded}
-use Rattle.model.specs.Models.{places, terms, good, tooLarge}
-use Rattle.model.specs.RefusalLaws.{outcome-zero}
+use Rattle.integer.specs.FractionInverse.{_/ℚ_, quotient-mul}
+use Rattle.chebyshev.specs.Allows.{allows}
+use Rattle.model.specs.Models.{scale, coefficientCount, terms, good, zeroModel}
+use Rattle.model.specs.Outcomes.{accepted}
+use Rattle.model.specs.Values.{position, AllowsAt, Allows, OnInterval}
+use Rattle.model.specs.ValueLaws.{valueAt, within, scale-nonzero}
+use Rattle.model.specs.PlaceLaws.{outcome-accepted}
 use Rattle.model.specs.GoodLaws.{getD-append-zeros, getD-terms}
-use Rattle.model.specs.Integral.{doubleFirst, alternating, integralModel, integration}
+use Rattle.model.specs.Integral.{doubleFirst, alternating, integralModel, integrationPlaces, integration}
 use Rattle.model.specs.IntegralLaws.{roundedTail, roundedIntegral, integral-is, length-rounded, getD-rounded}
 use Rattle.model.specs.declared.types.Model.{Model}
 
@@ -52,7 +57,7 @@ alternating-zeros (c ∷ cs) n = ap (λ z. c -ℤ z) (alternating-zeros cs n)
 alternating-integral : (ds : List ℤ) → alternating (roundedIntegral ds) ≡ pos 0
 unfolding alternating roundedIntegral
 alternating-integral ds =
-    ap (λ z. alternating (roundedTail ds) -ℤ z) (alternating-zeros (roundedTail ds) (places - suc (length (roundedTail ds)))) ∙ self (alternating (roundedTail ds))
+    ap (λ z. alternating (roundedTail ds) -ℤ z) (alternating-zeros (roundedTail ds) (coefficientCount - suc (length (roundedTail ds)))) ∙ self (alternating (roundedTail ds))
   where
     self : (z : ℤ) → z -ℤ z ≡ pos 0
     self = all1 _ (simp differences (omega arith))
@@ -134,7 +139,7 @@ integral-sound a α g h =
     tail = roundedTail (doubleFirst (terms a))
 
     zeros : ℕ
-    zeros = places - suc (length tail)
+    zeros = coefficientCount - suc (length tail)
 
     places-used : length (terms a) ≤ a .degree + 1
     places-used = rw length-take (omega arith)
@@ -150,10 +155,29 @@ integral-value a α x g h l = _⟨≼⟩_ ℚ-ordered (value-distance ℚ-ordere
 
 -- ---- the same of the answer
 
-pub integration-answer : (a : Model) (α : List ℚ) → integration a .number ≡ 0
-    → norm ℚ-ordered (subtractLists ℚ-ring α (map whole (a .coefficients))) ≤ℚ whole (pos (a .radius))
-    → norm ℚ-ordered (subtractLists ℚ-ring (primitive α) (map whole (integration a .model .coefficients))) ≤ℚ whole (pos (integration a .model .radius))
-unfolding integration
-integration-answer a α e h =
-    let (passed, result) = outcome-zero ((not (good a), 2) ∷ (tooLarge (integralModel a), 3) ∷ []) (integralModel a) (omega arith) e in
-    rw result (integral-sound a α (not-false (good a) (passed .0)) h)
+-- a list of fractions α "whose coefficients differ from the model's by at most e units in total absolute difference"
+abbrev pub Near : Model → List ℚ → Type 0
+Near a α = norm ℚ-ordered (subtractLists ℚ-ring α (map whole (a .coefficients))) ≤ℚ whole (pos (a .radius))
+
+module _ (a : Model) {c : Model} (e : integration a ≡ accepted c) where
+  performed : (good a ≡ true) × (c ≡ integralModel a)
+  unfolding integration
+  performed =
+      let (passed, result) = outcome-accepted (integrationPlaces a) (integralModel a) zeroModel e in
+      (not-false (good a) (passed .0), result)
+
+  -- "It bounds the exact primitive …, again summed over coefficients."
+  pub integration-lists : (α : List ℚ) → Near a α → Near c (primitive α)
+  integration-lists α h = rw (performed .1) (integral-sound a α (performed .0) h)
+
+  -- so the integral's model allows the exact primitive's value, in units of 1/S, at every fraction
+  pub integration-sound : (α : List ℚ) → Near a α → (x : ℚ) → OnInterval x
+      → Allows c x (value ℚ-ring x (primitive α) /ℚ whole (pos scale))
+  unfolding position AllowsAt allows
+  integration-sound α h x on =
+      rw (quotient-mul (value ℚ-ring x (primitive α)) (whole (pos scale)) scale-nonzero)
+      (_⟨≼⟩_ ℚ-ordered (value-distance ℚ-ordered x (primitive α) (map whole (c .coefficients)) (within on)) (integration-lists α h))
+
+  -- "c_0 makes the value at −1 exactly 0."
+  pub integration-start : valueAt (-ℚ whole (pos 1)) (c .coefficients) ≡ whole (pos 0)
+  integration-start = rw (performed .1) (integral-minus-one a)

@@ -1,8 +1,9 @@
 pub mod Models
+pub mod Outcomes
 pub mod Areas
 pub mod AreaLaws
 pub mod ModelLaws
-pub mod RefusalLaws
+pub mod PlaceLaws
 pub mod Values
 pub mod ValueLaws
 pub mod Operations
@@ -13,7 +14,7 @@ pub mod Combination
 pub mod RoundingPass
 pub mod MultiplicationLaws
 pub mod Integral
-pub mod OutcomeFits
+pub mod ResultLaws
 pub mod IntegralLaws
 pub mod IntegralSound
 pub mod Evaluation

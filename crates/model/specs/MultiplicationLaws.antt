@@ -1,7 +1,6 @@
 -- Laws of multiplication (Operations.antt) for code that forms the product.
 use mathlib.Core.Path.{_≡_, sym, _∙_, ap}
 use mathlib.Core.Bool.{true}
-use mathlib.Core.List.{[], _∷_}
 use Prim.Native.Nat.{ℕ, suc, _+_, _-_, _*_, _≤_}
 use native.Mathlib.Omega.{arith}
 use lib.ListN.{take}
@@ -9,9 +8,10 @@ use borrow.Author.Tests.{le-leb, ne-eqb}
 use Rattle.integer.specs.Rounding.{upℕ}
 use Rattle.chebyshev.specs.Coefficients.{weight}
 use Rattle.chebyshev.specs.Weight.{weight-append-zeros}
-use Rattle.model.specs.Models.{scale, places, maxDegree, good, tooLarge, firstRefusal, outcome}
+use Rattle.model.specs.Models.{scale, coefficientCount, maxDegree, good}
+use Rattle.model.specs.Outcomes.{outcome}
 use Rattle.model.specs.Operations.{keptDegree, productDegree, productList, productLoss, productModel, rounded, multiplication}
-use Rattle.model.specs.Formed.{formedOutcome, formed-is}
+use Rattle.model.specs.Formed.{unlessLarge, formedOutcome, formed-is}
 use Rattle.model.specs.RoundingPass.{RoundedFrom}
 use Rattle.model.specs.declared.types.Model.{Model}
 use Rattle.model.specs.declared.multiply.Rounded.{Rounded}
@@ -26,17 +26,17 @@ radiusLoss a b = 2 * (weight (a .coefficients) * b .radius + weight (b .coeffici
 
 -- the result from the rounded list C
 pub product-formed : (d : ℕ) (a b : Model) (r : Rounded) → RoundedFrom (productList a b) (suc (productDegree d a b)) r
-    → formedOutcome (productDegree d a b) (r .coefficients) (r .weight) (upℕ (r .loss + radiusLoss a b) (2 * scale)) ≡ outcome ((tooLarge (productModel d a b), 3) ∷ []) (productModel d a b)
+    → formedOutcome (productDegree d a b) (r .coefficients) (r .weight) (upℕ (r .loss + radiusLoss a b) (2 * scale)) ≡ unlessLarge (productModel d a b)
 unfolding productModel productLoss
 product-formed d a b r f =
     let m = productModel d a b in
     let n = productDegree d a b in
-    let w : r .weight ≡ weight (m .coefficients) = f .weight-is ∙ sym (weight-append-zeros (rounded (take (suc n) (productList a b))) (places - suc n)) in
+    let w : r .weight ≡ weight (m .coefficients) = f .weight-is ∙ sym (weight-append-zeros (rounded (take (suc n) (productList a b))) (coefficientCount - suc n)) in
     let e : upℕ (r .loss + radiusLoss a b) (2 * scale) ≡ m .radius = ap (λ l. upℕ (l + radiusLoss a b) (2 * scale)) (f .loss-is) in
     (λ t. formedOutcome n (r .coefficients) (w t) (e t)) ∙ formed-is m (r .coefficients) (λ h. f .coefficients-are (omega arith))
 
 -- of two good models and a kept degree within its limit only the result is tested
 pub multiplication-good : (d : ℕ) (a b : Model) → good a ≡ true → good b ≡ true → keptDegree d ≤ maxDegree
-    → outcome ((tooLarge (productModel (keptDegree d) a b), 3) ∷ []) (productModel (keptDegree d) a b) ≡ multiplication d a b
-unfolding multiplication outcome firstRefusal productModel
+    → unlessLarge (productModel (keptDegree d) a b) ≡ multiplication d a b
+unfolding multiplication unlessLarge outcome productModel
 multiplication-good d a b p q h = rw (p, q, le-leb (keptDegree d) maxDegree h, kept-is (keptDegree d) h)

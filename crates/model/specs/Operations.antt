@@ -1,4 +1,4 @@
--- Document 01, "Plain operations": add, subtract and multiply.
+-- Document 01, "Plain operations": add, subtract and multiply; and a model that is loaded.
 use mathlib.Core.Bool.{Bool, not, cond}
 use mathlib.Core.List.{List, [], _∷_, _++_, map}
 use Prim.Native.Nat.{ℕ, suc, _+_, _*_, _-_, min, max}
@@ -9,35 +9,37 @@ use Rattle.integer.specs.Integer.{ℤ-ring}
 use Rattle.integer.specs.Rounding.{near, upℕ}
 use Rattle.chebyshev.specs.Coefficients.{weight, addLists, subtractLists}
 use Rattle.chebyshev.specs.Product.{product}
-use Rattle.model.specs.Models.{scale, maxDegree, places, productPlaces, terms, good, tooLarge, Outcome, outcome}
+use Rattle.model.specs.Models.{scale, maxDegree, coefficientCount, productSize, terms, makeModel, zeroModel, badPlace, largePlace}
+use Rattle.model.specs.Outcomes.{Outcome, outcome}
 use Rattle.model.specs.declared.types.Model.{Model}
+
+-- a model that is handed in: "each model: 2"
+abbrev pub loadingPlaces : Model → List (Bool × ℕ)
+loadingPlaces m = badPlace m ∷ []
+
+unfoldable pub loading : Model → Outcome Model
+loading m = outcome (loadingPlaces m) m zeroModel
 
 -- "Add and subtract: coefficient by coefficient, the larger degree, radii added."
 unfoldable pub sumModel : Model → Model → Model
-sumModel a b = record {
-  degree = max (a .degree) (b .degree);
-  coefficients = addLists ℤ-ring (a .coefficients) (b .coefficients);
-  radius = a .radius + b .radius;
-}
+sumModel a b =
+    makeModel (max (a .degree) (b .degree)) (addLists ℤ-ring (a .coefficients) (b .coefficients)) (a .radius + b .radius)
 
 unfoldable pub differenceModel : Model → Model → Model
-differenceModel a b = record {
-  degree = max (a .degree) (b .degree);
-  coefficients = subtractLists ℤ-ring (a .coefficients) (b .coefficients);
-  radius = a .radius + b .radius;
-}
+differenceModel a b =
+    makeModel (max (a .degree) (b .degree)) (subtractLists ℤ-ring (a .coefficients) (b .coefficients)) (a .radius + b .radius)
 
 abbrev pub additionPlaces : Model → Model → List (Bool × ℕ)
-additionPlaces a b = (not (good a), 2) ∷ (not (good b), 2) ∷ (tooLarge (sumModel a b), 3) ∷ []
+additionPlaces a b = badPlace a ∷ badPlace b ∷ largePlace (sumModel a b) ∷ []
 
-unfoldable pub addition : Model → Model → Outcome
-addition a b = outcome (additionPlaces a b) (sumModel a b)
+unfoldable pub addition : Model → Model → Outcome Model
+addition a b = outcome (additionPlaces a b) (sumModel a b) zeroModel
 
 abbrev pub subtractionPlaces : Model → Model → List (Bool × ℕ)
-subtractionPlaces a b = (not (good a), 2) ∷ (not (good b), 2) ∷ (tooLarge (differenceModel a b), 3) ∷ []
+subtractionPlaces a b = badPlace a ∷ badPlace b ∷ largePlace (differenceModel a b) ∷ []
 
-unfoldable pub subtraction : Model → Model → Outcome
-subtraction a b = outcome (subtractionPlaces a b) (differenceModel a b)
+unfoldable pub subtraction : Model → Model → Outcome Model
+subtraction a b = outcome (subtractionPlaces a b) (differenceModel a b) zeroModel
 
 -- ---- multiply
 
@@ -47,7 +49,7 @@ keptDegree d = cond (eqb d 255) maxDegree d
 
 -- the list C of two models
 unfoldable pub productList : Model → Model → List ℤ
-productList a b = product ℤ-ring productPlaces (terms a) (terms b)
+productList a b = product ℤ-ring productSize (terms a) (terms b)
 
 abbrev pub productDegree : ℕ → Model → Model → ℕ
 productDegree d a b = min (keptDegree d) (a .degree + b .degree)
@@ -70,15 +72,15 @@ productLoss n a b =
 
 -- "The result has degree min(d, sum of the degrees), coefficients c_k = near(C_k/(2S)), and radius up(E/(2S))"
 unfoldable pub productModel : ℕ → Model → Model → Model
-productModel d a b = record {
-  degree = productDegree d a b;
-  coefficients = rounded (take (suc (productDegree d a b)) (productList a b)) ++ replicate (places - suc (productDegree d a b)) (pos 0);
-  radius = upℕ (productLoss (productDegree d a b) a b) (2 * scale);
-}
+productModel d a b =
+    let n = productDegree d a b in
+    makeModel n
+    (rounded (take (suc n) (productList a b)) ++ replicate (coefficientCount - suc n) (pos 0))
+    (upℕ (productLoss n a b) (2 * scale))
 
 abbrev pub multiplicationPlaces : ℕ → Model → Model → List (Bool × ℕ)
 multiplicationPlaces d a b =
-    (not (good a), 2) ∷ (not (good b), 2) ∷ (not (leb (keptDegree d) maxDegree), 9) ∷ (tooLarge (productModel d a b), 3) ∷ []
+    badPlace a ∷ badPlace b ∷ (not (leb (keptDegree d) maxDegree), 9) ∷ largePlace (productModel d a b) ∷ []
 
-unfoldable pub multiplication : ℕ → Model → Model → Outcome
-multiplication d a b = outcome (multiplicationPlaces d a b) (productModel d a b)
+unfoldable pub multiplication : ℕ → Model → Model → Outcome Model
+multiplication d a b = outcome (multiplicationPlaces d a b) (productModel d a b) zeroModel

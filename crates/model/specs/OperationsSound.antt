@@ -14,12 +14,13 @@ use Rattle.integer.specs.FractionOrder.{_≤ℚ_, ∣_∣ℚ, ℚ-ordered}
 use Rattle.integer.specs.FractionRounding.{natural-add, natural-mul, up-bound}
 use Rattle.chebyshev.specs.Coefficients.{weight, addLists, subtractLists, scaleList}
 use Rattle.chebyshev.specs.Allows.{allows}
-use Rattle.model.specs.Models.{scale, places, good}
+use Rattle.model.specs.Models.{scale, coefficientCount, good}
 use Rattle.model.specs.Operations.{sumModel, differenceModel, productModel, productList, productDegree, productLoss, rounded, roundingLoss, addition, subtraction, multiplication}
 use Rattle.model.specs.Values.{position, AllowsAt, Allows, OnInterval}
 use Rattle.model.specs.ValueLaws.{valueAt, valueAt-add, valueAt-subtract, valueAt-scale, valueAt-append-zeros, valueAt-weight, valueAt-difference}
 use Rattle.model.specs.GoodLaws.{value-productList}
-use Rattle.model.specs.RefusalLaws.{addition-zero, subtraction-zero, multiplication-zero}
+use Rattle.model.specs.Outcomes.{accepted}
+use Rattle.model.specs.PlaceLaws.{addition-accepted, subtraction-accepted, multiplication-accepted}
 use Rattle.model.specs.declared.types.Model.{Model}
 
 -- ---- add and subtract
@@ -78,7 +79,7 @@ pub multiply-sound : (d : ℕ) (a b : Model) → good a ≡ true → good b ≡ 
     → (x v w : ℚ) → OnInterval x → AllowsAt a x v → AllowsAt b x w → AllowsAt (productModel d a b) x (v *ℚ w)
 unfolding AllowsAt allows productModel productLoss
 multiply-sound d a b ga gb x v w on h k =
-    rw (valueAt-append-zeros x kept (places - suc n))
+    rw (valueAt-append-zeros x kept (coefficientCount - suc n))
     (up-bound (productLoss n a b) (2 * scale) (v *ℚ w *ℚ whole (pos scale) -ℚ valueAt x kept) (omega arith)
     (rw (natural-mul 2 scale, loss-natural lost (weight (a .coefficients)) (weight (b .coefficients)) (a .radius) (b .radius))
     (product-bound (whole (pos scale)) v w (valueAt x (a .coefficients)) (valueAt x (b .coefficients)) (valueAt x kept)
@@ -103,16 +104,18 @@ multiply-sound d a b ga gb x v w on h k =
 
 -- ---- the same of the outcomes
 
-pub addition-sound : (a b : Model) → (addition a b) .number ≡ 0 → (x v w : ℚ) → Allows a x v → Allows b x w → Allows ((addition a b) .model) x (v +ℚ w)
+pub addition-sound : (a b : Model) {c : Model} → addition a b ≡ accepted c
+    → (x v w : ℚ) → Allows a x v → Allows b x w → Allows c x (v +ℚ w)
 unfolding position
-addition-sound a b e x v w h k = rw (addition-zero a b e .result) (add-sound a b x v w h k)
+addition-sound a b e x v w h k = rw (addition-accepted a b e .result) (add-sound a b x v w h k)
 
-pub subtraction-sound : (a b : Model) → (subtraction a b) .number ≡ 0 → (x v w : ℚ) → Allows a x v → Allows b x w → Allows ((subtraction a b) .model) x (v -ℚ w)
+pub subtraction-sound : (a b : Model) {c : Model} → subtraction a b ≡ accepted c
+    → (x v w : ℚ) → Allows a x v → Allows b x w → Allows c x (v -ℚ w)
 unfolding position
-subtraction-sound a b e x v w h k = rw (subtraction-zero a b e .result) (subtract-sound a b x v w h k)
+subtraction-sound a b e x v w h k = rw (subtraction-accepted a b e .result) (subtract-sound a b x v w h k)
 
-pub multiplication-sound : (d : ℕ) (a b : Model) → (multiplication d a b) .number ≡ 0
-    → (x v w : ℚ) → OnInterval x → Allows a x v → Allows b x w → Allows ((multiplication d a b) .model) x (v *ℚ w)
+pub multiplication-sound : (d : ℕ) (a b : Model) {c : Model} → multiplication d a b ≡ accepted c
+    → (x v w : ℚ) → OnInterval x → Allows a x v → Allows b x w → Allows c x (v *ℚ w)
 unfolding position
 multiplication-sound d a b e x v w on h k =
-    let p = multiplication-zero d a b e in rw (p .result) (multiply-sound d a b (p .first-good) (p .second-good) x v w on h k)
+    let p = multiplication-accepted d a b e in rw (p .result) (multiply-sound d a b (p .first-good) (p .second-good) x v w on h k)

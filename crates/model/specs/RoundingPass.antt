@@ -14,7 +14,7 @@ use Rattle.integer.specs.RoundingLaws.{near-closer}
 use Rattle.integer.specs.RoundingSize.{near-size}
 use Rattle.chebyshev.specs.Coefficients.{weight}
 use Rattle.chebyshev.specs.Weight.{weight-split}
-use Rattle.model.specs.Models.{scale, places, maxWeight}
+use Rattle.model.specs.Models.{scale, coefficientCount, maxWeight}
 use Rattle.model.specs.Operations.{rounded, roundingLoss}
 use Rattle.model.specs.declared.multiply.Rounded.{Rounded}
 
@@ -84,7 +84,7 @@ loss-weight (c ∷ cs) = omega (arith, loss-small c, loss-weight cs)
 pub record RoundedFrom (c : List ℤ) (n : ℕ) (r : Rounded) : Type 0 where
   pub weight-is : r .weight ≡ weight (rounded (take n c))
   pub loss-is : r .loss ≡ roundingLoss (take n c) + weight (drop n c)
-  pub coefficients-are : r .weight ≤ maxWeight → r .coefficients ≡ rounded (take n c) ++ replicate (places - n) (pos 0)
+  pub coefficients-are : r .weight ≤ maxWeight → r .coefficients ≡ rounded (take n c) ++ replicate (coefficientCount - n) (pos 0)
 
 -- nothing is lost with zeros at the end
 pub rounded-prefix : (c : List ℤ) (t n : ℕ) (r : Rounded) → weight (drop t c) ≡ 0 → n ≤ t → RoundedFrom (take t c) n r → RoundedFrom c n r

@@ -2,20 +2,26 @@
 use mathlib.Core.Path.{_≡_, _∙_, ap}
 use mathlib.Core.List.{List, _++_, map, map-append}
 use Prim.Native.Nat.{ℕ}
+use native.Mathlib.Omega.{arith}
 use lib.IntN.{ℤ, pos}
 use lib.ListN.{replicate}
 use Rattle.integer.specs.Integer.{ℤ-ring}
-use Rattle.integer.specs.OrderedRing.{abs-le}
+use Rattle.integer.specs.OrderedRing.{abs-le, le-of-eq}
 use Rattle.integer.specs.Fraction.{ℚ, whole, _+ℚ_, _-ℚ_, -ℚ_, _*ℚ_, ℚ-ring}
 use Rattle.integer.specs.FractionOrder.{_≤ℚ_, ∣_∣ℚ, ℚ-ordered}
 use Rattle.chebyshev.specs.Coefficients.{weight, value, addLists, subtractLists, scaleList}
 use Rattle.chebyshev.specs.CoefficientLaws.{value-add, value-subtract, value-scale, value-append-zeros, map-ι-add, map-ι-subtract, map-ι-scale, map-ι-zeros}
 use Rattle.chebyshev.specs.NormLaws.{value-bound, norm-whole}
+use Rattle.integer.specs.FractionRounding.{natural-positive}
+use Rattle.model.specs.Models.{scale}
 use Rattle.model.specs.Values.{OnInterval}
 
 -- Σ a_k·T_k(x)
 abbrev pub valueAt : ℚ → List ℤ → ℚ
 valueAt x a = value ℚ-ring x (map whole a)
+
+pub scale-nonzero : ¬ (whole (pos scale) ≡ whole (pos 0))
+scale-nonzero e = natural-positive scale (omega arith) (le-of-eq ℚ-ordered e)
 
 module _ (x : ℚ) where
   pub valueAt-add : (a b : List ℤ) → valueAt x (addLists ℤ-ring a b) ≡ valueAt x a +ℚ valueAt x b
@@ -31,7 +37,7 @@ module _ (x : ℚ) where
   valueAt-append-zeros a n = simp (map-append, map-ι-zeros ℚ-ring) (value-append-zeros ℚ-ring x (map whole a) n)
 
 module _ {x : ℚ} (h : OnInterval x) where
-  within : ∣ x ∣ℚ ≤ℚ whole (pos 1)
+  pub within : ∣ x ∣ℚ ≤ℚ whole (pos 1)
   within = abs-le ℚ-ordered (h .below) (h .above)
 
   -- |value a| ≤ weight a

@@ -7,17 +7,19 @@ ghost use lib.ListN.{length};
 ghost use Rattle.integer.specs.Integer.{ℤ-ring};
 ghost use Rattle.chebyshev.specs.Coefficients.{weight};
 ghost use Rattle.chebyshev.specs.Product.{product};
-ghost use Rattle.model.specs.Models.{places, productPlaces, maxDegree, maxWeight, maxRadius, good, tooLarge, outcome, outcomeOf};
+ghost use Rattle.model.specs.Models.{coefficientCount, productSize, maxDegree, maxWeight, maxRadius, good};
+ghost use Rattle.model.specs.Outcomes.{outcomeOf};
+ghost use Rattle.model.specs.Formed.{unlessLarge};
 ghost use Rattle.model.specs.RoundingPass.{RoundedFrom};
 ghost use Rattle.model.specs.Operations.{productModel, multiplication};
 use crate::measure::measure;
 use crate::measure::weigh;
 use crate::products::add_products;
-use crate::types::Answer;
+use crate::types::COEFFICIENTS;
 use crate::types::Model;
-use crate::types::PLACES;
-use crate::types::PRODUCT_PLACES;
-use crate::types::Verdict;
+use crate::types::ModelOutcome;
+use crate::types::PRODUCT_SIZE;
+use crate::types::Refusal;
 use integer::absolute::magnitude;
 use integer::rounding::near;
 use integer::rounding::up_unsigned;
@@ -31,17 +33,17 @@ const KEEP_ALL: u32 = 255;
 // The rounded coefficients, which count only where their weight is within its limit, their weight, and what the rounding
 // and the dropped coefficients lose, in units of C.
 struct Rounded {
-    coefficients: [i32; PLACES],
+    coefficients: [i32; COEFFICIENTS],
     weight: u64,
     loss: u64,
 }
 
 // The first `kept` numbers of the list c rounded, the others dropped.
 fn round(c: &[i64], kept: usize) -> Rounded
-    requires { ⌜ (kept ≤ places) × (kept ≤ length (now c)) × (weight (now c) < 2 ^ 62) ⌝ }
+    requires { ⌜ (kept ≤ coefficientCount) × (kept ≤ length (now c)) × (weight (now c) < 2 ^ 62) ⌝ }
     ensures { λ (r : Rounded). ⌜ RoundedFrom (now (c .entry)) kept r ⌝ }
 {
-    let mut coefficients = [0i32; PLACES];
+    let mut coefficients = [0i32; COEFFICIENTS];
     let mut weight: u64 = 0;
     let mut loss: u64 = weigh(&c[kept..]);
     let mut k = 0;
@@ -72,21 +74,21 @@ fn radius_loss(a: u64, ea: u64, b: u64, eb: u64) -> u64
 
 // The list C of two lists of coefficients, rounded. It ends at the sum of the degrees.
 fn round_product(a: &[i32], b: &[i32], kept: usize) -> Rounded
-    requires { ⌜ (length (now a) ≤ places) × (length (now b) ≤ places) × (weight (now a) ≤ maxWeight) × (weight (now b) ≤ maxWeight) ⌝ }
-    requires { ⌜ (kept ≤ places) × (kept < length (now a) + length (now b)) ⌝ }
-    ensures { λ (r : Rounded). ⌜ RoundedFrom (product ℤ-ring productPlaces (now (a .entry)) (now (b .entry))) kept r ⌝ }
+    requires { ⌜ (length (now a) ≤ coefficientCount) × (length (now b) ≤ coefficientCount) × (weight (now a) ≤ maxWeight) × (weight (now b) ≤ maxWeight) ⌝ }
+    requires { ⌜ (kept ≤ coefficientCount) × (kept < length (now a) + length (now b)) ⌝ }
+    ensures { λ (r : Rounded). ⌜ RoundedFrom (product ℤ-ring productSize (now (a .entry)) (now (b .entry))) kept r ⌝ }
 {
-    let mut c = [0i64; PRODUCT_PLACES];
+    let mut c = [0i64; PRODUCT_SIZE];
     add_products(&mut c, a, b);
     let end = a.len() + b.len() - 1;
     round(&c[..end], kept)
 }
 
 // Of two good models, with their weights, to a kept degree within its limit.
-fn multiply_good(a: Model, b: Model, weight_a: u64, weight_b: u64, kept: u32) -> Answer
+fn multiply_good(a: Model, b: Model, weight_a: u64, weight_b: u64, kept: u32) -> ModelOutcome
     requires { ⌜ (good a ≡ true) × (good b ≡ true) × (kept ≤ maxDegree) ⌝ }
     requires { ⌜ («weight_a» ≡ weight (a .coefficients)) × («weight_b» ≡ weight (b .coefficients)) ⌝ }
-    ensures { λ (r : Answer). ⌜ outcomeOf r ≡ outcome ((tooLarge (productModel kept a b), 3) ∷ []) (productModel kept a b) ⌝ }
+    ensures { λ (r : ModelOutcome). ⌜ outcomeOf r ≡ unlessLarge (productModel kept a b) ⌝ }
 {
     let top = a.degree + b.degree;
     let degree = if kept < top { kept } else { top };
@@ -99,7 +101,7 @@ fn multiply_good(a: Model, b: Model, weight_a: u64, weight_b: u64, kept: u32) ->
     );
     let coefficients = product.coefficients;
     let loss = product.loss + radius_loss(weight_a, a.radius as u64, weight_b, b.radius as u64);
-    Answer::formed(
+    ModelOutcome::formed(
         degree,
         coefficients,
         product.weight,
@@ -107,16 +109,16 @@ fn multiply_good(a: Model, b: Model, weight_a: u64, weight_b: u64, kept: u32) ->
     )
 }
 
-pub fn multiply(a: Model, b: Model, kept: u32) -> Answer
-    ensures { λ (r : Answer). ⌜ outcomeOf r ≡ multiplication kept a b ⌝ }
+pub fn multiply(a: Model, b: Model, kept: u32) -> ModelOutcome
+    ensures { λ (r : ModelOutcome). ⌜ outcomeOf r ≡ multiplication kept a b ⌝ }
 {
     let first = measure(a);
     if !first.good {
-        return Answer::refused(Verdict::BadModel);
+        return ModelOutcome::refused(Refusal::BadModel);
     }
     let second = measure(b);
     if !second.good {
-        return Answer::refused(Verdict::BadModel);
+        return ModelOutcome::refused(Refusal::BadModel);
     }
     let degree = if kept == KEEP_ALL {
         Model::MAX_DEGREE
@@ -124,7 +126,7 @@ pub fn multiply(a: Model, b: Model, kept: u32) -> Answer
         kept
     };
     if Model::MAX_DEGREE < degree {
-        return Answer::refused(Verdict::BadValue);
+        return ModelOutcome::refused(Refusal::BadValue);
     }
     multiply_good(a, b, first.weight, second.weight, degree)
 }

@@ -6,7 +6,7 @@ use native.Mathlib.Omega.{arith}
 use lib.ListN.{length, take, drop}
 use lib.Seq.{length-take-le}
 use Rattle.model.specs.Models.{candidateModel}
-use Rattle.certificate.specs.Tests.{scratchPlaces, testOf}
+use Rattle.certificate.specs.Tests.{scratchSize, testOf}
 use Rattle.certificate.specs.Stages.{quotient-short, quotient-room, scratch-short, scratch-cleared}
 use Rattle.certificate.proofs.quotient.quotient.Statement.{statement}
 use Rattle.certificate.proofs.quotient.quotient.Tie as tie
@@ -18,8 +18,8 @@ returns c =
       sym (scratch-short (a .scratch .now) (omega arith)),
     )
 
-first-part : (c : tie.Else1) → length (take scratchPlaces (c .before .args .scratch .now)) ≡ scratchPlaces
-first-part c = length-take-le scratchPlaces (c .before .args .scratch .now) (omega arith)
+first-part : (c : tie.Else1) → length (take scratchSize (c .before .args .scratch .now)) ≡ scratchSize
+first-part c = length-take-le scratchSize (c .before .args .scratch .now) (omega arith)
 
 slice-aggregate-test-in : tie.Need-slice-aggregate-test-in
 slice-aggregate-test-in c = sym (first-part (c .before))
@@ -31,7 +31,7 @@ returns-2 : tie.Need-returns-2
 returns-2 c =
     let a = c .before .before .before .before .args in (
       c .before .test-in .ensures .0 ∙ sym (quotient-room (length (a .scratch .now)) (a .f) (a .g) (candidateModel (a .h)) (candidateModel (a .w)) (omega arith)),
-      ap (λ l. l ++ drop scratchPlaces (a .scratch .now)) (c .before .test-in .ensures .1) ∙ sym (scratch-cleared (a .scratch .now) (omega arith)),
+      ap (λ l. l ++ drop scratchSize (a .scratch .now)) (c .before .test-in .ensures .1) ∙ sym (scratch-cleared (a .scratch .now) (omega arith)),
     )
 
 pub quotient-spec : {M : Type 1} → statement M

@@ -5,10 +5,10 @@ use mathlib.Core.List.{[], _∷_, _++_}
 use Prim.Native.Nat.{ℕ, _*_, _≤_}
 use native.Mathlib.Omega.{arith}
 use Rattle.integer.specs.Rounding.{upℕ}
-use Rattle.model.specs.Models.{scale, maxWeight, modelOf, candidateModel, tooLarge}
+use Rattle.model.specs.Models.{scale, maxWeight, makeModel, candidateModel, tooLarge}
 use Rattle.model.specs.ModelLaws.{good-is}
 use Rattle.model.specs.declared.types.Model.{Model}
-use Rattle.certificate.specs.Tests.{Test, scratchPlaces, testPlaces, testOf, tested, displacement, quotientOf, quotientContraction, quotientResidual, quotientModel}
+use Rattle.certificate.specs.Tests.{Test, scratchSize, testPlaces, testOf, tested, displacement, quotientOf, quotientContraction, quotientResidual, quotientModel}
 use Rattle.certificate.specs.Stages.{refusedTest, not-contracting, large-residual, tests-passed, quotient-tests}
 use Rattle.certificate.proofs.Ranges.{displacement-range}
 use Rattle.certificate.proofs.quotient.test_good.Statement.{statement}
@@ -26,8 +26,8 @@ module _ (s : tie.Start) where
 
   -- the places from m on
   from-m : (m n b : ℕ) → m ≡ quotientContraction (s .args .g) w → n ≡ quotientResidual (s .args .f) (s .args .g) h → b ≡ displacement w n
-      → quotientOf scratchPlaces (s .args .f) (s .args .g) h w ≡ tested (testPlaces m n ++ ((tooLarge (quotientModel h m b), 3) ∷ [])) (quotientModel h m b) m n b
-  from-m = quotient-tests scratchPlaces (s .args .f) (s .args .g) h w (omega arith) (s .pre .0 .1) (s .pre .0 .2) (s .pre .0 .3) (s .pre .0 .4)
+      → quotientOf scratchSize (s .args .f) (s .args .g) h w ≡ tested (testPlaces m n ++ ((tooLarge (quotientModel h m b), 3) ∷ [])) (quotientModel h m b) m n b
+  from-m = quotient-tests scratchSize (s .args .f) (s .args .g) h w (omega arith) (s .pre .0 .1) (s .pre .0 .2) (s .pre .0 .3) (s .pre .0 .4)
 
 displacement-requires : tie.Need-displacement-requires
 displacement-requires c κs = (w-fits (c .before .before .before .before .before .before .before .before), search needs)
@@ -49,7 +49,7 @@ returns c =
     let n = of-n .result in
     let b = d .displacement .result in
     let r = quotientModel (h s) m b in
-    let formed : (e : ℕ) → Test = λ e. let r = modelOf (h s .degree) (h s .coefficients) e in tested ((tooLarge r, 3) ∷ []) r m n b in (
+    let formed : (e : ℕ) → Test = λ e. let r = makeModel (h s .degree) (h s .coefficients) e in tested ((tooLarge r, 3) ∷ []) r m n b in (
       c .formed .ensures
           ∙ ap formed (c .before .quotient-radius .ensures)
           ∙ sym (from-m s m n b (of-m .ensures .0) (of-n .ensures .0) (d .displacement .ensures ∙ ap (λ (k : ℕ). upℕ (k * n) scale) (s .pre .1 .1))

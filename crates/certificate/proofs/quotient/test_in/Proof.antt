@@ -6,12 +6,12 @@ use mathlib.Core.Bool.{false, _&&_}
 use native.Mathlib.Omega.{arith}
 use Rattle.integer.specs.Clearing.{zeros}
 use Rattle.model.specs.Models.{good, candidateModel}
-use Rattle.certificate.specs.Tests.{scratchPlaces, testOf}
+use Rattle.certificate.specs.Tests.{scratchSize, testOf}
 use Rattle.certificate.specs.Stages.{quotient-bad}
 use Rattle.certificate.proofs.quotient.test_in.Statement.{statement}
 use Rattle.certificate.proofs.quotient.test_in.Tie as tie
 
-cleared : (c : tie.After-clear) → c .clear .last .0 ≡ zeros scratchPlaces
+cleared : (c : tie.After-clear) → c .clear .last .0 ≡ zeros scratchSize
 cleared c = c .clear .ensures ∙ ap zeros (c .before .before .pre)
 
 test-good-requires : tie.Need-test-good-requires
@@ -48,7 +48,7 @@ bad c =
 returns-2 : tie.Need-returns-2
 returns-2 c =
     let s = c .before .before .before .before .before .before in (
-      ap testOf (c .refused .ensures) ∙ sym (quotient-bad scratchPlaces (s .args .f) (s .args .g) (candidateModel (s .args .h)) (candidateModel (s .args .w)) (omega arith) (bad (c .before))),
+      ap testOf (c .refused .ensures) ∙ sym (quotient-bad scratchSize (s .args .f) (s .args .g) (candidateModel (s .args .h)) (candidateModel (s .args .w)) (omega arith) (bad (c .before))),
       cleared (c .before .before .before .before),
     )
 

@@ -13,7 +13,7 @@ use Rattle.integer.specs.Integer.{ℤ-ring}
 use Rattle.chebyshev.specs.Coefficients.{weight}
 use Rattle.chebyshev.specs.Weight.{weight-take}
 use Rattle.chebyshev.specs.Product.{addRows, product}
-use Rattle.certificate.specs.Tests.{scratchPlaces}
+use Rattle.certificate.specs.Tests.{scratchSize}
 use Rattle.certificate.proofs.Formed.{cleared, from-zeros}
 use Rattle.certificate.proofs.residual.form.Statement.{statement}
 use Rattle.certificate.proofs.residual.form.Tie as tie
@@ -51,7 +51,7 @@ returns c =
     c .before .add-products .ensures
     ∙ ap (λ l. addRows ℤ-ring l 0 (take (s .args .n + 1) (a s)) (take (s .args .k + 1) (b s))) (s .pre .0 .0)
     ∙ from-zeros (take (s .args .n + 1) (a s)) (take (s .args .k + 1) (b s))
-    ∙ ap₂ (λ (i j : ℕ). product ℤ-ring scratchPlaces (take i (a s)) (take j (b s))) (add-one (s .args .n)) (add-one (s .args .k))
+    ∙ ap₂ (λ (i j : ℕ). product ℤ-ring scratchSize (take i (a s)) (take j (b s))) (add-one (s .args .n)) (add-one (s .args .k))
 
 pub form-spec : {M : Type 1} → statement M
 form-spec =

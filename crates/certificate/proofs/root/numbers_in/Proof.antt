@@ -5,19 +5,19 @@ use mathlib.Core.Bool.{true, false, _&&_}
 use native.Mathlib.Omega.{arith}
 use Rattle.integer.specs.Clearing.{zeros}
 use Rattle.model.specs.Models.{good, candidateModel}
-use Rattle.certificate.specs.Tests.{scratchPlaces}
+use Rattle.certificate.specs.Tests.{scratchSize}
 use Rattle.certificate.specs.RootNumbers.{refused, rootOutcome, root-bad}
 use Rattle.certificate.proofs.root.numbers_in.Statement.{statement}
 use Rattle.certificate.proofs.root.numbers_in.Tie as tie
 
-cleared : (c : tie.After-clear) → c .clear .last .0 ≡ zeros scratchPlaces
+cleared : (c : tie.After-clear) → c .clear .last .0 ≡ zeros scratchSize
 cleared c = c .clear .ensures ∙ ap zeros (c .before .before .pre)
 
 -- a model or a candidate is bad
 module _ (s : tie.Start) where
   bad : (good (s .args .f) && (good (candidateModel (s .args .h)) && good (candidateModel (s .args .w)))) ≡ false
-      → refused 2 ≡ rootOutcome scratchPlaces (s .args .f) (candidateModel (s .args .h)) (candidateModel (s .args .w))
-  bad e = sym (root-bad scratchPlaces (s .args .f) (candidateModel (s .args .h)) (candidateModel (s .args .w)) (omega arith) e)
+      → refused 2 ≡ rootOutcome scratchSize (s .args .f) (candidateModel (s .args .h)) (candidateModel (s .args .w))
+  bad e = sym (root-bad scratchSize (s .args .f) (candidateModel (s .args .h)) (candidateModel (s .args .w)) (omega arith) e)
 
 good-f : (c : tie.Then1) → good (c .before .before .before .before .before .args .f) ≡ true
 good-f c = sym (c .before .measure .ensures .0) ∙ c .if1 .taken

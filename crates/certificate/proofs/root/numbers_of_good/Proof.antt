@@ -14,7 +14,7 @@ use Rattle.chebyshev.specs.Sign.{coefficientSum}
 use Rattle.model.specs.Models.{scale, maxWeight, candidateModel}
 use Rattle.model.specs.ModelLaws.{good-is}
 use Rattle.model.specs.declared.types.Model.{Model}
-use Rattle.certificate.specs.Tests.{scratchPlaces, rootContraction, rootResidual, displacement}
+use Rattle.certificate.specs.Tests.{scratchSize, rootContraction, rootResidual, displacement}
 use Rattle.certificate.specs.RootNumbers.{reached, root-helper, root-not-contracting, root-large-residual, root-reached}
 use Rattle.certificate.proofs.root.numbers_of_good.Statement.{statement}
 use Rattle.certificate.proofs.root.numbers_of_good.Tie as tie
@@ -48,7 +48,7 @@ positive c = sym (sign-is (c .before)) ∙ c .if1 .left
 returns : tie.Need-returns
 returns c =
     let p = s (c .before) in (
-      sym (root-helper scratchPlaces (p .args .f) (h p) (w p) (omega arith) (p .pre .1) (p .pre .2) (p .pre .3) (not-positive c)),
+      sym (root-helper scratchSize (p .args .f) (h p) (w p) (omega arith) (p .pre .1) (p .pre .2) (p .pre .3) (not-positive c)),
       p .pre .0,
     )
 
@@ -71,7 +71,7 @@ returns-2 c =
     let en : n ≡ rootResidual (p .args .f) (h p) = of-n .ensures .0 in
     let eb : c .displacement .result ≡ displacement (w p) (rootResidual (p .args .f) (h p)) = c .displacement .ensures ∙ ap₂ (λ (i j : ℕ). upℕ (i * j) scale) (p .pre .4) en in (
       reached-parts (p .pre .4) em en eb
-          ∙ sym (root-reached scratchPlaces (p .args .f) (h p) (w p) (omega arith) (p .pre .1) (p .pre .2) (p .pre .3) (positive q) (omega (arith, em)) (omega (arith, en))),
+          ∙ sym (root-reached scratchSize (p .args .f) (h p) (w p) (omega arith) (p .pre .1) (p .pre .2) (p .pre .3) (positive q) (omega (arith, em)) (omega (arith, en))),
       of-n .ensures .1,
     )
 
@@ -83,7 +83,7 @@ returns-3 c =
     let p = s (q .before) in
     let em : at-m .root-contraction .result ≡ rootContraction (h p) (w p) = at-m .root-contraction .ensures .0 in
     let en : of-n .result ≡ rootResidual (p .args .f) (h p) = of-n .ensures .0 in (
-      sym (root-large-residual scratchPlaces (p .args .f) (h p) (w p) (omega arith) (p .pre .1) (p .pre .2) (p .pre .3) (positive q) (omega (arith, em)) (omega (arith, en))),
+      sym (root-large-residual scratchSize (p .args .f) (h p) (w p) (omega arith) (p .pre .1) (p .pre .2) (p .pre .3) (positive q) (omega (arith, em)) (omega (arith, en))),
       of-n .ensures .1,
     )
 
@@ -93,7 +93,7 @@ returns-4 c =
     let q = at-m .before .before in
     let p = s (q .before) in
     let em : at-m .root-contraction .result ≡ rootContraction (h p) (w p) = at-m .root-contraction .ensures .0 in (
-      sym (root-not-contracting scratchPlaces (p .args .f) (h p) (w p) (omega arith) (p .pre .1) (p .pre .2) (p .pre .3) (positive q) (omega (arith, em))),
+      sym (root-not-contracting scratchSize (p .args .f) (h p) (w p) (omega arith) (p .pre .1) (p .pre .2) (p .pre .3) (positive q) (omega (arith, em))),
       at-m .root-contraction .ensures .1,
     )
 

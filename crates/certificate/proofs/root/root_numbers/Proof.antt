@@ -6,7 +6,7 @@ use native.Mathlib.Omega.{arith}
 use lib.ListN.{length, take, drop}
 use lib.Seq.{length-take-le}
 use Rattle.model.specs.Models.{candidateModel}
-use Rattle.certificate.specs.Tests.{scratchPlaces}
+use Rattle.certificate.specs.Tests.{scratchSize}
 use Rattle.certificate.specs.Stages.{scratch-short, scratch-cleared}
 use Rattle.certificate.specs.RootNumbers.{root-short, root-room}
 use Rattle.certificate.proofs.root.root_numbers.Statement.{statement}
@@ -19,8 +19,8 @@ returns c =
       sym (scratch-short (a .scratch .now) (omega arith)),
     )
 
-first-part : (c : tie.Else1) → length (take scratchPlaces (c .before .args .scratch .now)) ≡ scratchPlaces
-first-part c = length-take-le scratchPlaces (c .before .args .scratch .now) (omega arith)
+first-part : (c : tie.Else1) → length (take scratchSize (c .before .args .scratch .now)) ≡ scratchSize
+first-part c = length-take-le scratchSize (c .before .args .scratch .now) (omega arith)
 
 slice-aggregate-numbers-in : tie.Need-slice-aggregate-numbers-in
 slice-aggregate-numbers-in c = sym (first-part (c .before))
@@ -32,7 +32,7 @@ returns-2 : tie.Need-returns-2
 returns-2 c =
     let a = c .before .before .before .before .args in (
       c .before .numbers-in .ensures .0 ∙ sym (root-room (length (a .scratch .now)) (a .f) (candidateModel (a .h)) (candidateModel (a .w)) (omega arith)),
-      ap (λ l. l ++ drop scratchPlaces (a .scratch .now)) (c .before .numbers-in .ensures .1) ∙ sym (scratch-cleared (a .scratch .now) (omega arith)),
+      ap (λ l. l ++ drop scratchSize (a .scratch .now)) (c .before .numbers-in .ensures .1) ∙ sym (scratch-cleared (a .scratch .now) (omega arith)),
     )
 
 pub root-numbers-spec : {M : Type 1} → statement M

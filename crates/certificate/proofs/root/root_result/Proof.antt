@@ -8,7 +8,7 @@ use native.Mathlib.Omega.{arith}
 use native.Mathlib.Nat.{mul-le-mul}
 use Rattle.integer.specs.Rounding.{upℕ}
 use Rattle.integer.specs.RoundingLaws.{upℕ-least}
-use Rattle.model.specs.Models.{scale, maxRadius, candidateModel, modelOf}
+use Rattle.model.specs.Models.{scale, maxRadius, candidateModel, makeModel}
 use Rattle.certificate.specs.Tests.{testOf, rootModel}
 use Rattle.certificate.specs.Stages.{passedTest, tested-pass, tested-refuse, tested-none, large-radius}
 use Rattle.certificate.specs.RootRadius.{numerator-bound}
@@ -42,7 +42,7 @@ returns c =
     let discriminant = le-ltb ((scale - a .m) * (scale - a .m)) (8 * a .b * a .weight) (discriminant-quotient (a .b) (a .weight) (a .m) (s .pre .0 .1) .1 (of-r .before .if1 .taken)) in
     let small = large-radius h (upℕ (2 * a .b * scale) (scale - a .m)) (s .pre .0 .0) ∙ le-ltb maxRadius (upℕ (2 * a .b * scale) (scale - a .m)) (omega (arith, er, radius-small of-r)) in
     ap testOf (c .accepted .ensures)
-    ∙ ap (λ (e : ℕ). passedTest (modelOf (h .degree) (h .coefficients) e) (a .m) (a .n) (a .b)) er
+    ∙ ap (λ (e : ℕ). passedTest (makeModel (h .degree) (h .coefficients) e) (a .m) (a .n) (a .b)) er
     ∙ sym (tested-pass _ 8 _ r (a .m) (a .n) (a .b) discriminant ∙ tested-pass _ 3 [] r (a .m) (a .n) (a .b) small ∙ tested-none r (a .m) (a .n) (a .b))
 
 returns-2 : tie.Need-returns-2

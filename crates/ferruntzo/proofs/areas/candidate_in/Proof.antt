@@ -3,7 +3,7 @@ use mathlib.Core.Path.{_∙_}
 use native.Mathlib.Omega.{arith}
 use lib.ListN.{length-take}
 use denote.Ref.{now}
-use Rattle.model.specs.Areas.{candidatePlaces}
+use Rattle.model.specs.Areas.{candidateSize}
 use Rattle.model.specs.AreaLaws.{candidate-front}
 use Rattle.ferruntzo.proofs.areas.candidate_in.Statement.{statement}
 use Rattle.ferruntzo.proofs.areas.candidate_in.Tie as tie
@@ -15,7 +15,7 @@ read-candidate-requires : tie.Need-read-candidate-requires
 read-candidate-requires c κs = simp length-take (omega arith)
 
 returns : tie.Need-returns
-returns c = c .read-candidate .ensures ∙ candidate-front candidatePlaces (now (c .before .before .args .area)) (omega arith)
+returns c = c .read-candidate .ensures ∙ candidate-front candidateSize (now (c .before .before .args .area)) (omega arith)
 
 pub candidate-in-spec : {M : Type 1} → statement M
 candidate-in-spec = tie.close (tie.spec slice-aggregate-read-candidate read-candidate-requires returns)

@@ -3,7 +3,7 @@ use mathlib.Core.Path.{_∙_}
 use native.Mathlib.Omega.{arith}
 use lib.ListN.{length-take}
 use denote.Ref.{now}
-use Rattle.model.specs.Areas.{modelPlaces}
+use Rattle.model.specs.Areas.{modelSize}
 use Rattle.model.specs.AreaLaws.{model-front}
 use Rattle.ferruntzo.proofs.areas.model_in.Statement.{statement}
 use Rattle.ferruntzo.proofs.areas.model_in.Tie as tie
@@ -15,7 +15,7 @@ read-requires : tie.Need-read-requires
 read-requires c κs = simp length-take (omega arith)
 
 returns : tie.Need-returns
-returns c = c .read .ensures ∙ model-front modelPlaces (now (c .before .before .args .area)) (omega arith)
+returns c = c .read .ensures ∙ model-front modelSize (now (c .before .before .args .area)) (omega arith)
 
 pub model-in-spec : {M : Type 1} → statement M
 model-in-spec = tie.close (tie.spec slice-aggregate-read read-requires returns)

@@ -6,7 +6,7 @@ use native.Mathlib.Omega.{arith}
 use lib.IntN.{ℤ}
 use lib.ListN.{drop, length-take}
 use denote.Ref.{now}
-use Rattle.model.specs.Areas.{modelPlaces}
+use Rattle.model.specs.Areas.{modelSize}
 use Rattle.ferruntzo.proofs.areas.write_answer.Statement.{statement}
 use Rattle.ferruntzo.proofs.areas.write_answer.Tie as tie
 
@@ -20,7 +20,7 @@ returns : tie.Need-returns
 returns c =
     let w = c .before .before in (
       c .number-of .ensures,
-      ap (λ (t : List ℤ). t ++ drop modelPlaces (now (w .before .before .args .out))) (w .write .ensures),
+      ap (λ (t : List ℤ). t ++ drop modelSize (now (w .before .before .args .out))) (w .write .ensures),
     )
 
 pub write-answer-spec : {M : Type 1} → statement M

@@ -5,7 +5,7 @@ use mathlib.Core.Bool.{_&&_}
 use Prim.Native.Nat.{_≤_}
 use denote.Ref.{now}
 use lib.ListN.{length}
-use Rattle.model.specs.Areas.{modelPlaces, areaModel, areaCandidate}
+use Rattle.model.specs.Areas.{modelSize, areaModel, areaCandidate}
 use Rattle.certificate.specs.Tests.{Test, quotientTest}
 use Rattle.certificate.specs.TestFits.{quotient-storable}
 use Rattle.ferruntzo.specs.Answers.{fits}
@@ -20,11 +20,11 @@ test c =
     quotientTest (length (now (a .scratch))) (areaModel (now (a .f))) (areaModel (now (a .g))) (areaCandidate (now (a .h))) (areaCandidate (now (a .w)))
 
 long : (c : tie.Then1) → let a = c .before .before .args in
-    ((modelPlaces ≤ length (now (a .f))) × (modelPlaces ≤ length (now (a .g)))) × TestAreas (now (a .h)) (now (a .w)) (now (a .scratch)) (now (a .out)) (now (a .report))
+    ((modelSize ≤ length (now (a .f))) × (modelSize ≤ length (now (a .g)))) × TestAreas (now (a .h)) (now (a .w)) (now (a .scratch)) (now (a .out)) (now (a .report))
 long c =
     let a = c .before .before .args in
-    let t = test-fits (now (a .h)) (now (a .w)) (now (a .scratch)) (now (a .out)) (now (a .report)) (fits modelPlaces (now (a .f)) && fits modelPlaces (now (a .g))) (c .if1 .taken) in
-    (two-fit modelPlaces modelPlaces (now (a .f)) (now (a .g)) (t .0), t .1)
+    let t = test-fits (now (a .h)) (now (a .w)) (now (a .scratch)) (now (a .out)) (now (a .report)) (fits modelSize (now (a .f)) && fits modelSize (now (a .g))) (c .if1 .taken) in
+    (two-fit modelSize modelSize (now (a .f)) (now (a .g)) (t .0), t .1)
 
 model-in-requires : tie.Need-model-in-requires
 model-in-requires c κs = long c .0 .0

@@ -5,7 +5,7 @@ use mathlib.Core.Path.{_≡_, _∙_}
 use Prim.Native.Nat.{_≤_}
 use denote.Ref.{now}
 use lib.ListN.{length}
-use Rattle.model.specs.Areas.{modelPlaces, areaModel, areaCandidate}
+use Rattle.model.specs.Areas.{modelSize, areaModel, areaCandidate}
 use Rattle.certificate.specs.Tests.{Test, rootTest}
 use Rattle.certificate.specs.TestFits.{root-storable}
 use Rattle.ferruntzo.specs.Answers.{fits}
@@ -19,11 +19,11 @@ test c =
     rootTest (length (now (a .scratch))) (areaModel (now (a .f))) (areaCandidate (now (a .h))) (areaCandidate (now (a .w)))
 
 long : (c : tie.Then1) → let a = c .before .before .args in
-    (modelPlaces ≤ length (now (a .f))) × TestAreas (now (a .h)) (now (a .w)) (now (a .scratch)) (now (a .out)) (now (a .report))
+    (modelSize ≤ length (now (a .f))) × TestAreas (now (a .h)) (now (a .w)) (now (a .scratch)) (now (a .out)) (now (a .report))
 long c =
     let a = c .before .before .args in
-    let t = test-fits (now (a .h)) (now (a .w)) (now (a .scratch)) (now (a .out)) (now (a .report)) (fits modelPlaces (now (a .f))) (c .if1 .taken) in
-    (leb-true modelPlaces (length (now (a .f))) (t .0), t .1)
+    let t = test-fits (now (a .h)) (now (a .w)) (now (a .scratch)) (now (a .out)) (now (a .report)) (fits modelSize (now (a .f))) (c .if1 .taken) in
+    (leb-true modelSize (length (now (a .f))) (t .0), t .1)
 
 model-in-requires : tie.Need-model-in-requires
 model-in-requires c κs = long c .0

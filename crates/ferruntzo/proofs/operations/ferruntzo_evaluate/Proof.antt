@@ -10,16 +10,16 @@ use mir.Syntax.{w64}
 use mir.Val.{SFits}
 use mir.Facts.{toZ-ofZ}
 use denote.Ref.{now}
-use Rattle.model.specs.Areas.{modelPlaces, areaModel}
+use Rattle.model.specs.Areas.{modelSize, areaModel}
 use Rattle.model.specs.Evaluation.{Enclosure, enclosureOf, evaluation}
 use Rattle.model.specs.declared.types.Model.{Model}
-use Rattle.ferruntzo.specs.Answers.{boundsPlaces}
+use Rattle.ferruntzo.specs.Answers.{boundsSize}
 use Rattle.ferruntzo.proofs.Answering.{two-fit, number-given, area-given, untouched}
 use Rattle.ferruntzo.proofs.operations.ferruntzo_evaluate.Statement.{statement}
 use Rattle.ferruntzo.proofs.operations.ferruntzo_evaluate.Tie as tie
 
-long : (c : tie.Then1) → (modelPlaces ≤ length (now (c .before .args .a))) × (boundsPlaces ≤ length (now (c .before .args .bounds)))
-long c = let g = c .before .args in two-fit modelPlaces boundsPlaces (now (g .a)) (now (g .bounds)) (c .if1 .taken)
+long : (c : tie.Then1) → (modelSize ≤ length (now (c .before .args .a))) × (boundsSize ≤ length (now (c .before .args .bounds)))
+long c = let g = c .before .args in two-fit modelSize boundsSize (now (g .a)) (now (g .bounds)) (c .if1 .taken)
 
 model-in-requires : tie.Need-model-in-requires
 model-in-requires c κs = long c .0
@@ -41,17 +41,17 @@ returns c =
     let same : enclosureOf (e .result) ≡ o =
     simp (toZ-ofZ (m .before .before .fits .p)) at (e .ensures) ∙ ap (λ (a : Model). evaluation a (g .p)) (m .model-in .ensures) in (
       number-given (m .before .if1 .taken) (c .number-of .ensures ∙ ap (λ (a : Enclosure). a .number) same),
-      area-given boundsPlaces (o .low ∷ o .high ∷ []) (now (g .bounds)) (m .before .if1 .taken)
+      area-given boundsSize (o .low ∷ o .high ∷ []) (now (g .bounds)) (m .before .if1 .taken)
           (simp (toZ-ofZ low-fits, toZ-ofZ high-fits)
           (sets-eq (e .result .low ∷ e .result .high ∷ []) (now (g .bounds)) 0 (long (m .before) .1)
-          ∙ ap (λ (a : Enclosure). (a .low ∷ a .high ∷ []) ++ drop boundsPlaces (now (g .bounds))) same)),
+          ∙ ap (λ (a : Enclosure). (a .low ∷ a .high ∷ []) ++ drop boundsSize (now (g .bounds))) same)),
     )
 
 returns-2 : tie.Need-returns-2
 returns-2 c =
     let g = c .before .args in
     let o : Enclosure = evaluation (areaModel (now (g .a))) (g .p) in
-    untouched (o .number) boundsPlaces (o .low ∷ o .high ∷ []) (now (g .bounds)) (c .if1 .left)
+    untouched (o .number) boundsSize (o .low ∷ o .high ∷ []) (now (g .bounds)) (c .if1 .left)
 
 pub ferruntzo-evaluate-spec : {M : Type 1} → statement M
 ferruntzo-evaluate-spec =

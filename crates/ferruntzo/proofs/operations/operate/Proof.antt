@@ -5,7 +5,7 @@ use Prim.Native.Nat.{_≤_}
 use lib.ListN.{length}
 use denote.Ref.{now}
 use Rattle.model.specs.Models.{Outcome}
-use Rattle.model.specs.Areas.{modelPlaces, words, areaModel, Storable}
+use Rattle.model.specs.Areas.{modelSize, words, areaModel, Storable}
 use Rattle.model.specs.OutcomeFits.{addition-storable, subtraction-storable, multiplication-storable}
 use Rattle.model.specs.declared.types.Model.{Model}
 use Rattle.ferruntzo.specs.Answers.{operationOf}
@@ -21,8 +21,8 @@ operation-storable Subtract a b = subtraction-storable a b
 operation-storable (Multiply kept) a b = multiplication-storable kept a b
 
 long : (c : tie.Then1)
-    → (modelPlaces ≤ length (now (c .before .args .a))) × (modelPlaces ≤ length (now (c .before .args .b))) × (modelPlaces ≤ length (now (c .before .args .out)))
-long c = let g = c .before .args in three-fit modelPlaces modelPlaces modelPlaces (now (g .a)) (now (g .b)) (now (g .out)) (c .if1 .taken)
+    → (modelSize ≤ length (now (c .before .args .a))) × (modelSize ≤ length (now (c .before .args .b))) × (modelSize ≤ length (now (c .before .args .out)))
+long c = let g = c .before .args in three-fit modelSize modelSize modelSize (now (g .a)) (now (g .b)) (now (g .out)) (c .if1 .taken)
 
 model-in-requires : tie.Need-model-in-requires
 model-in-requires c κs = long c .0
@@ -48,7 +48,7 @@ returns-2 : tie.Need-returns-2
 returns-2 c =
     let g = c .before .args in
     let o : Outcome = operationOf (g .operation) (areaModel (now (g .a))) (areaModel (now (g .b))) in
-    untouched (o .number) modelPlaces (words (o .model)) (now (g .out)) (c .if1 .left)
+    untouched (o .number) modelSize (words (o .model)) (now (g .out)) (c .if1 .left)
 
 pub operate-spec : {M : Type 1} → statement M
 operate-spec =

@@ -4,7 +4,7 @@ use Prim.Native.Nat.{_+_}
 use native.Mathlib.Omega.{arith}
 use lib.ListN.{length}
 use denote.Ref.{now}
-use Rattle.certificate.specs.Tests.{scratchPlaces, quotientOf}
+use Rattle.certificate.specs.Tests.{scratchSize, quotientOf}
 use Rattle.certificate.specs.Stages.{quotient-room}
 use Rattle.certificate.specs.TestFits.{quotient-storable}
 use Rattle.job.specs.Bytes.{byteAt, blockAt}
@@ -39,9 +39,9 @@ returns c =
           (q .quotient .ensures .0
           ∙ ap₂ (quotientOf len f g) (d .before .read-candidate .ensures) (d .read-candidate2 .ensures)
           ∙ quotient-room len f g h w (s .pre .1 .long)))
-          (quotient-storable scratchPlaces f g h w)
+          (quotient-storable scratchSize f g h w)
           (λ count rs t z n.
-          held-two z (λ f g. fromTest (quotientOf scratchPlaces f g h w)) f g (byteAt job (at + 1)) (byteAt job (at + 2))
+          held-two z (λ f g. fromTest (quotientOf scratchSize f g h w)) f g (byteAt job (at + 1)) (byteAt job (at + 2))
           (o .read-operands .ensures .0) (o .read-operands .ensures .1) n),
       q .quotient .ensures .1 ∙ s .pre .1 .clear,
     )

@@ -5,7 +5,7 @@ use native.Mathlib.Omega.{arith}
 use borrow.Author.Tests.{leb-false}
 use lib.ListN.{length}
 use denote.Ref.{now}
-use Rattle.certificate.specs.Tests.{scratchPlaces, rootOf}
+use Rattle.certificate.specs.Tests.{scratchSize, rootOf}
 use Rattle.certificate.specs.TestFits.{root-storable}
 use Rattle.job.specs.Bytes.{byteAt, blockAt}
 use Rattle.job.specs.Commands.{maxResults, makerAt}
@@ -41,8 +41,8 @@ returns c =
           (q .root .ensures .0
           ∙ ap₂ (rootOf len f) (d .before .read-candidate .ensures) (d .read-candidate2 .ensures)
           ∙ root-room len f h w (s .pre .1 .long)))
-          (root-storable scratchPlaces f h w)
-          (λ count rs t z n. held-one z (λ f. fromTest (rootOf scratchPlaces f h w)) f (byteAt job (at + 1)) (e .named .ensures) n),
+          (root-storable scratchSize f h w)
+          (λ count rs t z n. held-one z (λ f. fromTest (rootOf scratchSize f h w)) f (byteAt job (at + 1)) (e .named .ensures) n),
       q .root .ensures .1 ∙ s .pre .1 .clear,
     )
 

@@ -8,7 +8,7 @@ use lib.IntN.{ℤ}
 use lib.ListN.{length, drop}
 use denote.Ref.{now}
 use Rattle.job.specs.Jobs.{Step, command}
-use Rattle.job.specs.Work.{workPlaces}
+use Rattle.job.specs.Work.{workSize}
 use Rattle.job.specs.Steps.{Stepped, Clear}
 use Rattle.job.specs.declared.types.Done.{Done}
 use Rattle.job.proofs.Loop.{Going, going-begins, going-again, going-ends, going-stops}
@@ -52,7 +52,7 @@ module _ (c : tie.After-scratch Inv-loop μ-loop) where
   stepped = command job k (going .rs) at
 
   abbrev Does : Done → Type 0
-  Does r = Stepped r work (going .rs) (drop workPlaces (now (begun .args .work))) stepped
+  Does r = Stepped r work (going .rs) (drop workSize (now (begun .args .work))) stepped
 
   does : Does (turn .step .result)
   does = turn .step .ensures .0 (going .rs) _ (going .holds)

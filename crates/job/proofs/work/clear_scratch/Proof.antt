@@ -1,20 +1,20 @@
 -- `work::clear_scratch` meets its contract.
 use borrow.Author.Needs.{needs}
 use Prim.Native.Nat.{_-_}
-use Rattle.certificate.specs.Tests.{scratchPlaces}
+use Rattle.certificate.specs.Tests.{scratchSize}
 use Rattle.integer.specs.Filling.{ends}
 use Rattle.integer.specs.Clearing.{Clearing, clearing-begins, clearing-turn}
 use Rattle.job.proofs.work.clear_scratch.Statement.{statement}
 use Rattle.job.proofs.work.clear_scratch.Tie as tie
 
 abbrev Inv-loop : tie.InvT-loop
-Inv-loop scratch₀ i₀ scratch i = Clearing scratchPlaces scratch₀ scratch i
+Inv-loop scratch₀ i₀ scratch i = Clearing scratchSize scratch₀ scratch i
 
 abbrev μ-loop : tie.MeasureT-loop
-μ-loop scratch₀ i₀ scratch i = scratchPlaces - i
+μ-loop scratch₀ i₀ scratch i = scratchSize - i
 
 loop-holds : tie.Need-loop-holds Inv-loop μ-loop
-loop-holds c = clearing-begins scratchPlaces _ (c .pre)
+loop-holds c = clearing-begins scratchSize _ (c .pre)
 
 loop-again : tie.Need-loop-again Inv-loop μ-loop
 loop-again c = clearing-turn (c .before .loop .inv) (c .loop-test .taken)

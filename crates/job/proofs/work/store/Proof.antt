@@ -8,17 +8,17 @@ use native.Mathlib.Omega.{arith}
 use lib.IntN.{ℤ}
 use lib.ListN.{take}
 use denote.Ref.{now}
-use Rattle.model.specs.Areas.{modelPlaces, words}
+use Rattle.model.specs.Areas.{modelSize, words}
 use Rattle.job.proofs.work.store.Statement.{statement}
 use Rattle.job.proofs.work.store.Tie as tie
 
 returns : tie.Need-returns
 returns c =
     let g = c .before .before .before .args in
-    let a = modelPlaces * g .i in
+    let a = modelSize * g .i in
     let w = now (g .work) in
-    ap (putMid a (a + modelPlaces - a) w) (c .before .write .ensures)
-    ∙ ap (λ (t : List ℤ). take a w ++ (words (g .m) ++ t)) (post-is a (a + modelPlaces) w (omega arith))
+    ap (putMid a (a + modelSize - a) w) (c .before .write .ensures)
+    ∙ ap (λ (t : List ℤ). take a w ++ (words (g .m) ++ t)) (post-is a (a + modelSize) w (omega arith))
 
 pub store-spec : {M : Type 1} → statement M
 store-spec =

@@ -6,7 +6,7 @@ use lib.ListN.{getD, length-take}
 use mir.Syntax.{w32}
 use mir.Facts.{toZ-ofZ}
 use denote.Ref.{now}
-use Rattle.model.specs.Areas.{candidatePlaces, unsignedOf, areaCandidate}
+use Rattle.model.specs.Areas.{candidateSize, unsignedOf, areaCandidate}
 use Rattle.model.specs.AreaLaws.{candidate-front}
 use Rattle.model.proofs.area.read.Statement.{statement}
 use Rattle.model.proofs.area.read.Tie as tie
@@ -21,9 +21,9 @@ returns : tie.Need-returns
 returns c =
     let d = c .before .before .before in
     let s = now (d .before .before .before .args .area) in
-    let e : d .before .read-candidate .result ≡ areaCandidate s = d .before .read-candidate .ensures ∙ candidate-front candidatePlaces s (omega arith) in
-    let r : c .before .unsigned .result ≡ unsignedOf (getD s candidatePlaces (pos 0)) =
-    c .before .unsigned .ensures ∙ ap unsignedOf (toZ-ofZ {w = w32} {z = getD s candidatePlaces (pos 0)} (sfits-of (c .before .before .unsigned-arg .given))) in
+    let e : d .before .read-candidate .result ≡ areaCandidate s = d .before .read-candidate .ensures ∙ candidate-front candidateSize s (omega arith) in
+    let r : c .before .unsigned .result ≡ unsignedOf (getD s candidateSize (pos 0)) =
+    c .before .unsigned .ensures ∙ ap unsignedOf (toZ-ofZ {w = w32} {z = getD s candidateSize (pos 0)} (sfits-of (c .before .before .unsigned-arg .given))) in
     c .new .ensures ∙ rw (e, r)
 
 pub read-spec : {M : Type 1} → statement M

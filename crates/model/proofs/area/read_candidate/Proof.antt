@@ -6,7 +6,7 @@ use lib.ListN.{getD, take, drop}
 use mir.Syntax.{w32}
 use mir.Facts.{toZ-ofZ}
 use denote.Ref.{now}
-use Rattle.model.specs.Models.{places}
+use Rattle.model.specs.Models.{coefficientCount}
 use Rattle.model.specs.Areas.{unsignedOf}
 use Rattle.model.proofs.area.read_candidate.Statement.{statement}
 use Rattle.model.proofs.area.read_candidate.Tie as tie
@@ -17,7 +17,7 @@ returns c =
     let s = now (d .before .before .before .args .area) in
     let n : c .unsigned .result ≡ unsignedOf (getD s 0 (pos 0)) =
     c .unsigned .ensures ∙ ap unsignedOf (toZ-ofZ {w = w32} {z = getD s 0 (pos 0)} (sfits-of (c .before .unsigned-arg .given))) in
-    let cs : d .copy .last .1 .0 ≡ take places (drop 1 s) = d .copy .ensures in
+    let cs : d .copy .last .1 .0 ≡ take coefficientCount (drop 1 s) = d .copy .ensures in
     rw (n, cs)
 
 pub read-candidate-spec : {M : Type 1} → statement M

@@ -12,9 +12,10 @@ use mir.Val.{SFits}
 use mir.Facts.{toZ-ofZ}
 use Rattle.integer.specs.Machine.{abs-fits, fits-widens, signed-needs}
 use Rattle.integer.specs.Rounding.{floor, up}
-use Rattle.model.specs.Models.{scale, good, firstRefusal}
+use Rattle.model.specs.Models.{scale, good}
+use Rattle.model.specs.Outcomes.{accepted, outcome}
 use Rattle.model.specs.ModelLaws.{Good, good-is}
-use Rattle.model.specs.Evaluation.{enclosure, evaluation}
+use Rattle.model.specs.Evaluation.{evaluation}
 use Rattle.model.specs.EvaluationLaws.{evaluation-accepted}
 use Rattle.model.specs.declared.types.Model.{Model}
 use Rattle.model.proofs.EvaluationBounds.{Sums, error-small, error-word, radius-word, fits-value, fits-fourfold, fits-below, fits-above, low, high}
@@ -117,14 +118,14 @@ returns u =
     let (fits-high, high-is) = high n _ (up-is u) in
     let c = c (k₂ u) in
     simp (toZ-ofZ (fits-floor (u .before)), toZ-ofZ (fits-up u), radius-word n, toZ-ofZ fits-low, toZ-ofZ fits-high, evaluation-accepted (a c) (p c) (passed c) (n .inside))
-    (λ i. record { number = 0; low = low-is i; high = high-is i })
+    (λ i. accepted (record { low = low-is i; high = high-is i }))
 
 returns-2 : tie.Need-returns-2
-unfolding evaluation enclosure firstRefusal
+unfolding evaluation outcome
 returns-2 c = rw (passed (c .before .before), lt-ltb scale (natAbs (p (c .before .before))) (omega (arith, point-is (c .before))))
 
 returns-3 : tie.Need-returns-3
-unfolding evaluation enclosure firstRefusal
+unfolding evaluation outcome
 returns-3 c = rw (sym (c .before .is-good .ensures) ∙ c .if1 .left)
 
 pub evaluate-spec : {M : Type 1} → statement M

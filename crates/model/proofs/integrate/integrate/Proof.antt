@@ -12,7 +12,8 @@ use Rattle.integer.specs.Parts.{abs-mul}
 use Rattle.integer.specs.Machine.{abs-fits}
 use Rattle.chebyshev.specs.Coefficients.{weight}
 use Rattle.chebyshev.specs.Weight.{weight-at}
-use Rattle.model.specs.Models.{good, firstRefusal, outcomeOf, outcome}
+use Rattle.model.specs.Models.{good}
+use Rattle.model.specs.Outcomes.{outcome}
 use Rattle.model.specs.ModelLaws.{Good, good-is}
 use Rattle.model.specs.Integral.{integralModel, integration}
 use Rattle.model.specs.IntegralLaws.{integral-doubled, weight-doubled, integration-formed, integration-degree}
@@ -75,11 +76,11 @@ returns k =
     k .formed .ensures ∙ integration-formed (a c) _ _ (passed c) (coefficients-are r) (weight-is r)
 
 returns-2 : tie.Need-returns-2
-returns-2 c = ap outcomeOf (c .refused .ensures) ∙ integration-degree (a (c .before .before .before)) (passed (c .before .before .before)) (omega arith)
+returns-2 c = c .refused .ensures ∙ integration-degree (a (c .before .before .before)) (passed (c .before .before .before)) (omega arith)
 
 returns-3 : tie.Need-returns-3
-unfolding integration outcome firstRefusal
-returns-3 c = ap outcomeOf (c .refused2 .ensures) ∙ rw (sym (c .before .before .is-good .ensures) ∙ c .before .if1 .left)
+unfolding integration outcome
+returns-3 c = c .refused2 .ensures ∙ rw (sym (c .before .before .is-good .ensures) ∙ c .before .if1 .left)
 
 pub integrate-spec : {M : Type 1} → statement M
 integrate-spec =

@@ -4,10 +4,11 @@ use borrow.Author.Tests.{not-true, not-false, lt-leb, eq-eqb, ne-eqb}
 use mathlib.Core.Path.{_≡_, sym, _∙_, ap, subst}
 use mathlib.Core.Logic.{⊎-elim}
 use mathlib.Core.Bool.{true}
-use mathlib.Core.List.{[], _∷_}
 use Prim.Native.Nat.{ℕ, _≤_}
 use native.Mathlib.Omega.{arith}
-use Rattle.model.specs.Models.{maxDegree, good, tooLarge, firstRefusal, outcome}
+use Rattle.model.specs.Models.{maxDegree, good}
+use Rattle.model.specs.Outcomes.{outcome}
+use Rattle.model.specs.Formed.{unlessLarge}
 use Rattle.model.specs.Operations.{keptDegree, productModel, multiplication}
 use Rattle.model.specs.MultiplicationLaws.{multiplication-good}
 use Rattle.model.specs.declared.types.Model.{Model}
@@ -15,7 +16,7 @@ use Rattle.model.proofs.multiply.multiply.Statement.{statement}
 use Rattle.model.proofs.multiply.multiply.Tie as tie
 
 returns : tie.Need-returns
-unfolding multiplication outcome firstRefusal
+unfolding multiplication outcome
 returns c =
     let m = c .before .before .before .measure in
     rw (c .refused .ensures, ← (m .ensures .0), not-true (m .result .good) (c .before .if1 .taken))
@@ -34,7 +35,7 @@ module _ (c : tie.Else1) where
   good-a = let m = c .before .before .measure in sym (m .ensures .0) ∙ not-false (m .result .good) (c .if1 .left)
 
 returns-2 : tie.Need-returns-2
-unfolding multiplication outcome firstRefusal
+unfolding multiplication outcome
 returns-2 c =
     let m = c .before .before .before .measure2 in
     rw (c .refused2 .ensures, good-a (c .before .before .before .before), ← (m .ensures .0), not-true (m .result .good) (c .before .if2 .taken))
@@ -53,7 +54,7 @@ degree-is j =
     ⊎-elim (λ w. rw (eq-eqb d 255 (w .0 .taken)) (w .1)) (λ w. rw (ne-eqb d 255 (w .0 .left)) (w .1)) (j .if3 .came)
 
 returns-3 : tie.Need-returns-3
-unfolding multiplication outcome firstRefusal
+unfolding multiplication outcome
 returns-3 c =
     let j = c .before .before in
     let d = keptDegree (s (e (j .before)) .args .kept) in
@@ -71,7 +72,7 @@ returns-4 c =
     let x = e (j .before) in
     let d = s x .args .kept in
     c .multiply-good .ensures
-    ∙ ap (λ (n : ℕ). outcome ((tooLarge (productModel n (a x) (b x)), 3) ∷ []) (productModel n (a x) (b x))) (degree-is j)
+    ∙ ap (λ (n : ℕ). unlessLarge (productModel n (a x) (b x))) (degree-is j)
     ∙ multiplication-good d (a x) (b x) (good-a x) (good-b (j .before)) (subst (λ (n : ℕ). n ≤ maxDegree) (degree-is j) (c .before .if4 .left))
 
 pub multiply-spec : {M : Type 1} → statement M

@@ -15,7 +15,7 @@ use Rattle.chebyshev.specs.Product.{product}
 use Rattle.chebyshev.specs.ProductLaws.{length-product}
 use Rattle.chebyshev.specs.ProductWeight.{weight-product}
 use Rattle.chebyshev.specs.ProductEnd.{product-end}
-use Rattle.model.specs.Models.{productPlaces}
+use Rattle.model.specs.Models.{productSize}
 use Rattle.model.specs.RoundingPass.{rounded-prefix}
 use Rattle.model.proofs.multiply.round_product.Statement.{statement}
 use Rattle.model.proofs.multiply.round_product.Tie as tie
@@ -31,13 +31,13 @@ module _ (s : tie.Start) where
   end = length a + length b - 1
 
   abbrev C : List ℤ
-  C = product ℤ-ring productPlaces a b
+  C = product ℤ-ring productSize a b
 
   weights : weight a * weight b ≤ 2 ^ 56
   weights = mul-le-mul (s .pre .0 .2) (s .pre .0 .3)
 
   prefix-length : length (take end C) ≡ end
-  prefix-length = length-take-le end C (omega (arith, length-product ℤ-ring productPlaces a b, s .pre))
+  prefix-length = length-take-le end C (omega (arith, length-product ℤ-ring productSize a b, s .pre))
 
 add-products-requires : tie.Need-add-products-requires
 add-products-requires c κs = omega (arith, weight-zeros 65, weights (c .before), c .before .pre)
@@ -54,12 +54,12 @@ round-requires : tie.Need-round-requires
 round-requires c κs =
     let s = c .before .before .before .before in
     rw (formed (c .before .before))
-    (omega (arith, prefix-length s, weight-take (end s) (C s), weight-product productPlaces (a s) (b s), weights s, s .pre))
+    (omega (arith, prefix-length s, weight-take (end s) (C s), weight-product productSize (a s) (b s), weights s, s .pre))
 
 returns : tie.Need-returns
 returns c =
     let s = c .before .before .before .before .before in
-    rounded-prefix (C s) (end s) (s .args .kept) (c .round .result) (product-end productPlaces (end s) (a s) (b s) (omega arith)) (omega (arith, s .pre))
+    rounded-prefix (C s) (end s) (s .args .kept) (c .round .result) (product-end productSize (end s) (a s) (b s) (omega arith)) (omega (arith, s .pre))
     (rw (formed (c .before .before .before)) at (c .round .ensures))
 
 pub round-product-spec : {M : Type 1} → statement M

@@ -1,10 +1,10 @@
--- `Certified::accepted` meets its contract.
+-- `TestOutcome::accepted` meets its contract.
 use borrow.Author.Needs.{needs}
 use mathlib.Core.Path.{ap}
 use Rattle.model.specs.declared.types.Verdict.the-variants.{Accepted}
 use Rattle.certificate.specs.Stages.{certifiedOf}
-use Rattle.certificate.proofs.types.Certified.accepted.Statement.{statement}
-use Rattle.certificate.proofs.types.Certified.accepted.Tie as tie
+use Rattle.certificate.proofs.types.TestOutcome.accepted.Statement.{statement}
+use Rattle.certificate.proofs.types.TestOutcome.accepted.Tie as tie
 
 returns : tie.Need-returns
 returns c =

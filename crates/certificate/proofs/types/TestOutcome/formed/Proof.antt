@@ -1,4 +1,4 @@
--- `Certified::formed` meets its contract: of a good candidate's model the radius alone can be too large.
+-- `TestOutcome::formed` meets its contract: of a good candidate's model the radius alone can be too large.
 use borrow.Author.Needs.{needs}
 use borrow.Author.Tests.{lt-ltb, le-ltb}
 use mathlib.Core.Path.{_≡_, sym, _∙_, ap}
@@ -9,8 +9,8 @@ use lib.Dec.{ltb}
 use Rattle.model.specs.Models.{maxRadius, candidateModel}
 use Rattle.certificate.specs.Tests.{testOf}
 use Rattle.certificate.specs.Stages.{tested-pass, tested-refuse, tested-none, large-radius}
-use Rattle.certificate.proofs.types.Certified.formed.Statement.{statement}
-use Rattle.certificate.proofs.types.Certified.formed.Tie as tie
+use Rattle.certificate.proofs.types.TestOutcome.formed.Statement.{statement}
+use Rattle.certificate.proofs.types.TestOutcome.formed.Tie as tie
 
 cast-accepted : tie.Need-cast-accepted
 cast-accepted c = search needs

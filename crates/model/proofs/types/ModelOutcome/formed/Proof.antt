@@ -1,4 +1,4 @@
--- `Answer::formed` meets its contract: the tests are those of refusal 3.
+-- `ModelOutcome::formed` meets its contract: the tests are those of refusal 3.
 use borrow.Author.Needs.{needs}
 use borrow.Author.Tests.{lt-ltb, le-ltb}
 use mathlib.Core.Path.{_≡_, ap}
@@ -6,18 +6,18 @@ use mathlib.Core.Logic.{⊎-elim}
 use mathlib.Core.Bool.{true, _||_, or-true}
 use native.Mathlib.Omega.{arith}
 use lib.Dec.{ltb}
-use Rattle.model.specs.Models.{maxDegree, maxWeight, maxRadius, firstRefusal, outcome, outcomeOf, answerOf}
+use Rattle.model.specs.Models.{maxDegree, maxWeight, maxRadius}
+use Rattle.model.specs.Outcomes.{accepted, outcome}
 use Rattle.model.specs.Formed.{formedOutcome}
-use Rattle.model.specs.declared.types.Verdict.the-variants.{Accepted}
-use Rattle.model.proofs.types.Answer.formed.Statement.{statement}
-use Rattle.model.proofs.types.Answer.formed.Tie as tie
+use Rattle.model.proofs.types.ModelOutcome.formed.Statement.{statement}
+use Rattle.model.proofs.types.ModelOutcome.formed.Tie as tie
 
 returns : tie.Need-returns
-unfolding formedOutcome outcome firstRefusal
+unfolding formedOutcome outcome
 returns c =
     let a = c .before .before .before .before .args in
     rw (le-ltb maxWeight (a .weight) (omega arith), le-ltb maxRadius (a .radius) (omega arith), le-ltb maxDegree (a .degree) (omega arith))
-    (ap (λ m. outcomeOf (answerOf Accepted m)) (c .new .ensures))
+    (ap accepted (c .new .ensures))
 
 -- a test that fails is one that refuses
 large : (c : tie.Joined1) → (ltb maxWeight (c .before .args .weight) || (ltb maxRadius (c .before .args .radius) || ltb maxDegree (c .before .args .degree))) ≡ true
@@ -29,7 +29,7 @@ large c =
     (c .if1 .came)
 
 returns-2 : tie.Need-returns-2
-unfolding formedOutcome outcome firstRefusal
+unfolding formedOutcome outcome
 returns-2 c = rw (c .refused .ensures, large (c .before))
 
 pub formed-spec : {M : Type 1} → statement M

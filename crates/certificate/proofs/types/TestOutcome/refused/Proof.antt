@@ -1,9 +1,9 @@
--- `Certified::refused` meets its contract.
+-- `TestOutcome::refused` meets its contract.
 use borrow.Author.Needs.{needs}
 use mathlib.Core.Path.{ap}
 use Rattle.certificate.specs.Stages.{certifiedOf}
-use Rattle.certificate.proofs.types.Certified.refused.Statement.{statement}
-use Rattle.certificate.proofs.types.Certified.refused.Tie as tie
+use Rattle.certificate.proofs.types.TestOutcome.refused.Statement.{statement}
+use Rattle.certificate.proofs.types.TestOutcome.refused.Tie as tie
 
 returns : tie.Need-returns
 returns c = ap (λ m. certifiedOf (c .before .args .verdict) m 0 0 0) (c .zero .ensures)

@@ -1,0 +1,62 @@
+-- What an entry answers: it accepts with its values, or refuses with a number of document 01's table "Refused, and where".
+use mathlib.Core.Bool.{Bool, cond}
+use mathlib.Core.List.{List, [], _∷_}
+use Prim.Native.Nat.{ℕ}
+use Rattle.model.specs.declared.types.Model.{Model}
+use Rattle.model.specs.declared.types.ModelOutcome.{ModelOutcome}
+use Rattle.model.specs.declared.types.Refusal.{Refusal}
+use Rattle.model.specs.declared.types.Refusal.the-variants.{ShortArea, BadModel, LargeResult, PointOutside, NotContracting, LargeResidual, HelperNotPositive, NegativeDiscriminant, BadValue, JobEnds, BytesAfterEnd, NotAResult, TooManyResults}
+use Rattle.model.specs.declared.types.Verdict.{Verdict}
+use Rattle.model.specs.declared.types.Verdict.the-variants.{Accepted, Refused}
+
+-- "A refused operation gives its number beside the zero model …; refused evaluation gives bounds 0 and 0. Any other number an
+-- entry answers, or a record holds, is zero on refusal too."
+pub data Outcome (A : Type 0) : Type 0 where
+  accepted : A → Outcome A
+  refused : ℕ → A → Outcome A
+
+-- the number that an entry answers: that of the refusal, or 0
+abbrev pub number : {A : Type 0} → Outcome A → ℕ
+number (accepted a) = 0
+number (refused n a) = n
+
+-- the values beside it
+abbrev pub values : {A : Type 0} → Outcome A → A
+values (accepted a) = a
+values (refused n a) = a
+
+-- the places of the table that an operation passes through, in their order: a condition and its number. The first condition
+-- that holds refuses; z is zero in place of the values a.
+unfoldable pub outcome : {A : Type 0} → List (Bool × ℕ) → A → A → Outcome A
+outcome [] a z = accepted a
+outcome (p ∷ ps) a z = cond (p .0) (refused (p .1) z) (outcome ps a z)
+
+-- ---- what the code's answers mean
+
+-- the numbers of the table
+abbrev pub numberOf : Refusal → ℕ
+numberOf ShortArea = 1
+numberOf BadModel = 2
+numberOf LargeResult = 3
+numberOf PointOutside = 4
+numberOf NotContracting = 5
+numberOf LargeResidual = 6
+numberOf HelperNotPositive = 7
+numberOf NegativeDiscriminant = 8
+numberOf BadValue = 9
+numberOf JobEnds = 10
+numberOf BytesAfterEnd = 11
+numberOf NotAResult = 12
+numberOf TooManyResults = 13
+
+abbrev pub verdictNumber : Verdict → ℕ
+verdictNumber Accepted = 0
+verdictNumber (Refused r) = numberOf r
+
+-- a verdict beside values
+abbrev pub judged : {A : Type 0} → Verdict → A → Outcome A
+judged Accepted a = accepted a
+judged (Refused r) a = refused (numberOf r) a
+
+abbrev pub outcomeOf : ModelOutcome → Outcome Model
+outcomeOf r = judged (r .verdict) (r .model)
