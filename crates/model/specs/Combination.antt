@@ -25,9 +25,9 @@ pub combined-weight : (s : ℤ) (a b : List ℤ) → natAbs s ≡ 1 → weight (
 combined-weight s a b e = omega (arith, weight-add a (scaleList ℤ-ring s b), weight-scale s b, ap (λ (n : ℕ). n * weight b) e)
 
 -- of two good models only the result is tested
-pub combination-good : (s : ℤ) (a b : Model) → good a ≡ true → good b ≡ true → unlessLarge (combinedModel s a b) ≡ combination s a b
+pub combination-of-good : (s : ℤ) (a b : Model) → good a ≡ true → good b ≡ true → unlessLarge (combinedModel s a b) ≡ combination s a b
 unfolding combination unlessLarge outcome
-combination-good s a b p q = rw (p, q)
+combination-of-good s a b p q = rw (p, q)
 
 scale-one : (b : List ℤ) → scaleList ℤ-ring (pos 1) b ≡ b
 unfolding scaleList

@@ -39,6 +39,11 @@ unfolding doubleFirst
 take-doubled [] n = refl
 take-doubled (c ∷ cs) n = refl
 
+pub length-doubled : (cs : List ℤ) → length (doubleFirst cs) ≡ length cs
+unfolding doubleFirst
+length-doubled [] = refl
+length-doubled (c ∷ cs) = refl
+
 pub integral-is : (a : Model) → roundedIntegral (doubleFirst (terms a)) ≡ integralModel a .coefficients
 unfolding integralModel integralList numerators roundedIntegral roundedTail
 integral-is a = ap (λ later. let cs = halved 1 (subtractLists ℤ-ring (doubleFirst (terms a)) later) in (alternating cs ∷ cs) ++ replicate (coefficientCount - suc (length cs)) (pos 0)) (drop-doubled (terms a))

@@ -32,7 +32,7 @@ use Rattle.model.specs.ValueLaws.{valueAt, within, scale-nonzero}
 use Rattle.model.specs.PlaceLaws.{outcome-accepted}
 use Rattle.model.specs.GoodLaws.{getD-append-zeros, getD-terms}
 use Rattle.model.specs.Integral.{doubleFirst, alternating, integralModel, integrationPlaces, integration}
-use Rattle.model.specs.IntegralLaws.{roundedTail, roundedIntegral, integral-is, length-rounded, getD-rounded}
+use Rattle.model.specs.IntegralLaws.{roundedTail, roundedIntegral, integral-is, length-doubled, length-rounded, getD-rounded}
 use Rattle.model.specs.declared.types.Model.{Model}
 
 whole-sub : (x y : ℤ) → whole x -ℚ whole y ≡ whole (x -ℤ y)
@@ -92,11 +92,6 @@ numerator-whole b cs (suc k) same =
     numerator-next (map whole b) k
     ∙ ap₂ _-ℚ_ (number b cs same (suc k)) (number b cs same (suc (suc (suc k))))
     ∙ rw (doubled-next cs k, doubled-next cs (suc (suc k)), ← whole-sub)
-
-length-doubled : (cs : List ℤ) → length (doubleFirst cs) ≡ length cs
-unfolding doubleFirst
-length-doubled [] = refl
-length-doubled (c ∷ cs) = refl
 
 -- near(n/d)·d is within d/2 of n
 near-whole : (n : ℤ) (d : ℕ) → 0 < d → (whole (pos 2) *ℚ ∣ whole (near n d) *ℚ whole (pos d) -ℚ whole n ∣ℚ) ≤ℚ whole (pos d)

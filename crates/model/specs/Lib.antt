@@ -1,5 +1,6 @@
 pub mod Models
 pub mod Outcomes
+pub mod OutcomeLaws
 pub mod Areas
 pub mod AreaLaws
 pub mod ModelLaws
@@ -15,6 +16,7 @@ pub mod RoundingPass
 pub mod MultiplicationLaws
 pub mod Integral
 pub mod ResultLaws
+pub mod GoodResults
 pub mod IntegralLaws
 pub mod IntegralSound
 pub mod Evaluation

@@ -36,7 +36,7 @@ product-formed d a b r f =
     (λ t. formedOutcome n (r .coefficients) (w t) (e t)) ∙ formed-is m (r .coefficients) (λ h. f .coefficients-are (omega arith))
 
 -- of two good models and a kept degree within its limit only the result is tested
-pub multiplication-good : (d : ℕ) (a b : Model) → good a ≡ true → good b ≡ true → keptDegree d ≤ maxDegree
+pub multiplication-of-good : (d : ℕ) (a b : Model) → good a ≡ true → good b ≡ true → keptDegree d ≤ maxDegree
     → unlessLarge (productModel (keptDegree d) a b) ≡ multiplication d a b
 unfolding multiplication unlessLarge outcome productModel
-multiplication-good d a b p q h = rw (p, q, le-leb (keptDegree d) maxDegree h, kept-is (keptDegree d) h)
+multiplication-of-good d a b p q h = rw (p, q, le-leb (keptDegree d) maxDegree h, kept-is (keptDegree d) h)

@@ -15,7 +15,7 @@ use Rattle.model.specs.Integral.{integration}
 use Rattle.model.specs.PlaceLaws.{Passed}
 use Rattle.model.specs.declared.types.Model.{Model}
 
-neither : (a b : Bool) → (a || b) ≡ false → (a ≡ false) × (b ≡ false)
+pub neither : (a b : Bool) → (a || b) ≡ false → (a ≡ false) × (b ≡ false)
 neither true b h = absurd (true≢false h)
 neither false b h = (refl, h)
 

@@ -12,7 +12,7 @@ use Rattle.model.specs.Models.{good}
 use Rattle.model.specs.Outcomes.{outcome}
 use Rattle.model.specs.ModelLaws.{good-is}
 use Rattle.model.specs.Formed.{formedOutcome, formed-is}
-use Rattle.model.specs.Combination.{combinedModel, combination, combination-good}
+use Rattle.model.specs.Combination.{combinedModel, combination, combination-of-good}
 use Rattle.model.specs.declared.types.Model.{Model}
 use Rattle.model.proofs.add.combine_models.Statement.{statement}
 use Rattle.model.proofs.add.combine_models.Tie as tie
@@ -67,7 +67,7 @@ returns-3 c =
     c .formed .ensures
     ∙ (λ t. formedOutcome (n t) (cs t) (w t) (m .radius))
     ∙ formed-is m (m .coefficients) (λ h. refl)
-    ∙ combination-good (s e .args .sign) (a e) (b e) (good-a e) (good-b d)
+    ∙ combination-of-good (s e .args .sign) (a e) (b e) (good-a e) (good-b d)
 
 pub combine-models-spec : {M : Type 1} → statement M
 combine-models-spec =

@@ -10,7 +10,7 @@ use Rattle.model.specs.Models.{maxDegree, good}
 use Rattle.model.specs.Outcomes.{outcome}
 use Rattle.model.specs.Formed.{unlessLarge}
 use Rattle.model.specs.Operations.{keptDegree, productModel, multiplication}
-use Rattle.model.specs.MultiplicationLaws.{multiplication-good}
+use Rattle.model.specs.MultiplicationLaws.{multiplication-of-good}
 use Rattle.model.specs.declared.types.Model.{Model}
 use Rattle.model.proofs.multiply.multiply.Statement.{statement}
 use Rattle.model.proofs.multiply.multiply.Tie as tie
@@ -73,7 +73,7 @@ returns-4 c =
     let d = s x .args .kept in
     c .multiply-good .ensures
     ∙ ap (λ (n : ℕ). unlessLarge (productModel n (a x) (b x))) (degree-is j)
-    ∙ multiplication-good d (a x) (b x) (good-a x) (good-b (j .before)) (subst (λ (n : ℕ). n ≤ maxDegree) (degree-is j) (c .before .if4 .left))
+    ∙ multiplication-of-good d (a x) (b x) (good-a x) (good-b (j .before)) (subst (λ (n : ℕ). n ≤ maxDegree) (degree-is j) (c .before .if4 .left))
 
 pub multiply-spec : {M : Type 1} → statement M
 multiply-spec =
