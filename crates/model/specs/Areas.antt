@@ -30,7 +30,10 @@ unsignedOf (negsuc n) = 2 ^ 32 - 1 - n
 
 -- the model in the first 35 numbers of an area
 abbrev pub areaModel : List ℤ → Model
-areaModel s = makeModel (unsignedOf (getD s 0 (pos 0))) (take coefficientCount (drop 1 s)) (unsignedOf (getD s (coefficientCount + 1) (pos 0)))
+areaModel s =
+    makeModel (unsignedOf (getD s 0 (pos 0)))
+    (take coefficientCount (drop 1 s))
+    (unsignedOf (getD s (coefficientCount + 1) (pos 0)))
 
 -- the candidate in the first 34 numbers of an area
 abbrev pub areaCandidate : List ℤ → Candidate

@@ -11,6 +11,7 @@ pub mod Operations
 pub mod GoodLaws
 pub mod OperationsSound
 pub mod Formed
+pub mod Asked
 pub mod Combination
 pub mod RoundingPass
 pub mod MultiplicationLaws

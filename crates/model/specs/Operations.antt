@@ -9,7 +9,8 @@ use Rattle.integer.specs.Integer.{ℤ-ring}
 use Rattle.integer.specs.Rounding.{near, upℕ}
 use Rattle.chebyshev.specs.Coefficients.{weight, addLists, subtractLists}
 use Rattle.chebyshev.specs.Product.{product}
-use Rattle.model.specs.Models.{scale, maxDegree, coefficientCount, productSize, terms, makeModel, zeroModel, badPlace, largePlace}
+use Rattle.model.specs.Models.{scale, maxDegree, coefficientCount, productSize, terms, makeModel, zeroModel}
+use Rattle.model.specs.Models.{badPlace, largePlace}
 use Rattle.model.specs.Outcomes.{Outcome, outcome}
 use Rattle.model.specs.declared.types.Model.{Model}
 

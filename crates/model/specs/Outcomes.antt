@@ -5,7 +5,10 @@ use Prim.Native.Nat.{ℕ}
 use Rattle.model.specs.declared.types.Model.{Model}
 use Rattle.model.specs.declared.types.ModelOutcome.{ModelOutcome}
 use Rattle.model.specs.declared.types.Refusal.{Refusal}
-use Rattle.model.specs.declared.types.Refusal.the-variants.{ShortArea, BadModel, LargeResult, PointOutside, NotContracting, LargeResidual, HelperNotPositive, NegativeDiscriminant, BadValue, JobEnds, BytesAfterEnd, NotAResult, TooManyResults}
+use Rattle.model.specs.declared.types.Refusal.the-variants.{ShortArea, BadModel, LargeResult, PointOutside}
+use Rattle.model.specs.declared.types.Refusal.the-variants.{NotContracting, LargeResidual, HelperNotPositive}
+use Rattle.model.specs.declared.types.Refusal.the-variants.{NegativeDiscriminant, BadValue, JobEnds, BytesAfterEnd}
+use Rattle.model.specs.declared.types.Refusal.the-variants.{NotAResult, TooManyResults}
 use Rattle.model.specs.declared.types.Verdict.{Verdict}
 use Rattle.model.specs.declared.types.Verdict.the-variants.{Accepted, Refused}
 

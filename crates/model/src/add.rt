@@ -1,14 +1,12 @@
 // Add and subtract: coefficient by coefficient, the larger degree, radii added.
 ghost use mathlib.Core.Path.{_≡_};
-ghost use Prim.Native.Nat.{_≤_};
 ghost use lib.IntN.{natAbs};
-ghost use lib.ListN.{length};
 ghost use Rattle.integer.specs.Integer.{ℤ-ring};
 ghost use Rattle.chebyshev.specs.Coefficients.{weight, addLists, scaleList};
-ghost use Rattle.model.specs.Models.{coefficientCount, maxWeight};
 ghost use Rattle.model.specs.Outcomes.{outcomeOf};
 ghost use Rattle.model.specs.Operations.{addition, subtraction};
 ghost use Rattle.model.specs.Combination.{combination};
+ghost use Rattle.model.specs.Asked.{Summands};
 use crate::measure::is_good;
 use crate::types::COEFFICIENTS;
 use crate::types::Model;
@@ -22,9 +20,9 @@ struct Combined {
 
 // a + sign·b, with its weight.
 fn combine(a: &[i32; COEFFICIENTS], b: &[i32; COEFFICIENTS], sign: i32) -> Combined
-    requires { ⌜ (length (now a) ≡ coefficientCount) × (length (now b) ≡ coefficientCount) ⌝ }
-    requires { ⌜ (weight (now a) ≤ maxWeight) × (weight (now b) ≤ maxWeight) × (natAbs sign ≡ 1) ⌝ }
-    ensures { λ (r : Combined). ⌜ (r .coefficients ≡ addLists ℤ-ring (now (a .entry)) (scaleList ℤ-ring sign (now (b .entry)))) × (r .weight ≡ weight (r .coefficients)) ⌝ }
+    requires { ⌜ Summands (now a) (now b) sign ⌝ }
+    ensures { λ (r : Combined). ⌜ r .coefficients ≡ addLists ℤ-ring (now (a .entry)) (scaleList ℤ-ring sign (now (b .entry))) ⌝ }
+    ensures { λ (r : Combined). ⌜ r .weight ≡ weight (r .coefficients) ⌝ }
 {
     let mut coefficients = [0i32; COEFFICIENTS];
     let mut weight: u64 = 0;

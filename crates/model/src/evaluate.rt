@@ -1,10 +1,8 @@
 // Evaluate at p/S: a pass over the coefficients forms V and W, from which the bounds are taken.
 ghost use mathlib.Core.Path.{_≡_};
-ghost use Prim.Native.Nat.{suc, _≤_};
-ghost use lib.IntN.{natAbs};
-ghost use lib.ListN.{length, take};
-ghost use Rattle.chebyshev.specs.Coefficients.{weight};
-ghost use Rattle.model.specs.Models.{scale, coefficientCount, maxDegree, maxWeight};
+ghost use Prim.Native.Nat.{suc};
+ghost use lib.ListN.{take};
+ghost use Rattle.model.specs.Asked.{Evaluable};
 ghost use Rattle.model.specs.Evaluation.{pointSum, pointError, boundsOf, evaluation};
 use crate::measure::is_good;
 use crate::types::BoundsOutcome;
@@ -28,8 +26,7 @@ struct PointSums {
 
 // One pass over the coefficients up to the degree, with t_k and t_(k+1) at hand.
 fn point_sums(degree: u32, coefficients: &[i32; COEFFICIENTS], p: i64) -> PointSums
-    requires { ⌜ (length (now coefficients) ≡ coefficientCount) × (degree ≤ maxDegree) ⌝ }
-    requires { ⌜ (weight (now coefficients) ≤ maxWeight) × (natAbs p ≤ scale) ⌝ }
+    requires { ⌜ Evaluable degree (now coefficients) p ⌝ }
     ensures { λ (r : PointSums). ⌜ r .value ≡ pointSum p 0 (take (suc degree) (now (coefficients .entry))) ⌝ }
     ensures { λ (r : PointSums). ⌜ r .error ≡ pointError 0 (take (suc degree) (now (coefficients .entry))) ⌝ }
 {

@@ -1,10 +1,10 @@
 // Integrate from -1: the coefficients are formed from the highest down, so that c_0 = c_1 - (c_2 - (c_3 - ..)) needs no
 // signs.
 ghost use mathlib.Core.Path.{_≡_};
-ghost use Prim.Native.Nat.{suc, _*_, _≤_, _<_};
-ghost use lib.ListN.{length, take};
+ghost use Prim.Native.Nat.{suc};
+ghost use lib.ListN.{take};
 ghost use Rattle.chebyshev.specs.Coefficients.{weight};
-ghost use Rattle.model.specs.Models.{coefficientCount, maxDegree, maxWeight};
+ghost use Rattle.model.specs.Asked.{Integrable};
 ghost use Rattle.model.specs.Outcomes.{outcomeOf};
 ghost use Rattle.model.specs.Integral.{integration};
 ghost use Rattle.model.specs.IntegralLaws.{roundedIntegral};
@@ -22,7 +22,7 @@ struct Integral {
 // The integral of 2·a_0, a_1, .., a_n, 0, .. and its weight. On the way `above`, `here` and `below` are the numbers of
 // that list at places k + 1, k and k - 1.
 fn rounded_integral(degree: u32, doubled: &[i32; COEFFICIENTS]) -> Integral
-    requires { ⌜ (length (now doubled) ≡ coefficientCount) × (degree < maxDegree) × (weight (now doubled) ≤ 2 * maxWeight) ⌝ }
+    requires { ⌜ Integrable degree (now doubled) ⌝ }
     ensures { λ (r : Integral). ⌜ r .coefficients ≡ roundedIntegral (take (suc degree) (now (doubled .entry))) ⌝ }
     ensures { λ (r : Integral). ⌜ r .weight ≡ weight (roundedIntegral (take (suc degree) (now (doubled .entry)))) ⌝ }
 {

@@ -16,7 +16,8 @@ pub struct Measured {
 // A model with radius 0, given by its parts.
 fn measure_parts(degree: u32, coefficients: &[i32; COEFFICIENTS]) -> Measured
     requires { ⌜ length (now coefficients) ≡ coefficientCount ⌝ }
-    ensures { λ (r : Measured). ⌜ (r .good ≡ good (makeModel degree (now (coefficients .entry)) 0)) × (r .weight ≡ weight (now (coefficients .entry))) ⌝ }
+    ensures { λ (r : Measured). ⌜ r .good ≡ good (makeModel degree (now (coefficients .entry)) 0) ⌝ }
+    ensures { λ (r : Measured). ⌜ r .weight ≡ weight (now (coefficients .entry)) ⌝ }
 {
     let n = degree as usize;
     let mut total: u64 = 0;

@@ -1,13 +1,11 @@
 // Multiply with a kept degree: the list C, rounded, and what the rounding and the dropped coefficients lose.
 ghost use mathlib.Core.Path.{_≡_};
-ghost use mathlib.Core.Bool.{true};
-ghost use mathlib.Core.List.{[], _∷_};
 ghost use Prim.Native.Nat.{_+_, _*_, _^_, _<_, _≤_};
 ghost use lib.ListN.{length};
 ghost use Rattle.integer.specs.Integer.{ℤ-ring};
-ghost use Rattle.chebyshev.specs.Coefficients.{weight};
 ghost use Rattle.chebyshev.specs.Product.{product};
-ghost use Rattle.model.specs.Models.{coefficientCount, productSize, maxDegree, maxWeight, maxRadius, good};
+ghost use Rattle.model.specs.Models.{coefficientCount, productSize};
+ghost use Rattle.model.specs.Asked.{Factors, Limited, Multipliable, Roundable};
 ghost use Rattle.model.specs.Outcomes.{outcomeOf};
 ghost use Rattle.model.specs.Formed.{unlessLarge};
 ghost use Rattle.model.specs.RoundingPass.{RoundedFrom};
@@ -40,7 +38,7 @@ struct Rounded {
 
 // The first `kept` numbers of the list c rounded, the others dropped.
 fn round(c: &[i64], kept: usize) -> Rounded
-    requires { ⌜ (kept ≤ coefficientCount) × (kept ≤ length (now c)) × (weight (now c) < 2 ^ 62) ⌝ }
+    requires { ⌜ Roundable (now c) kept ⌝ }
     ensures { λ (r : Rounded). ⌜ RoundedFrom (now (c .entry)) kept r ⌝ }
 {
     let mut coefficients = [0i32; COEFFICIENTS];
@@ -66,7 +64,7 @@ fn round(c: &[i64], kept: usize) -> Rounded
 
 // What the radii lose: 2(A·e_b + B·e_a + e_a·e_b) of weights A, B and radii e_a, e_b.
 fn radius_loss(a: u64, ea: u64, b: u64, eb: u64) -> u64
-    requires { ⌜ (a ≤ maxWeight) × (ea ≤ maxRadius) × (b ≤ maxWeight) × (eb ≤ maxRadius) ⌝ }
+    requires { ⌜ Limited a ea b eb ⌝ }
     ensures { λ r. ⌜ (r ≡ 2 * (a * eb + b * ea + ea * eb)) × (r < 2 ^ 62) ⌝ }
 {
     2 * (a * eb + b * ea + ea * eb)
@@ -74,7 +72,7 @@ fn radius_loss(a: u64, ea: u64, b: u64, eb: u64) -> u64
 
 // The list C of two lists of coefficients, rounded. It ends at the sum of the degrees.
 fn round_product(a: &[i32], b: &[i32], kept: usize) -> Rounded
-    requires { ⌜ (length (now a) ≤ coefficientCount) × (length (now b) ≤ coefficientCount) × (weight (now a) ≤ maxWeight) × (weight (now b) ≤ maxWeight) ⌝ }
+    requires { ⌜ Factors (now a) (now b) ⌝ }
     requires { ⌜ (kept ≤ coefficientCount) × (kept < length (now a) + length (now b)) ⌝ }
     ensures { λ (r : Rounded). ⌜ RoundedFrom (product ℤ-ring productSize (now (a .entry)) (now (b .entry))) kept r ⌝ }
 {
@@ -86,8 +84,7 @@ fn round_product(a: &[i32], b: &[i32], kept: usize) -> Rounded
 
 // Of two good models, with their weights, to a kept degree within its limit.
 fn multiply_good(a: Model, b: Model, weight_a: u64, weight_b: u64, kept: u32) -> ModelOutcome
-    requires { ⌜ (good a ≡ true) × (good b ≡ true) × (kept ≤ maxDegree) ⌝ }
-    requires { ⌜ («weight_a» ≡ weight (a .coefficients)) × («weight_b» ≡ weight (b .coefficients)) ⌝ }
+    requires { ⌜ Multipliable a b «weight_a» «weight_b» kept ⌝ }
     ensures { λ (r : ModelOutcome). ⌜ outcomeOf r ≡ unlessLarge (productModel kept a b) ⌝ }
 {
     let top = a.degree + b.degree;

@@ -58,7 +58,8 @@ fn add_row(c: &mut [i64], x: i64, i: usize, b: &[i32])
 
 // C(a, b), which c has room for.
 pub fn add_products(c: &mut [i64], a: &[i32], b: &[i32])
-    requires { ⌜ (length (now a) + length (now b) ≤ suc (length (now c))) × (weight (now c) + 2 * weight (now a) * weight (now b) < 2 ^ 63) ⌝ }
+    requires { ⌜ length (now a) + length (now b) ≤ suc (length (now c)) ⌝ }
+    requires { ⌜ weight (now c) + 2 * weight (now a) * weight (now b) < 2 ^ 63 ⌝ }
     ensures { λ _. ⌜ now (c .exit) ≡ addRows ℤ-ring (now (c .entry)) 0 (now (a .entry)) (now (b .entry)) ⌝ }
 {
     let mut i = 0;

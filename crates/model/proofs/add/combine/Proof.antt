@@ -37,7 +37,7 @@ abbrev μ-loop : tie.MeasureT-loop
 loop-holds : tie.Need-loop-holds Inv-loop μ-loop
 loop-holds c =
     rw (toZ-ofZ (c .fits .sign)) (record {
-      filled = begins (sum (c .args .a .now) (c .args .b .now) (c .args .sign)) _ 0 33 (simp (length-add ℤ-ring, length-scale ℤ-ring) (omega (arith, c .pre .0))) (omega arith);
+      filled = begins (sum (c .args .a .now) (c .args .b .now) (c .args .sign)) _ 0 33 (simp (length-add ℤ-ring, length-scale ℤ-ring) (omega (arith, c .pre))) (omega arith);
       rest = omega arith;
     })
 
@@ -62,7 +62,7 @@ module _ (l : tie.At-loop Inv-loop μ-loop) where
   inv = rw (toZ-ofZ (l .before .fits .sign)) at (l .loop .inv)
 
   z-weight : weight z ≤ 2 ^ 29
-  z-weight = omega (arith, combined-weight s a b (l .before .pre .1 .2), l .before .pre .1)
+  z-weight = omega (arith, combined-weight s a b (l .before .pre .unit), l .before .pre)
 
 -- in a turn
 module _ (c : tie.After-c2 Inv-loop μ-loop) where
@@ -91,7 +91,7 @@ module _ (c : tie.After-c2 Inv-loop μ-loop) where
   fits-y = record { sfits = c .c2 .given }
 
   fits-sy : SFits w32 (s l *ℤ y)
-  fits-sy = abs-fits w32 (s l *ℤ y) (omega (arith, abs-mul (s l) y, ap (λ (n : ℕ). n * natAbs y) (l .before .pre .1 .2), weight-at (b l) (i l), l .before .pre .1))
+  fits-sy = abs-fits w32 (s l *ℤ y) (omega (arith, abs-mul (s l) y, ap (λ (n : ℕ). n * natAbs y) (l .before .pre .unit), weight-at (b l) (i l), l .before .pre))
 
   fits-v : SFits w32 v
   fits-v = abs-fits w32 v (omega (arith, ap natAbs v-is, weight-at (z l) (i l), z-weight l))
@@ -100,14 +100,8 @@ module _ (c : tie.After-c2 Inv-loop μ-loop) where
   v-reads : toZ w32 (ofZ w32 (toZ w32 (ofZ w32 x) +ℤ toZ w32 (ofZ w32 (toZ w32 (ofZ w32 (s l)) *ℤ toZ w32 (ofZ w32 y))))) ≡ v
   v-reads = simp (toZ-ofZ fits-s, toZ-ofZ fits-x, toZ-ofZ fits-y, toZ-ofZ fits-sy, toZ-ofZ fits-v)
 
-mul-c-3 : tie.Need-mul-c-3 Inv-loop μ-loop
-mul-c-3 c = simp (toZ-ofZ (fits-s c), toZ-ofZ (fits-y c)) (fits-sy c)
-
 add-c : tie.Need-add-c Inv-loop μ-loop
 add-c c = simp (toZ-ofZ (fits-s c), toZ-ofZ (fits-x c), toZ-ofZ (fits-y c), toZ-ofZ (fits-sy c)) (fits-v c)
-
-cast-magnitude : tie.Need-cast-magnitude Inv-loop μ-loop
-cast-magnitude c = rw (v-reads c) (fits-widens (fits-v c))
 
 -- what the turn adds to the weight
 weighed : (m : tie.After-magnitude Inv-loop μ-loop) → let l = l (m .before) in weight (drop (i l) (z l)) ≡ m .magnitude .result + weight (drop (i l + 1) (z l))
@@ -138,5 +132,6 @@ pub combine-spec : {M : Type 1} → statement M
 combine-spec =
     tie.close (tie.spec
     Inv-loop μ-loop loop-holds (λ c. search signed-needs) (λ c. search signed-needs) (λ c. search signed-needs)
-    (λ c. search signed-needs) mul-c-3 add-c (λ c. search signed-needs) (λ c. search signed-needs) cast-magnitude (λ c κs. tt)
+    (λ c. search signed-needs) (λ c. simp (toZ-ofZ (fits-s c), toZ-ofZ (fits-y c)) (fits-sy c)) add-c
+    (λ c. search signed-needs) (λ c. search signed-needs) (λ c. rw (v-reads c) (fits-widens (fits-v c))) (λ c κs. tt)
     add-weight (λ c. omega arith) (λ c. omega arith) loop-again returns)

@@ -51,7 +51,13 @@ combine-requires c κs =
     let e = d .before .before in
     let la : length (a e .coefficients) ≡ 33 = search needs in
     let lb : length (b e .coefficients) ≡ 33 = search needs in
-    simp (toZ-ofZ (s e .fits .sign)) ((la, lb), (good-is (a e) (good-a e) .weight-fits, good-is (b e) (good-b d) .weight-fits, s e .pre))
+    simp (toZ-ofZ (s e .fits .sign)) (record {
+      first-all = la;
+      second-all = lb;
+      first-light = good-is (a e) (good-a e) .weight-fits;
+      second-light = good-is (b e) (good-b d) .weight-fits;
+      unit = s e .pre;
+    })
 
 returns-3 : tie.Need-returns-3
 unfolding combinedModel

@@ -11,12 +11,6 @@ use Rattle.model.specs.AreaLaws.{candidate-front}
 use Rattle.model.proofs.area.read.Statement.{statement}
 use Rattle.model.proofs.area.read.Tie as tie
 
-slice-aggregate-read-candidate : tie.Need-slice-aggregate-read-candidate
-slice-aggregate-read-candidate c = simp length-take (omega arith)
-
-read-candidate-requires : tie.Need-read-candidate-requires
-read-candidate-requires c κs = simp length-take (omega arith)
-
 returns : tie.Need-returns
 returns c =
     let d = c .before .before .before in
@@ -29,5 +23,5 @@ returns c =
 pub read-spec : {M : Type 1} → statement M
 read-spec =
     tie.close (tie.spec
-    slice-aggregate-read-candidate read-candidate-requires (λ c. search needs) (λ c κs. search needs) (λ c κs. search needs)
-    returns)
+    (λ c. simp length-take (omega arith)) (λ c κs. simp length-take (omega arith)) (λ c. search needs) (λ c κs. search needs)
+    (λ c κs. search needs) returns)

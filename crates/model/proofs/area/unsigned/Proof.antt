@@ -39,14 +39,8 @@ natural : (x : ℤ) → ltZ x (pos 0) ≡ false → natAbs x ≡ unsignedOf x
 natural (pos n) e = refl
 natural (negsuc n) e = absurd (omega (arith, lt-no (negsuc n) (pos 0) e))
 
-sub-result : tie.Need-sub-result
-sub-result c = omega (arith, size (c .before), small (c .before))
-
 cast-result : tie.Need-cast-result
 cast-result c = omega (arith, size (c .before), negative (x (c .before)) (sign (c .before) true (c .if1 .taken)))
-
-cast-result-2 : tie.Need-cast-result-2
-cast-result-2 c = omega (arith, size (c .before), small (c .before))
 
 returns : tie.Need-returns
 returns c = rw (size (c .before)) (negative (x (c .before)) (sign (c .before) true (c .if1 .taken)) .1 (omega (arith, small (c .before))))
@@ -57,4 +51,5 @@ returns-2 c = rw (size (c .before)) (natural (x (c .before)) (sign (c .before) f
 pub unsigned-spec : {M : Type 1} → statement M
 unsigned-spec =
     tie.close (tie.spec
-    (λ c. search signed-needs) (λ c κs. search needs) sub-result cast-result cast-result-2 returns returns-2)
+    (λ c. search signed-needs) (λ c κs. search needs) (λ c. omega (arith, size (c .before), small (c .before))) cast-result
+    (λ c. omega (arith, size (c .before), small (c .before))) returns returns-2)

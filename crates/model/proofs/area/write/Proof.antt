@@ -28,9 +28,6 @@ written (x ∷ o) cs d r n hc ho =
 long : (c : tie.Start) → length (c .args .m .coefficients) ≡ coefficientCount
 long c = search needs
 
-copy-requires : tie.Need-copy-requires
-copy-requires c κs = simp (length-take, length-drop) (omega (arith, long (c .before .before .before)))
-
 slice-set-from-area-2 : tie.Need-slice-set-from-area-2
 slice-set-from-area-2 c =
     let b = c .before .before .before in
@@ -48,5 +45,6 @@ returns c =
 pub write-spec : {M : Type 1} → statement M
 write-spec =
     tie.close (tie.spec
-    (λ c. search needs) (λ c. search needs) (λ c. search needs) (λ c. search needs) copy-requires (λ c. search needs)
+    (λ c. search needs) (λ c. search needs) (λ c. search needs) (λ c. search needs)
+    (λ c κs. simp (length-take, length-drop) (omega (arith, long (c .before .before .before)))) (λ c. search needs)
     (λ c. search needs) (λ c. search needs) slice-set-from-area-2 (λ c. search needs) returns)

@@ -91,13 +91,10 @@ point-sums-requires k κs =
     let m = k .before .before .before in
     let c = m .before in
     simp (toZ-ofZ (s c .fits .p), toZ-ofZ (fits-p c))
-    ((search needs, is-good c .degree-fits), (is-good c .weight-fits, omega (arith, point-is m)))
+    (record { all = search needs; degree-fits = is-good c .degree-fits; light = is-good c .weight-fits; inside = omega (arith, point-is m) })
 
 mul-value : tie.Need-mul-value
 mul-value c = let n = sums (c .before .before) in simp (toZ-ofZ (fits-value n)) (fits-fourfold n)
-
-cast-error : tie.Need-cast-error
-cast-error c = abs-fits w64 _ (omega (arith, error-small (sums (c .before .before .before))))
 
 sub-floor : tie.Need-sub-floor
 sub-floor c = let n = sums (c .before .before .before) in simp (toZ-ofZ (fits-value n), toZ-ofZ (fits-fourfold n), error-word n) (fits-below n)
@@ -132,5 +129,5 @@ pub evaluate-spec : {M : Type 1} → statement M
 evaluate-spec =
     tie.close (tie.spec
     (λ c κs. search needs) (λ c. search signed-needs) (λ c κs. search needs) (λ c. search needs) point-sums-requires mul-value
-    cast-error (λ c. search needs) sub-floor (λ c κs. search needs) sub-low add-up (λ c κs. search needs) add-high returns
-    returns-2 returns-3)
+    (λ c. abs-fits w64 _ (omega (arith, error-small (sums (c .before .before .before))))) (λ c. search needs) sub-floor
+    (λ c κs. search needs) sub-low add-up (λ c κs. search needs) add-high returns returns-2 returns-3)

@@ -57,17 +57,14 @@ module _ (r : tie.After-rounded-integral) where
   weight-is : r .rounded-integral .result .weight ≡ weight (integralModel (a (c d)) .coefficients)
   weight-is = (simp (toZ-ofZ (fits-x d), toZ-ofZ (fits-double d)) at (r .rounded-integral .ensures .1)) ∙ ap weight (integral-doubled (a (c d)))
 
-mul-doubled : tie.Need-mul-doubled
-mul-doubled d = simp (toZ-ofZ (fits-x d)) (fits-double d)
-
 rounded-integral-requires : tie.Need-rounded-integral-requires
 rounded-integral-requires k κs =
     let d = k .before in
-    simp (toZ-ofZ (fits-x d), toZ-ofZ (fits-double d)) (
-      length-set (a (c d) .coefficients) 0 (pos 2 *ℤ x d) ∙ search needs,
-      omega arith,
-      omega (arith, weight-doubled (a (c d) .coefficients), is-good (c d) .weight-fits),
-    )
+    simp (toZ-ofZ (fits-x d), toZ-ofZ (fits-double d)) (record {
+      all = length-set (a (c d) .coefficients) 0 (pos 2 *ℤ x d) ∙ search needs;
+      degree-fits = omega arith;
+      light = omega (arith, weight-doubled (a (c d) .coefficients), is-good (c d) .weight-fits);
+    })
 
 returns : tie.Need-returns
 returns k =
@@ -85,6 +82,7 @@ returns-3 c = c .refused2 .ensures ∙ rw (sym (c .before .before .is-good .ensu
 pub integrate-spec : {M : Type 1} → statement M
 integrate-spec =
     tie.close (tie.spec
-    (λ c κs. search needs) (λ c. search needs) mul-doubled (λ c. search needs) rounded-integral-requires (λ c. search needs)
-    (λ c. search needs) (λ c. search needs) (λ c. search needs) (λ c. search needs) (λ c. search needs) (λ c κs. search needs)
-    (λ c κs. search needs) (λ c κs. search needs) returns returns-2 returns-3)
+    (λ c κs. search needs) (λ c. search needs) (λ d. simp (toZ-ofZ (fits-x d)) (fits-double d)) (λ c. search needs)
+    rounded-integral-requires (λ c. search needs) (λ c. search needs) (λ c. search needs) (λ c. search needs)
+    (λ c. search needs) (λ c. search needs) (λ c κs. search needs) (λ c κs. search needs) (λ c κs. search needs) returns
+    returns-2 returns-3)

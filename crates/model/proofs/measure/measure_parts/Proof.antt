@@ -66,12 +66,6 @@ module _ (c : tie.After-magnitude Inv-loop μ-loop) where
   size-small : c .magnitude .result ≤ 2 ^ 32
   size-small = omega (arith, size-is, within w32 x fits-x, abs x)
 
-add-total : tie.Need-add-total Inv-loop μ-loop
-add-total c = omega (arith, size-small c)
-
-add-beyond : tie.Need-add-beyond Inv-loop μ-loop
-add-beyond c = omega (arith, size-small (c .before))
-
 loop-again : tie.Need-loop-again Inv-loop μ-loop
 loop-again j =
     let c = j .before in
@@ -117,4 +111,5 @@ pub measure-parts-spec : {M : Type 1} → statement M
 measure-parts-spec =
     tie.close (tie.spec
     Inv-loop μ-loop (λ c. omega arith) (λ c. search signed-needs) (λ c. search signed-needs) (λ c. search signed-needs)
-    (λ c κs. tt) add-total add-beyond (λ c. omega arith) (λ c. omega arith) loop-again returns returns-2 returns-3)
+    (λ c κs. tt) (λ c. omega (arith, size-small c)) (λ c. omega (arith, size-small (c .before))) (λ c. omega arith)
+    (λ c. omega arith) loop-again returns returns-2 returns-3)

@@ -30,9 +30,6 @@ turn c =
     let e : c .magnitude .result ≡ natAbs (getD cs (l .loop .i) (pos 0)) = simp (toZ-ofZ fits) at (c .magnitude .ensures) in
     omega (arith, weight-step cs (l .loop .i) (omega arith))
 
-add-total : tie.Need-add-total Inv-loop μ-loop
-add-total c = omega (arith, turn c, c .before .before .before .before .pre)
-
 loop-again : tie.Need-loop-again Inv-loop μ-loop
 loop-again c = omega (arith, turn c)
 
@@ -42,5 +39,6 @@ returns c = let l = c .before in omega (arith, weight-end (l .before .args .c .n
 pub weigh-spec : {M : Type 1} → statement M
 weigh-spec =
     tie.close (tie.spec
-    Inv-loop μ-loop (λ c. omega arith) (λ c. search signed-needs) (λ c. search signed-needs) (λ c κs. tt) add-total
-    (λ c. omega arith) (λ c. omega arith) loop-again returns)
+    Inv-loop μ-loop (λ c. omega arith) (λ c. search signed-needs) (λ c. search signed-needs) (λ c κs. tt)
+    (λ c. omega (arith, turn c, c .before .before .before .before .pre)) (λ c. omega arith) (λ c. omega arith) loop-again
+    returns)

@@ -64,7 +64,13 @@ multiply-good-requires : tie.Need-multiply-good-requires
 multiply-good-requires c κs =
     let k = c .before .before in
     let x = e k in
-    ((good-a x, good-b k, c .if4 .left), (x .before .before .measure .ensures .1, k .before .before .measure2 .ensures .1))
+    record {
+      first-good = good-a x;
+      second-good = good-b k;
+      first-weight = x .before .before .measure .ensures .1;
+      second-weight = k .before .before .measure2 .ensures .1;
+      kept-fits = c .if4 .left;
+    }
 
 returns-4 : tie.Need-returns-4
 returns-4 c =

@@ -28,10 +28,10 @@ module _ (s : tie.Start) where
   b = s .args .b
 
   good-a : Good a
-  good-a = good-is a (s .pre .0 .0)
+  good-a = good-is a (s .pre .first-good)
 
   good-b : Good b
-  good-b = good-is b (s .pre .0 .1)
+  good-b = good-is b (s .pre .second-good)
 
   length-a : length (a .coefficients) ≡ 33
   length-a = search needs
@@ -51,9 +51,6 @@ add-top c = let s = c .before .before in omega (arith, good-a s, good-b s)
 array-share-prefix-first : tie.Need-array-share-prefix-first
 array-share-prefix-first c = let s = c .before .before .before .before .before .before in omega (arith, good-a s, length-a s)
 
-slice-aggregate-round-product : tie.Need-slice-aggregate-round-product
-slice-aggregate-round-product c = sym (first-length (c .before .before .before .before .before .before .before))
-
 array-share-prefix-second : tie.Need-array-share-prefix-second
 array-share-prefix-second c = let s = c .before .before .before .before .before .before .before .before in omega (arith, good-b s, length-b s)
 
@@ -67,7 +64,7 @@ module _ (j : tie.Joined1) where
 
   degree-is : j .if1 .degree ≡ productDegree (s .args .kept) (a s) (b s)
   degree-is =
-      let e = kept-is (s .args .kept) (s .pre .0 .2) in
+      let e = kept-is (s .args .kept) (s .pre .kept-fits) in
       ⊎-elim (λ w. omega (arith, w .0, w .1)) (λ w. omega (arith, w .0, w .1)) (j .if1 .came)
 
 round-product-requires : tie.Need-round-product-requires
@@ -77,8 +74,8 @@ round-product-requires c κs =
     omega (
       arith,
       degree-is j,
-      kept-is (s .args .kept) (s .pre .0 .2),
-      s .pre .0 .2,
+      kept-is (s .args .kept) (s .pre .kept-fits),
+      s .pre .kept-fits,
       first-length s,
       second-length s,
       weight-take (a s .degree + 1) (a s .coefficients),
@@ -100,13 +97,13 @@ module _ (c : tie.After-round-product) where
   rounded-from = simp (add-one, degree-is at) at (c .round-product .ensures)
 
 radius-loss-requires : tie.Need-radius-loss-requires
-radius-loss-requires c κs = let s = start (c .before .before .before) in omega (arith, s .pre .1, good-a s, good-b s)
+radius-loss-requires c κs = let s = start (c .before .before .before) in omega (arith, s .pre, good-a s, good-b s)
 
 add-loss : tie.Need-add-loss
 add-loss c =
     let r = c .before .before .before .before .before in
     let s = start r in
-    omega (arith, c .before .radius-loss .ensures .1, rounded-loss (productList (a s) (b s)) _ (r .round-product .result) (rounded-from r), weight-productList (a s) (b s) (s .pre .0 .0) (s .pre .0 .1))
+    omega (arith, c .before .radius-loss .ensures .1, rounded-loss (productList (a s) (b s)) _ (r .round-product .result) (rounded-from r), weight-productList (a s) (b s) (s .pre .first-good) (s .pre .second-good))
 
 returns : tie.Need-returns
 returns c =
@@ -115,7 +112,7 @@ returns c =
     let r = l .before .before .before .before in
     let s = start r in
     let p = r .round-product .result in
-    let n : l .radius-loss .result ≡ radiusLoss (a s) (b s) = l .radius-loss .ensures .0 ∙ (λ t. 2 * (s .pre .1 .0 t * b s .radius + s .pre .1 .1 t * a s .radius + a s .radius * b s .radius)) in
+    let n : l .radius-loss .result ≡ radiusLoss (a s) (b s) = l .radius-loss .ensures .0 ∙ (λ t. 2 * (s .pre .first-weight t * b s .radius + s .pre .second-weight t * a s .radius + a s .radius * b s .radius)) in
     let e : u .up-unsigned .result ≡ upℕ (p .loss + radiusLoss (a s) (b s)) (2 * scale) = u .up-unsigned .ensures ∙ ap (λ m. upℕ (p .loss + m) (2 * scale)) n in
     c .formed .ensures
     ∙ (λ t. formedOutcome (degree-is (at r) t) (p .coefficients) (p .weight) (e t))
@@ -124,7 +121,8 @@ returns c =
 pub multiply-good-spec : {M : Type 1} → statement M
 multiply-good-spec =
     tie.close (tie.spec
-    add-top (λ c. search needs) (λ c. search needs) array-share-prefix-first slice-aggregate-round-product (λ c. search needs)
+    add-top (λ c. search needs) (λ c. search needs) array-share-prefix-first
+    (λ c. sym (first-length (c .before .before .before .before .before .before .before))) (λ c. search needs)
     (λ c. search needs) array-share-prefix-second slice-aggregate-round-product-2 (λ c. search needs) round-product-requires
     (λ c. search needs) (λ c. search needs) radius-loss-requires add-loss (λ c. search needs) (λ c κs. search needs)
     (λ c κs. search needs) returns)

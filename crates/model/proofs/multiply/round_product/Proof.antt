@@ -34,13 +34,10 @@ module _ (s : tie.Start) where
   C = product ℤ-ring productSize a b
 
   weights : weight a * weight b ≤ 2 ^ 56
-  weights = mul-le-mul (s .pre .0 .2) (s .pre .0 .3)
+  weights = mul-le-mul (s .pre .0 .first-light) (s .pre .0 .second-light)
 
   prefix-length : length (take end C) ≡ end
   prefix-length = length-take-le end C (omega (arith, length-product ℤ-ring productSize a b, s .pre))
-
-add-products-requires : tie.Need-add-products-requires
-add-products-requires c κs = omega (arith, weight-zeros 65, weights (c .before), c .before .pre)
 
 -- the list that was formed
 formed : (c : tie.After-add-products) → c .add-products .last .0 ≡ C (c .before .before)
@@ -65,5 +62,5 @@ returns c =
 pub round-product-spec : {M : Type 1} → statement M
 round-product-spec =
     tie.close (tie.spec
-    (λ c. search needs) add-products-requires (λ c. search needs) (λ c. search needs) (λ c. search needs) slice-aggregate-round
-    round-requires returns)
+    (λ c. search needs) (λ c κs. omega (arith, weight-zeros 65, weights (c .before), c .before .pre)) (λ c. search needs)
+    (λ c. search needs) (λ c. search needs) slice-aggregate-round round-requires returns)

@@ -28,13 +28,11 @@ module _ (c : tie.After-c) where
   fits-sum : SFits w64 (x +ℤ s .args .v)
   fits-sum = abs-fits w64 (x +ℤ s .args .v) (omega (arith, abs-add x (s .args .v), weight-at (s .args .c .now) (s .args .k), s .pre))
 
-add-c : tie.Need-add-c
-add-c c = simp (toZ-ofZ (fits-x c), toZ-ofZ (s c .fits .v)) (fits-sum c)
-
 returns : tie.Need-returns
 returns c = simp (toZ-ofZ (fits-x c), toZ-ofZ (s c .fits .v), toZ-ofZ (fits-sum c)) (sym (addAt-set ℤ-ring (s c .args .c .now) (s c .args .k) (s c .args .v)))
 
 pub add-at-spec : {M : Type 1} → statement M
 add-at-spec =
     tie.close (tie.spec
-    (λ c. search needs) (λ c. search needs) add-c (λ c. search needs) (λ c. search needs) (λ c. search needs) returns)
+    (λ c. search needs) (λ c. search needs) (λ c. simp (toZ-ofZ (fits-x c), toZ-ofZ (s c .fits .v)) (fits-sum c))
+    (λ c. search needs) (λ c. search needs) (λ c. search needs) returns)

@@ -13,9 +13,6 @@ use Rattle.chebyshev.specs.ProductWeight.{weight-addAt}
 use Rattle.model.proofs.products.add_pair.Statement.{statement}
 use Rattle.model.proofs.products.add_pair.Tie as tie
 
-add-at-requires : tie.Need-add-at-requires
-add-at-requires c κs = simp (toZ-ofZ (c .before .fits .v)) (omega (arith, c .before .pre))
-
 module _ (c : tie.After-add-at) where
   abbrev s : tie.Start
   s = c .before .before
@@ -48,4 +45,5 @@ returns k =
 pub add-pair-spec : {M : Type 1} → statement M
 add-pair-spec =
     tie.close (tie.spec
-    (λ c. search needs) add-at-requires (λ c κs. search needs) add-at-requires-2 (λ c. search needs) returns)
+    (λ c. search needs) (λ c κs. simp (toZ-ofZ (c .before .fits .v)) (omega (arith, c .before .pre))) (λ c κs. search needs)
+    add-at-requires-2 (λ c. search needs) returns)

@@ -102,9 +102,6 @@ loop-again m =
     let e = simp (toZ-ofZ (s h .fits .x), toZ-ofZ (fits-y c), toZ-ofZ (fits-widens (fits-y c)), toZ-ofZ (fits-v c)) at (m .before .add-pair .ensures) in
     rw (toZ-ofZ (s h .fits .x), e) (walk (s h .args .c .now) (x h) (s h .args .i) (s h .args .j) (b h) (h .loop .c) (k h) (inv h) (omega arith))
 
-same-length : tie.Need-same-length Inv-loop μ-loop
-same-length c = c .before .loop .inv .size
-
 returns : tie.Need-returns Inv-loop μ-loop
 returns c =
     let h = c .before in
@@ -114,5 +111,5 @@ pub add-pairs-spec : {M : Type 1} → statement M
 add-pairs-spec =
     tie.close (tie.spec
     Inv-loop μ-loop loop-holds (λ c. search signed-needs) (λ c. search signed-needs) (λ c. search signed-needs)
-    (λ c. search signed-needs) mul-add-pair-2 add-pair-requires (λ c. omega arith) (λ c. omega arith) loop-again same-length
-    returns)
+    (λ c. search signed-needs) mul-add-pair-2 add-pair-requires (λ c. omega arith) (λ c. omega arith) loop-again
+    (λ c. c .before .loop .inv .size) returns)

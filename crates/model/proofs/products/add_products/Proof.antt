@@ -81,9 +81,6 @@ loop-again m =
     let e = simp (toZ-ofZ (fits-x c), toZ-ofZ (fits-widens (fits-x c))) at (m .before .add-row .ensures) in
     rw e (walk (s k .args .c .now) (a k) (b k) (k .loop .c) (i k) (k .loop .inv) (omega arith))
 
-same-length : tie.Need-same-length Inv-loop μ-loop
-same-length c = c .before .loop .inv .size
-
 returns : tie.Need-returns Inv-loop μ-loop
 returns c =
     let k = c .before in
@@ -93,4 +90,4 @@ pub add-products-spec : {M : Type 1} → statement M
 add-products-spec =
     tie.close (tie.spec
     Inv-loop μ-loop loop-holds (λ c. search signed-needs) (λ c. search signed-needs) (λ c. search signed-needs)
-    add-row-requires (λ c. omega arith) (λ c. omega arith) loop-again same-length returns)
+    add-row-requires (λ c. omega arith) (λ c. omega arith) loop-again (λ c. c .before .loop .inv .size) returns)
