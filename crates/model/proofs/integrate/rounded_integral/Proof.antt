@@ -117,9 +117,6 @@ loop-holds c = begins (ds c) (c .args .degree + 1) (length-ds c) (omega (arith, 
 near-requires : tie.Need-near-requires Inv-loop μ-loop
 near-requires b κs = rw (divisor-is b) (<-parts (pos 0) (pos (2 * k (l b))) .1 (omega arith), pos-le _ _ (omega (arith, inside (l b), s (l b) .pre)))
 
-add-weight : tie.Need-add-weight Inv-loop μ-loop
-add-weight m = let n = m .before in omega (arith, small (after n _ (size-is m)) (light (s (at n))) .total-small)
-
 loop-again : tie.Need-loop-again Inv-loop μ-loop
 loop-again m =
     let n = m .before in
@@ -128,9 +125,8 @@ loop-again m =
     (after n _ (size-is m))
 
 -- after the loop
-module _ (e : tie.After-loop Inv-loop μ-loop) where
-  fits-first-32 : SFits w32 (first (e .before))
-  fits-first-32 = abs-fits w32 (first (e .before)) (omega (arith, now-small (e .before) .first-small))
+fits-first-32 : (e : tie.After-loop Inv-loop μ-loop) → SFits w32 (first (e .before))
+fits-first-32 e = abs-fits w32 (first (e .before)) (omega (arith, now-small (e .before) .first-small))
 
 returns : tie.Need-returns Inv-loop μ-loop
 returns z =
@@ -146,7 +142,8 @@ rounded-integral-spec =
     (λ c. search signed-needs) (λ b. simp (toZ-ofZ (fits-32 b), toZ-ofZ (fits-64 b)) (fits-numerator b))
     (λ b. omega (arith, inside (l b), s (l b) .pre)) (λ b. abs-fits w64 _ (omega (arith, inside (l b), s (l b) .pre)))
     near-requires (λ n. simp (toZ-ofZ (fits-c n)) (fits-c-32 n)) (λ n. omega (arith, inside (at n), s (at n) .pre))
-    (λ n. omega (arith, inside (at n), s (at n) .pre)) (λ c κs. tt) add-weight
+    (λ n. omega (arith, inside (at n), s (at n) .pre)) (λ c κs. tt)
+    (λ m. let n = m .before in omega (arith, small (after n _ (size-is m)) (light (s (at n))) .total-small))
     (λ m. simp (toZ-ofZ (fits-c (m .before))) (fits-first (m .before))) (λ m. omega arith) (λ m. omega arith) loop-again
     (λ e. fits-first-32 e) (λ e. omega arith) (λ c κs. tt)
     (λ z. omega (arith, now-small (z .before .before), z .magnitude2 .ensures)) returns)
