@@ -11,9 +11,10 @@ use Rattle.integer.specs.Rounding.{near}
 use Rattle.integer.specs.Filling.{drop-replicate}
 use Rattle.chebyshev.specs.Coefficients.{weight}
 use Rattle.chebyshev.specs.Weight.{weight-step, weight-drop, weight-at}
+use Rattle.model.specs.InnerContracts.{roundedIntegral, roundedTail}
 use Rattle.model.specs.Models.{coefficientCount}
 use Rattle.model.specs.Integral.{alternating}
-use Rattle.model.specs.IntegralLaws.{roundedTail, roundedIntegral, length-rounded, getD-rounded, weight-rounded, alternating-size, weight-integral}
+use Rattle.model.specs.IntegralLaws.{length-rounded, getD-rounded, weight-rounded, alternating-size, weight-integral}
 
 -- at place k: c_(k+1), c_(k+2), … stand in `out`, `total` is their weight and `first` is c_(k+1) − c_(k+2) + …; `above` and
 -- `here` are the numbers of ds at places k + 1 and k

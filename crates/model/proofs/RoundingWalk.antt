@@ -9,9 +9,10 @@ use lib.Seq.{length-take-le}
 use Rattle.integer.specs.Filling as Filling
 use Rattle.chebyshev.specs.Coefficients.{weight}
 use Rattle.chebyshev.specs.Weight.{weight-step, weight-end}
+use Rattle.model.specs.InnerContracts.{RoundedFrom}
 use Rattle.model.specs.Models.{coefficientCount, maxWeight}
 use Rattle.model.specs.Operations.{rounded, roundingLoss}
-use Rattle.model.specs.RoundingPass.{roundedAt, lossAt, rounded-length, rounded-at, rounded-weight, loss-step, loss-end, loss-weight, RoundedFrom}
+use Rattle.model.specs.RoundingPassLaws.{roundedAt, lossAt, rounded-length, rounded-at, rounded-weight, loss-step, loss-end, loss-weight}
 
 -- k of the numbers are rounded: their weight and their loss in rest form, with `dropped` lost besides; they are written as
 -- long as their weight is within its limit

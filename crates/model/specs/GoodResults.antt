@@ -11,13 +11,14 @@ use lib.ListN.{length, take, drop, replicate, length-take}
 use Rattle.integer.specs.Integer.{ℤ-ring}
 use Rattle.chebyshev.specs.Coefficients.{weight, addLists, subtractLists}
 use Rattle.chebyshev.specs.Weight.{weight-add, weight-drop, weight-zeros, weight-opposite}
+use Rattle.model.specs.InnerContracts.{roundedIntegral, roundedTail}
 use Rattle.model.specs.Models.{maxDegree, maxWeight, maxRadius, coefficientCount, terms, beyond, good, tooLarge, zeroModel}
 use Rattle.model.specs.ModelLaws.{good-is}
 use Rattle.model.specs.Outcomes.{accepted}
 use Rattle.model.specs.Operations.{loading, loadingPlaces, sumModel, differenceModel, additionPlaces, subtractionPlaces, addition, subtraction, productList, productDegree, productModel, multiplicationPlaces, multiplication, rounded}
 use Rattle.model.specs.Integral.{doubleFirst, alternating, integralModel, integrationPlaces, integration}
-use Rattle.model.specs.IntegralLaws.{roundedTail, roundedIntegral, integral-is, length-rounded, length-doubled}
-use Rattle.model.specs.RoundingPass.{rounded-length}
+use Rattle.model.specs.IntegralLaws.{integral-is, length-rounded, length-doubled}
+use Rattle.model.specs.RoundingPassLaws.{rounded-length}
 use Rattle.model.specs.PlaceLaws.{outcome-accepted}
 use Rattle.model.specs.ResultLaws.{neither}
 use Rattle.model.specs.declared.types.Model.{Model}

@@ -15,19 +15,12 @@ use Rattle.integer.specs.RoundingSize.{near-size}
 use Rattle.chebyshev.specs.Coefficients.{weight, subtractLists}
 use Rattle.chebyshev.specs.CoefficientLaws.{length-subtract, getD-subtract}
 use Rattle.chebyshev.specs.Weight.{weight-subtract, weight-drop, weight-append-zeros}
+use Rattle.model.specs.InnerContracts.{formedOutcome, roundedIntegral, roundedTail, unlessLarge}
 use Rattle.model.specs.Models.{maxDegree, coefficientCount, terms, good, tooLarge, zeroModel}
 use Rattle.model.specs.Outcomes.{refused, outcome}
-use Rattle.model.specs.Formed.{unlessLarge, formedOutcome, formed-is}
+use Rattle.model.specs.FormedLaws.{formed-is}
 use Rattle.model.specs.Integral.{doubleFirst, numerators, halved, alternating, integralList, integralModel, integration}
 use Rattle.model.specs.declared.types.Model.{Model}
-
--- c_1, c_2, … from ds
-unfoldable pub roundedTail : List ℤ → List ℤ
-roundedTail ds = halved 1 (subtractLists ℤ-ring ds (drop 2 ds))
-
--- c_0, c_1, … in a model's places
-unfoldable pub roundedIntegral : List ℤ → List ℤ
-roundedIntegral ds = (alternating (roundedTail ds) ∷ roundedTail ds) ++ replicate (coefficientCount - suc (length (roundedTail ds))) (pos 0)
 
 drop-doubled : (cs : List ℤ) → drop 2 (doubleFirst cs) ≡ drop 2 cs
 unfolding doubleFirst

@@ -25,6 +25,7 @@ use Rattle.chebyshev.specs.PrimitiveLaws.{numerator-first, numerator-next}
 use Rattle.chebyshev.specs.PrimitiveNorm.{Rounded, primitive-rounded}
 use Rattle.integer.specs.FractionInverse.{_/ℚ_, quotient-mul}
 use Rattle.chebyshev.specs.Allows.{allows}
+use Rattle.model.specs.InnerContracts.{roundedIntegral, roundedTail}
 use Rattle.model.specs.Models.{scale, coefficientCount, terms, good, zeroModel}
 use Rattle.model.specs.Outcomes.{accepted}
 use Rattle.model.specs.Values.{position, AllowsAt, Allows, OnInterval}
@@ -32,7 +33,7 @@ use Rattle.model.specs.ValueLaws.{valueAt, within, scale-nonzero}
 use Rattle.model.specs.PlaceLaws.{outcome-accepted}
 use Rattle.model.specs.GoodLaws.{getD-append-zeros, getD-terms}
 use Rattle.model.specs.Integral.{doubleFirst, alternating, integralModel, integrationPlaces, integration}
-use Rattle.model.specs.IntegralLaws.{roundedTail, roundedIntegral, integral-is, length-doubled, length-rounded, getD-rounded}
+use Rattle.model.specs.IntegralLaws.{integral-is, length-doubled, length-rounded, getD-rounded}
 use Rattle.model.specs.declared.types.Model.{Model}
 
 whole-sub : (x y : ℤ) → whole x -ℚ whole y ≡ whole (x -ℤ y)

@@ -1,5 +1,6 @@
 pub mod Models
 pub mod Outcomes
+pub mod InnerContracts
 pub mod OutcomeLaws
 pub mod Areas
 pub mod AreaLaws
@@ -10,10 +11,9 @@ pub mod ValueLaws
 pub mod Operations
 pub mod GoodLaws
 pub mod OperationsSound
-pub mod Formed
-pub mod Asked
-pub mod Combination
-pub mod RoundingPass
+pub mod FormedLaws
+pub mod CombinationLaws
+pub mod RoundingPassLaws
 pub mod MultiplicationLaws
 pub mod Integral
 pub mod ResultLaws

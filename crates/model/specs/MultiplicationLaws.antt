@@ -8,11 +8,11 @@ use borrow.Author.Tests.{le-leb, ne-eqb}
 use Rattle.integer.specs.Rounding.{upℕ}
 use Rattle.chebyshev.specs.Coefficients.{weight}
 use Rattle.chebyshev.specs.Weight.{weight-append-zeros}
+use Rattle.model.specs.InnerContracts.{RoundedFrom, formedOutcome, unlessLarge}
 use Rattle.model.specs.Models.{scale, coefficientCount, maxDegree, good}
 use Rattle.model.specs.Outcomes.{outcome}
 use Rattle.model.specs.Operations.{keptDegree, productDegree, productList, productLoss, productModel, rounded, multiplication}
-use Rattle.model.specs.Formed.{unlessLarge, formedOutcome, formed-is}
-use Rattle.model.specs.RoundingPass.{RoundedFrom}
+use Rattle.model.specs.FormedLaws.{formed-is}
 use Rattle.model.specs.declared.types.Model.{Model}
 use Rattle.model.specs.declared.multiply.Rounded.{Rounded}
 

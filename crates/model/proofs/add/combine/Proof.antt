@@ -15,7 +15,7 @@ use Rattle.integer.specs.Filling.{Filling, begins, turn, whole}
 use Rattle.chebyshev.specs.Coefficients.{weight, addLists, scaleList}
 use Rattle.chebyshev.specs.CoefficientLaws.{length-add, length-scale, getD-add, getD-scale}
 use Rattle.chebyshev.specs.Weight.{weight-at, weight-step, weight-end}
-use Rattle.model.specs.Combination.{combined-weight}
+use Rattle.model.specs.CombinationLaws.{combined-weight}
 use Rattle.model.proofs.add.combine.Statement.{statement}
 use Rattle.model.proofs.add.combine.Tie as tie
 

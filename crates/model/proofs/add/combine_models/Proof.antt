@@ -8,11 +8,12 @@ use native.Mathlib.Omega.{arith}
 use lib.ListN.{length}
 use mir.Facts.{toZ-ofZ}
 use Rattle.chebyshev.specs.Coefficients.{weight}
+use Rattle.model.specs.InnerContracts.{combination, combinedModel, formedOutcome}
 use Rattle.model.specs.Models.{good}
 use Rattle.model.specs.Outcomes.{outcome}
 use Rattle.model.specs.ModelLaws.{good-is}
-use Rattle.model.specs.Formed.{formedOutcome, formed-is}
-use Rattle.model.specs.Combination.{combinedModel, combination, combination-of-good}
+use Rattle.model.specs.FormedLaws.{formed-is}
+use Rattle.model.specs.CombinationLaws.{combination-of-good}
 use Rattle.model.specs.declared.types.Model.{Model}
 use Rattle.model.proofs.add.combine_models.Statement.{statement}
 use Rattle.model.proofs.add.combine_models.Tie as tie

@@ -6,9 +6,9 @@ use mathlib.Core.Logic.{⊎-elim}
 use mathlib.Core.Bool.{true}
 use Prim.Native.Nat.{ℕ, _≤_}
 use native.Mathlib.Omega.{arith}
+use Rattle.model.specs.InnerContracts.{unlessLarge}
 use Rattle.model.specs.Models.{maxDegree, good}
 use Rattle.model.specs.Outcomes.{outcome}
-use Rattle.model.specs.Formed.{unlessLarge}
 use Rattle.model.specs.Operations.{keptDegree, productModel, multiplication}
 use Rattle.model.specs.MultiplicationLaws.{multiplication-of-good}
 use Rattle.model.specs.declared.types.Model.{Model}

@@ -16,7 +16,7 @@ use Rattle.integer.specs.Machine.{signed-needs, abs-fits}
 use Rattle.chebyshev.specs.Coefficients.{weight}
 use Rattle.chebyshev.specs.Weight.{weight-at, weight-drop, weight-split}
 use Rattle.model.specs.Models.{maxWeight, scale}
-use Rattle.model.specs.RoundingPass.{roundedAt, lossAt, loss-small, product-small}
+use Rattle.model.specs.RoundingPassLaws.{roundedAt, lossAt, loss-small, product-small}
 use Rattle.model.proofs.RoundingWalk.{Walk, begins, turn, ends, small}
 use Rattle.model.proofs.multiply.round.Statement.{statement}
 use Rattle.model.proofs.multiply.round.Tie as tie

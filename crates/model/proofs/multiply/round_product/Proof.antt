@@ -16,7 +16,7 @@ use Rattle.chebyshev.specs.ProductLaws.{length-product}
 use Rattle.chebyshev.specs.ProductWeight.{weight-product}
 use Rattle.chebyshev.specs.ProductEnd.{product-end}
 use Rattle.model.specs.Models.{productSize}
-use Rattle.model.specs.RoundingPass.{rounded-prefix}
+use Rattle.model.specs.RoundingPassLaws.{rounded-prefix}
 use Rattle.model.proofs.multiply.round_product.Statement.{statement}
 use Rattle.model.proofs.multiply.round_product.Tie as tie
 

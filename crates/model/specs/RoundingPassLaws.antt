@@ -1,11 +1,11 @@
 -- Laws of the rounding in a product (Operations.antt): `rounded` and `roundingLoss` at a place, their steps, and their bounds.
 use mathlib.Core.Path.{_≡_, sym, _∙_, ap}
-use mathlib.Core.List.{List, [], _∷_, _++_}
-use Prim.Native.Nat.{ℕ, _+_, _-_, _*_, _<_, _≤_}
+use mathlib.Core.List.{List, [], _∷_}
+use Prim.Native.Nat.{ℕ, _+_, _*_, _<_, _≤_}
 use native.Mathlib.Omega.{arith}
 use native.Mathlib.Numerals.{add-one}
 use lib.IntN.{ℤ, pos, negℤ, natAbs, _-ℤ_, _*ℤ_}
-use lib.ListN.{length, getD, take, drop, replicate, length-map, drop-of-length-le, List·getD-map}
+use lib.ListN.{length, getD, take, drop, length-map, drop-of-length-le, List·getD-map}
 use lib.Seq.{drop-cons, take-take}
 use Rattle.integer.specs.Parts.{same, abs, apart, difference, abs-neg}
 use Rattle.integer.specs.Difference.{all3, differences}
@@ -14,7 +14,8 @@ use Rattle.integer.specs.RoundingLaws.{near-closer}
 use Rattle.integer.specs.RoundingSize.{near-size}
 use Rattle.chebyshev.specs.Coefficients.{weight}
 use Rattle.chebyshev.specs.Weight.{weight-split}
-use Rattle.model.specs.Models.{scale, coefficientCount, maxWeight}
+use Rattle.model.specs.InnerContracts.{RoundedFrom}
+use Rattle.model.specs.Models.{scale}
 use Rattle.model.specs.Operations.{rounded, roundingLoss}
 use Rattle.model.specs.declared.multiply.Rounded.{Rounded}
 
@@ -79,12 +80,7 @@ unfolding roundingLoss weight
 loss-weight [] = omega arith
 loss-weight (c ∷ cs) = omega (arith, loss-small c, loss-weight cs)
 
--- ---- the result of the pass over a list c, of which the first n numbers are kept
-
-pub record RoundedFrom (c : List ℤ) (n : ℕ) (r : Rounded) : Type 0 where
-  pub weight-is : r .weight ≡ weight (rounded (take n c))
-  pub loss-is : r .loss ≡ roundingLoss (take n c) + weight (drop n c)
-  pub coefficients-are : r .weight ≤ maxWeight → r .coefficients ≡ rounded (take n c) ++ replicate (coefficientCount - n) (pos 0)
+-- ---- the result of the pass
 
 -- nothing is lost with zeros at the end
 pub rounded-prefix : (c : List ℤ) (t n : ℕ) (r : Rounded) → weight (drop t c) ≡ 0 → n ≤ t → RoundedFrom (take t c) n r → RoundedFrom c n r

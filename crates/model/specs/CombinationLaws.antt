@@ -2,24 +2,18 @@
 use mathlib.Core.Path.{_≡_, refl, ap, ap₂}
 use mathlib.Core.Bool.{true}
 use mathlib.Core.List.{List, [], _∷_}
-use Prim.Native.Nat.{ℕ, _+_, _*_, _≤_, max}
+use Prim.Native.Nat.{ℕ, _+_, _*_, _≤_}
 use native.Mathlib.Omega.{arith}
 use lib.IntN.{ℤ, pos, negsuc, natAbs}
 use Rattle.integer.specs.Integer.{ℤ-ring, one-*}
 use Rattle.chebyshev.specs.Coefficients.{weight, addLists, scaleList, subtractLists}
 use Rattle.chebyshev.specs.CoefficientLaws.{opposite-scale}
 use Rattle.chebyshev.specs.Weight.{weight-add, weight-scale}
-use Rattle.model.specs.Models.{makeModel, zeroModel, good, badPlace, largePlace}
-use Rattle.model.specs.Outcomes.{Outcome, outcome}
-use Rattle.model.specs.Formed.{unlessLarge}
+use Rattle.model.specs.InnerContracts.{combination, combinedModel, unlessLarge}
+use Rattle.model.specs.Models.{good}
+use Rattle.model.specs.Outcomes.{outcome}
 use Rattle.model.specs.Operations.{sumModel, differenceModel, addition, subtraction}
 use Rattle.model.specs.declared.types.Model.{Model}
-
-unfoldable pub combinedModel : ℤ → Model → Model → Model
-combinedModel s a b = makeModel (max (a .degree) (b .degree)) (addLists ℤ-ring (a .coefficients) (scaleList ℤ-ring s (b .coefficients))) (a .radius + b .radius)
-
-unfoldable pub combination : ℤ → Model → Model → Outcome Model
-combination s a b = outcome (badPlace a ∷ badPlace b ∷ largePlace (combinedModel s a b) ∷ []) (combinedModel s a b) zeroModel
 
 pub combined-weight : (s : ℤ) (a b : List ℤ) → natAbs s ≡ 1 → weight (addLists ℤ-ring a (scaleList ℤ-ring s b)) ≤ weight a + weight b
 combined-weight s a b e = omega (arith, weight-add a (scaleList ℤ-ring s b), weight-scale s b, ap (λ (n : ℕ). n * weight b) e)
