@@ -3,7 +3,10 @@ pub mod TwoSums
 pub mod TestFits
 pub mod PlaceLaws
 pub mod Stages
-pub mod Residuals
+pub mod Residual
+pub mod ResidualLaws
+pub mod Numbers
+pub mod QuotientStages
 pub mod QuotientAlgebra
 pub mod QuotientConditions
 pub mod QuotientSound
@@ -14,6 +17,8 @@ pub mod RootRadius
 pub mod RootSound
 pub mod RootTheorem
 pub mod RootNumbers
+pub mod NumbersStages
 pub mod RootStages
 pub mod Discriminant
+pub mod RootEnd
 pub mod Examples

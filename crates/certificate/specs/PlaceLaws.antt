@@ -28,11 +28,13 @@ first-refused (p ∷ ps) qs k e = pick (p .0) (first-refused ps qs k) e
     pick true rest e = e
     pick false rest e = rest e
 
--- ---- one more place at the end
+pub passed-append : (ps qs : List (Bool × ℕ)) → Passed (ps ++ qs) ↔ (Passed ps × Passed qs)
+passed-append [] qs = (λ q. (tt, q), λ q. q .1)
+passed-append (p ∷ ps) qs =
+    let rest = passed-append ps qs in
+    (λ q. ((q .0, rest .0 (q .1) .0), rest .0 (q .1) .1), λ q. (q .0 .0, rest .1 (q .0 .1, q .1)))
 
-pub passed-last : (ps : List (Bool × ℕ)) (p : Bool × ℕ) → Passed (ps ++ (p ∷ [])) ↔ (Passed ps × (p .0 ≡ false))
-passed-last [] p = (λ q. (tt, q .0), λ q. (q .1, tt))
-passed-last (o ∷ ps) p = let rest = passed-last ps p in (λ q. ((q .0, rest .0 (q .1) .0), rest .0 (q .1) .1), λ q. (q .0 .0, rest .1 (q .0 .1, q .1)))
+-- ---- a place that never refuses
 
 -- n is none of the numbers of the list
 abbrev pub Without : ℕ → List (Bool × ℕ) → Type 0

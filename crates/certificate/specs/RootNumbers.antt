@@ -1,17 +1,12 @@
--- The root test up to N and b, which every root command shares, and its places one by one.
-use mathlib.Core.Path.{_≡_}
-use mathlib.Core.Bool.{true, false, _&&_, cond}
-use Prim.Native.Nat.{ℕ, _≤_, _<_}
+-- Contracts of src/root.rt, inside the crate: the root test up to N and b, which every root command shares, and what follows.
+use mathlib.Core.Bool.{cond}
+use Prim.Native.Nat.{ℕ}
 use lib.Dec.{eqb}
-use lib.IntN.{pos}
-use lib.Signed.{leZ}
-use borrow.Author.Tests.{lt-ltb, le-ltb, le-leb, lt-leb}
 use Rattle.chebyshev.specs.Coefficients.{weight}
-use Rattle.chebyshev.specs.Sign.{coefficientSum}
-use Rattle.model.specs.Models.{scale, maxRadius, good, numberOf, firstRefusal}
+use Rattle.model.specs.Models.{numberOf, firstRefusal, candidateModel}
 use Rattle.model.specs.declared.types.Model.{Model}
-use Rattle.certificate.specs.Tests.{scratchPlaces, rootPlaces, rootContraction, rootResidual, displacement}
-use Rattle.certificate.specs.Stages.{bad-model}
+use Rattle.model.specs.declared.types.Candidate.{Candidate}
+use Rattle.certificate.specs.Tests.{Test, tested, rootPlaces, rootLastPlaces, rootModel, rootContraction, rootResidual, displacement}
 use Rattle.certificate.specs.declared.types.RootNumbers.{RootNumbers}
 use Rattle.certificate.specs.declared.types.RootNumbers.the-variants.{Refused, Reached}
 
@@ -25,45 +20,17 @@ rootOutcomeOf (Refused v) = refused (numberOf v)
 rootOutcomeOf (Reached k m n b) = reached k m n b
 
 -- by the number of the first place that refuses
-abbrev outcomeAt : ℕ → Model → Model → Model → RootOutcome
-outcomeAt k f h w = cond (eqb k 0) (reached (weight (w .coefficients)) (rootContraction h w) (rootResidual f h) (displacement w (rootResidual f h))) (refused k)
+abbrev pub outcomeAt : ℕ → Model → Model → Model → RootOutcome
+outcomeAt k f h w =
+    let n = rootResidual f h in
+    cond (eqb k 0) (reached (weight (w .coefficients)) (rootContraction h w) n (displacement w n)) (refused k)
 
 unfoldable pub rootOutcome : ℕ → Model → Model → Model → RootOutcome
 rootOutcome len f h w = outcomeAt (firstRefusal (rootPlaces len f h w)) f h w
 
-module _ (len : ℕ) (f h w : Model) where
-  pub root-short : len < scratchPlaces → rootOutcome len f h w ≡ refused 1
-  unfolding rootOutcome rootPlaces firstRefusal
-  root-short e = rw (lt-ltb len scratchPlaces e)
+abbrev pub numbersOutcome : ℕ → Model → Candidate → Candidate → RootOutcome
+numbersOutcome len f h w = rootOutcome len f (candidateModel h) (candidateModel w)
 
-  module _ (room : scratchPlaces ≤ len) where
-    -- a scratch that is long enough plays no further part
-    pub root-room : rootOutcome len f h w ≡ rootOutcome scratchPlaces f h w
-    unfolding rootOutcome rootPlaces
-    root-room = rw (le-ltb len scratchPlaces room)
-
-    pub root-bad : (good f && (good h && good w)) ≡ false → rootOutcome len f h w ≡ refused 2
-    unfolding rootOutcome rootPlaces firstRefusal
-    root-bad e = rw (le-ltb len scratchPlaces room, bad-model true (good f) (good h) (good w) _ e)
-
-    module _ (gf : good f ≡ true) (gh : good h ≡ true) (gw : good w ≡ true) where
-      pub root-helper : leZ (coefficientSum (w .coefficients)) (pos 0) ≡ true → rootOutcome len f h w ≡ refused 7
-      unfolding rootOutcome rootPlaces firstRefusal
-      root-helper e = rw (le-ltb len scratchPlaces room, gf, gh, gw, e)
-
-      module _ (positive : leZ (coefficientSum (w .coefficients)) (pos 0) ≡ false) where
-        pub root-not-contracting : scale ≤ rootContraction h w → rootOutcome len f h w ≡ refused 5
-        unfolding rootOutcome rootPlaces firstRefusal
-        root-not-contracting e = rw (le-ltb len scratchPlaces room, gf, gh, gw, positive, le-leb scale (rootContraction h w) e)
-
-        module _ (contracting : rootContraction h w < scale) where
-          pub root-large-residual : maxRadius < rootResidual f h → rootOutcome len f h w ≡ refused 6
-          unfolding rootOutcome rootPlaces firstRefusal
-          root-large-residual e =
-              rw (le-ltb len scratchPlaces room, gf, gh, gw, positive, lt-leb scale (rootContraction h w) contracting, lt-ltb maxRadius (rootResidual f h) e)
-
-          pub root-reached : rootResidual f h ≤ maxRadius
-              → rootOutcome len f h w ≡ reached (weight (w .coefficients)) (rootContraction h w) (rootResidual f h) (displacement w (rootResidual f h))
-          unfolding rootOutcome rootPlaces firstRefusal
-          root-reached e =
-              rw (le-ltb len scratchPlaces room, gf, gh, gw, positive, lt-leb scale (rootContraction h w) contracting, le-ltb maxRadius (rootResidual f h) e)
+-- what follows N and b, where M is the weight of w
+abbrev pub rootEnd : Model → ℕ → ℕ → ℕ → ℕ → Test
+rootEnd h M m n b = tested (rootLastPlaces h M m b) (rootModel h m b) m n b

@@ -75,7 +75,7 @@ module _ (len : ℕ) (f h w : Model) (c : RootConditions len f h w) where
   helper-distance : (x : ℚ) → OnInterval x
       → ∣ whole (pos scale) *ℚ whole (pos scale) -ℚ whole (pos 2) *ℚ valueAt x (w .coefficients) *ℚ valueAt x (h .coefficients) ∣ℚ ≤ℚ whole (pos contractionWeight)
   helper-distance x on =
-      rw (← natural-mul scale scale, value-productList w h (c .good-w) (c .good-h) x)
+      rw (← natural-mul scale scale, value-productList w h (c .numbers .good-w) (c .numbers .good-h) x)
       (rw (value-constant ℚ-ring x (whole (pos (scale * scale)))) at (valueAt-difference on (pos (scale * scale) ∷ []) (productList w h)))
 
   -- w(x) > 0
@@ -83,8 +83,8 @@ module _ (len : ℕ) (f h w : Model) (c : RootConditions len f h w) where
   unfolding rootContraction
   helper-value x on =
       helper-positive (whole (pos scale) *ℚ whole (pos scale)) (whole (pos contractionWeight)) (w .coefficients) (h .coefficients)
-      (c .helper)
-      (λ k. omega (arith, le-pos (scale * scale) contractionWeight (whole-le _ _ .0 (rw (← natural-mul scale scale) at k)), le-upℕ contractionWeight scale (omega arith), c .contraction))
+      (c .numbers .helper)
+      (λ k. omega (arith, le-pos (scale * scale) contractionWeight (whole-le _ _ .0 (rw (← natural-mul scale scale) at k)), le-upℕ contractionWeight scale (omega arith), c .numbers .contraction))
       (λ y k. helper-distance y (record { above = abs-lower ℚ-ordered k; below = abs-upper ℚ-ordered k }))
       x (abs-le ℚ-ordered (on .below) (on .above))
 
@@ -107,7 +107,7 @@ module _ (len : ℕ) (f h w : Model) (c : RootConditions len f h w) where
         (rw (natural-add residualWeight (2 * scale * f .radius), natural-mul (2 * scale) (f .radius), natural-mul 2 scale)
         (residual-bound ℚ-ordered (whole (pos scale)) (valueAt x (f .coefficients)) (valueAt x (h .coefficients)) y v (whole (pos residualWeight)) (whole (pos (f .radius)))
         (ι-nonneg ℚ-ordered scale) (units-scale (valueAt x (h .coefficients)))
-        (rw (value-productList h h (c .good-h) (c .good-h) x, ← natural-mul 2 scale, ← valueAt-scale x (pos (2 * scale)) (f .coefficients)) (valueAt-difference on (productList h h) (scaleList ℤ-ring (pos (2 * scale)) (f .coefficients))))
+        (rw (value-productList h h (c .numbers .good-h) (c .numbers .good-h) x, ← natural-mul 2 scale, ← valueAt-scale x (pos (2 * scale)) (f .coefficients)) (valueAt-difference on (productList h h) (scaleList ℤ-ring (pos (2 * scale)) (f .coefficients))))
         allowed))
 
     bounds : RootBounds y (ofUnits (whole (pos ((rootResult f h w) .radius)))) v
@@ -123,15 +123,15 @@ module _ (len : ℕ) (f h w : Model) (c : RootConditions len f h w) where
         root-algebra ℚ-ordered (whole (pos scale)) (whole (pos m)) (whole (pos n)) (whole (pos b)) (whole (pos k)) (whole (pos M))
         (valueAt x (w .coefficients)) y (ofUnits (whole (pos r))) v
         (natural-positive scale (omega arith))
-        (sym (natural-add k m) ∙ ap (λ (j : ℕ). whole (pos j)) (omega (arith, c .contraction)))
-        (natural-positive k (omega (arith, c .contraction)))
+        (sym (natural-add k m) ∙ ap (λ (j : ℕ). whole (pos j)) (omega (arith, c .numbers .contraction)))
+        (natural-positive k (omega (arith, c .numbers .contraction)))
         (units-nonneg r)
         helper-residual
         root-residual
         (helper-value x on)
         (abs-upper ℚ-ordered (valueAt-weight on (w .coefficients)))
         (rw (← natural-mul M n, ← natural-mul b scale) (natural-le (le-upℕ (M * n) scale (omega arith))))
-        (rw (units-scale (whole (pos r)), ← natural-mul 2 b, ← natural-mul (2 * b) scale, ← natural-mul r k) (natural-le (le-upℕ (2 * b * scale) k (omega (arith, c .contraction)))))
+        (rw (units-scale (whole (pos r)), ← natural-mul 2 b, ← natural-mul (2 * b) scale, ← natural-mul r k) (natural-le (le-upℕ (2 * b * scale) k (omega (arith, c .numbers .contraction)))))
         (rw (← natural-mul 8 b, ← natural-mul (8 * b) M, ← natural-mul k k) (natural-le (c .discriminant))) in
         record { positive = facts .3; reaches = facts .0; above = facts .1; below = facts .2 }
 

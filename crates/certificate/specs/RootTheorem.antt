@@ -59,8 +59,11 @@ module _ (len : ℕ) (f h w : Model) (enough : scratchPlaces ≤ len) (gf : good
   unfolding rootB displacement
   conditions-holds =
       rw (← contraction-is h w gh gw, ← residual-is f h gh) (
-        λ c. (c .helper, c .contraction, c .residual, c .discriminant),
-        λ t. record { scratch = enough; good-f = gf; good-h = gh; good-w = gw; helper = t .0; contraction = t .1; residual = t .2; discriminant = t .3 },
+        λ c. (c .numbers .helper, c .numbers .contraction, c .numbers .residual, c .discriminant),
+        λ t. record {
+          numbers = record { scratch = enough; good-f = gf; good-h = gh; good-w = gw; helper = t .0; contraction = t .1; residual = t .2 };
+          discriminant = t .3;
+        },
       )
 
   -- "which these limits keep at or below 2^27"

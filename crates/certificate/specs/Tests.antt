@@ -11,7 +11,8 @@ use Rattle.integer.specs.Integer.{ℤ-ring}
 use Rattle.integer.specs.Rounding.{upℕ}
 use Rattle.chebyshev.specs.Coefficients.{weight, subtractLists, scaleList}
 use Rattle.chebyshev.specs.Sign.{coefficientSum}
-use Rattle.model.specs.Models.{scale, productPlaces, maxRadius, good, tooLarge, modelOf, zeroModel, numberOf, firstRefusal, candidateModel}
+use Rattle.model.specs.Models.{scale, productPlaces, maxRadius, good, tooLarge, modelOf, zeroModel, candidateModel}
+use Rattle.model.specs.Models.{numberOf, firstRefusal}
 use Rattle.model.specs.Operations.{productList}
 use Rattle.model.specs.declared.types.Model.{Model}
 use Rattle.model.specs.declared.types.Candidate.{Candidate}
@@ -28,6 +29,10 @@ unfoldable pub scratchAfter : List ℤ → List ℤ
 scratchAfter s = cond (leb scratchPlaces (length s)) (replicate scratchPlaces (pos 0) ++ drop scratchPlaces s) s
 
 -- ---- the numbers of the tests; "inside weight( ) a bare number stands at place 0"
+
+-- "Result h with radius"
+abbrev pub withRadius : Model → ℕ → Model
+withRadius h e = modelOf (h .degree) (h .coefficients) e
 
 -- "b = up(M·N/S)"
 unfoldable pub displacement : Model → ℕ → ℕ
@@ -51,7 +56,7 @@ quotientResidual f g h =
 
 -- "Result h with radius up(b·S/(S−m))"
 unfoldable pub quotientModel : Model → ℕ → ℕ → Model
-quotientModel h m b = modelOf (h .degree) (h .coefficients) (upℕ (b * scale) (scale - m))
+quotientModel h m b = withRadius h (upℕ (b * scale) (scale - m))
 
 -- "m = up(weight(S² − C(w,h))/S)"
 unfoldable pub rootContraction : Model → Model → ℕ
@@ -61,12 +66,13 @@ rootContraction h w = upℕ (weight (subtractLists ℤ-ring (pos (scale * scale)
 unfoldable pub rootResidual : Model → Model → ℕ
 rootResidual f h =
     upℕ
-    (weight (subtractLists ℤ-ring (productList h h) (scaleList ℤ-ring (pos (2 * scale)) (f .coefficients))) + 2 * scale * f .radius)
+    (weight (subtractLists ℤ-ring (productList h h) (scaleList ℤ-ring (pos (2 * scale)) (f .coefficients)))
+    + 2 * scale * f .radius)
     (2 * scale)
 
 -- "Result h with radius up(2·b·S/(S−m))"
 unfoldable pub rootModel : Model → ℕ → ℕ → Model
-rootModel h m b = modelOf (h .degree) (h .coefficients) (upℕ (2 * b * scale) (scale - m))
+rootModel h m b = withRadius h (upℕ (2 * b * scale) (scale - m))
 
 -- ---- the answers: number, model, m, N and b. "Any other number an entry answers, or a record holds, is zero on refusal too."
 
@@ -78,7 +84,13 @@ pub record Test : Type 0 where
   pub b : ℕ
 
 abbrev pub testOf : Certified → Test
-testOf r = record { number = numberOf (r .verdict); model = r .model; m = r .contraction; N = r .residual; b = r .displacement }
+testOf r = record {
+  number = numberOf (r .verdict);
+  model = r .model;
+  m = r .contraction;
+  N = r .residual;
+  b = r .displacement;
+}
 
 unfoldable pub tested : List (Bool × ℕ) → Model → ℕ → ℕ → ℕ → Test
 tested ps r m n b = record {
@@ -114,13 +126,18 @@ rootPlaces len f h w =
     (ltb len scratchPlaces, 1) ∷ (not (good f), 2) ∷ (not (good h), 2) ∷ (not (good w), 2)
     ∷ (leZ (coefficientSum (w .coefficients)) (pos 0), 7) ∷ testPlaces (rootContraction h w) (rootResidual f h)
 
+-- behind them 8, "(S−m)² < 8·b·M", and the result; M is the weight of w
+abbrev pub negativeDiscriminant : ℕ → ℕ → ℕ → Bool
+negativeDiscriminant m b M = ltb ((scale - m) * (scale - m)) (8 * b * M)
+
+abbrev pub rootLastPlaces : Model → ℕ → ℕ → ℕ → List (Bool × ℕ)
+rootLastPlaces h M m b = (negativeDiscriminant m b M, 8) ∷ (tooLarge (rootModel h m b), 3) ∷ []
+
 -- "The test: Σ w_k > 0, m < S, N ≤ 2^28, (S−m)² ≥ 8·b·M."
 abbrev pub rootTestPlaces : ℕ → Model → Model → Model → List (Bool × ℕ)
 rootTestPlaces len f h w =
-    let m = rootContraction h w in
-    let b = displacement w (rootResidual f h) in
     rootPlaces len f h w
-    ++ ((ltb ((scale - m) * (scale - m)) (8 * b * weight (w .coefficients)), 8) ∷ (tooLarge (rootModel h m b), 3) ∷ [])
+    ++ rootLastPlaces h (weight (w .coefficients)) (rootContraction h w) (displacement w (rootResidual f h))
 
 unfoldable pub rootOf : ℕ → Model → Model → Model → Test
 rootOf len f h w =

@@ -1,11 +1,11 @@
 // The quotient test: is h a quotient f/g, with w as a helper?
 ghost use mathlib.Core.Path.{_≡_};
-ghost use mathlib.Core.Bool.{true};
 ghost use lib.ListN.{length};
-ghost use Rattle.integer.specs.Clearing.{zeros};
 ghost use Rattle.chebyshev.specs.Coefficients.{weight};
-ghost use Rattle.model.specs.Models.{good, candidateModel};
+ghost use Rattle.model.specs.Models.{candidateModel};
 ghost use Rattle.certificate.specs.Tests.{scratchPlaces, scratchAfter, testOf, quotientTest};
+ghost use Rattle.certificate.specs.Residual.{Lent};
+ghost use Rattle.certificate.specs.Numbers.{QuotientReady};
 use crate::numbers::SCALE;
 use crate::numbers::displacement;
 use crate::numbers::quotient_contraction;
@@ -20,7 +20,7 @@ use model::types::Candidate;
 use model::types::Model;
 use model::types::Verdict;
 
-// The test of good models and candidates, in a part that is zero before and after.
+// The test of good models and candidates, over a lent part.
 fn test_good(
     part: &mut [i64],
     f: Model,
@@ -30,10 +30,10 @@ fn test_good(
     w: Candidate,
     w_weight: u64,
 ) -> Certified
-    requires { ⌜ (now part ≡ zeros scratchPlaces) × (good f ≡ true) × (good g ≡ true) × (good (candidateModel h) ≡ true) × (good (candidateModel w) ≡ true) ⌝ }
+    requires { ⌜ QuotientReady (now part) f g (candidateModel h) (candidateModel w) ⌝ }
     requires { ⌜ («h_weight» ≡ weight (h .coefficients)) × («w_weight» ≡ weight (w .coefficients)) ⌝ }
     ensures { λ (r : Certified). ⌜ testOf r ≡ quotientTest scratchPlaces f g h w ⌝ }
-    ensures { λ _. ⌜ now (part .exit) ≡ zeros scratchPlaces ⌝ }
+    ensures { λ _. ⌜ Lent (now (part .exit)) ⌝ }
 {
     let m = quotient_contraction(part, g, w, w_weight);
     if m < SCALE {
@@ -54,7 +54,7 @@ fn test_good(
 fn test_in(part: &mut [i64], f: Model, g: Model, h: Candidate, w: Candidate) -> Certified
     requires { ⌜ length (now part) ≡ scratchPlaces ⌝ }
     ensures { λ (r : Certified). ⌜ testOf r ≡ quotientTest scratchPlaces f g h w ⌝ }
-    ensures { λ _. ⌜ now (part .exit) ≡ zeros scratchPlaces ⌝ }
+    ensures { λ _. ⌜ Lent (now (part .exit)) ⌝ }
 {
     clear(part);
     if measure(f).good {

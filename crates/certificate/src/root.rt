@@ -1,16 +1,13 @@
 // The root test: is h a square root of f, with w as a helper?
 ghost use mathlib.Core.Path.{_≡_};
-ghost use mathlib.Core.Bool.{true};
-ghost use mathlib.Core.List.{[], _∷_};
-ghost use Prim.Native.Nat.{_*_, _-_, _^_, _≤_, _<_};
-ghost use lib.Dec.{ltb};
 ghost use lib.ListN.{length};
-ghost use Rattle.integer.specs.Clearing.{zeros};
 ghost use Rattle.chebyshev.specs.Coefficients.{weight as weightOf};
 ghost use Rattle.chebyshev.specs.Sign.{coefficientSum};
-ghost use Rattle.model.specs.Models.{scale, places, maxWeight, good, tooLarge, candidateModel};
-ghost use Rattle.certificate.specs.Tests.{scratchPlaces, scratchAfter, testOf, tested, rootModel, rootTest};
-ghost use Rattle.certificate.specs.RootNumbers.{rootOutcomeOf, rootOutcome};
+ghost use Rattle.model.specs.Models.{places, candidateModel};
+ghost use Rattle.certificate.specs.Tests.{scratchPlaces, scratchAfter, testOf, rootTest};
+ghost use Rattle.certificate.specs.Residual.{Lent};
+ghost use Rattle.certificate.specs.Numbers.{RootReady, RootLast};
+ghost use Rattle.certificate.specs.RootNumbers.{rootOutcomeOf, numbersOutcome, rootEnd};
 use crate::numbers::SCALE;
 use crate::numbers::displacement;
 use crate::numbers::root_contraction;
@@ -41,7 +38,7 @@ fn total(coefficients: &[i32; PLACES]) -> i64
     sum
 }
 
-// The places from the helper's sign to N, of good models and candidates, in a part that is zero before and after.
+// The places from the helper's sign to N, of good models and candidates, over a lent part.
 fn numbers_of_good(
     part: &mut [i64],
     f: Model,
@@ -49,9 +46,9 @@ fn numbers_of_good(
     w: Candidate,
     weight: u64,
 ) -> RootNumbers
-    requires { ⌜ (now part ≡ zeros scratchPlaces) × (good f ≡ true) × (good (candidateModel h) ≡ true) × (good (candidateModel w) ≡ true) × (weight ≡ weightOf (w .coefficients)) ⌝ }
-    ensures { λ (r : RootNumbers). ⌜ rootOutcomeOf r ≡ rootOutcome scratchPlaces f (candidateModel h) (candidateModel w) ⌝ }
-    ensures { λ _. ⌜ now (part .exit) ≡ zeros scratchPlaces ⌝ }
+    requires { ⌜ RootReady (now part) f (candidateModel h) (candidateModel w) × (weight ≡ weightOf (w .coefficients)) ⌝ }
+    ensures { λ (r : RootNumbers). ⌜ rootOutcomeOf r ≡ numbersOutcome scratchPlaces f h w ⌝ }
+    ensures { λ _. ⌜ Lent (now (part .exit)) ⌝ }
 {
     if total(&w.coefficients) <= 0 {
         return RootNumbers::Refused(Verdict::HelperNotPositive);
@@ -78,8 +75,8 @@ fn numbers_of_good(
 // The places through N in a part of the scratch, which is zero afterwards.
 fn numbers_in(part: &mut [i64], f: Model, h: Candidate, w: Candidate) -> RootNumbers
     requires { ⌜ length (now part) ≡ scratchPlaces ⌝ }
-    ensures { λ (r : RootNumbers). ⌜ rootOutcomeOf r ≡ rootOutcome scratchPlaces f (candidateModel h) (candidateModel w) ⌝ }
-    ensures { λ _. ⌜ now (part .exit) ≡ zeros scratchPlaces ⌝ }
+    ensures { λ (r : RootNumbers). ⌜ rootOutcomeOf r ≡ numbersOutcome scratchPlaces f h w ⌝ }
+    ensures { λ _. ⌜ Lent (now (part .exit)) ⌝ }
 {
     clear(part);
     if measure(f).good {
@@ -95,7 +92,7 @@ fn numbers_in(part: &mut [i64], f: Model, h: Candidate, w: Candidate) -> RootNum
 
 // The places through N, and b.
 pub(crate) fn root_numbers(f: Model, h: Candidate, w: Candidate, scratch: &mut [i64]) -> RootNumbers
-    ensures { λ (r : RootNumbers). ⌜ rootOutcomeOf r ≡ rootOutcome (length (now (scratch .entry))) f (candidateModel h) (candidateModel w) ⌝ }
+    ensures { λ (r : RootNumbers). ⌜ rootOutcomeOf r ≡ numbersOutcome (length (now (scratch .entry))) f h w ⌝ }
     ensures { λ _. ⌜ now (scratch .exit) ≡ scratchAfter (now (scratch .entry)) ⌝ }
 {
     if scratch.len() < SCRATCH_PLACES {
@@ -106,9 +103,8 @@ pub(crate) fn root_numbers(f: Model, h: Candidate, w: Candidate, scratch: &mut [
 
 // Discriminant and radius. 8·b·M may pass 64 bits, so b is compared with (S-m)² / (8·M). The result is never too large.
 fn root_result(h: Candidate, weight: u64, m: u64, n: u64, b: u64) -> Certified
-    requires { ⌜ (good (candidateModel h) ≡ true) × (0 < weight) × (weight ≤ maxWeight) × (m < scale) × (b ≤ 2 ^ 36) ⌝ }
-    requires { ⌜ (scale - m) * scale ≤ 2 ^ 29 * weight ⌝ }
-    ensures { λ (r : Certified). ⌜ testOf r ≡ tested ((ltb ((scale - m) * (scale - m)) (8 * b * weight), 8) ∷ (tooLarge (rootModel (candidateModel h) m b), 3) ∷ []) (rootModel (candidateModel h) m b) m n b ⌝ }
+    requires { ⌜ RootLast (candidateModel h) weight m b ⌝ }
+    ensures { λ (r : Certified). ⌜ testOf r ≡ rootEnd (candidateModel h) weight m n b ⌝ }
 {
     let gap = SCALE - m;
     if b <= gap * gap / (8 * weight) {

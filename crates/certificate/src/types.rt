@@ -1,11 +1,10 @@
 // What a test answers.
 ghost use mathlib.Core.Path.{_≡_};
 ghost use mathlib.Core.Bool.{true};
-ghost use mathlib.Core.List.{[], _∷_};
-ghost use Rattle.model.specs.Models.{good, tooLarge, modelOf, candidateModel, zeroModel};
+ghost use Rattle.model.specs.Models.{good, candidateModel, zeroModel};
 ghost use Rattle.model.specs.declared.types.Verdict.the-variants.{Accepted};
-ghost use Rattle.certificate.specs.Tests.{testOf, tested};
-ghost use Rattle.certificate.specs.Stages.{certifiedOf};
+ghost use Rattle.certificate.specs.Tests.{withRadius, testOf};
+ghost use Rattle.certificate.specs.Stages.{certifiedOf, formedTest};
 use model::types::Candidate;
 use model::types::Model;
 use model::types::PRODUCT_PLACES;
@@ -44,7 +43,8 @@ impl Certified {
         residual: u64,
         displacement: u64,
     ) -> Certified
-        ensures { λ (r : Certified). ⌜ r ≡ certifiedOf Accepted (modelOf (h .degree) (h .coefficients) radius) contraction residual displacement ⌝ }
+        ensures { λ (r : Certified).
+            ⌜ r ≡ certifiedOf Accepted (withRadius (candidateModel h) radius) contraction residual displacement ⌝ }
     {
         let coefficients = h.coefficients;
         Certified {
@@ -65,7 +65,7 @@ impl Certified {
         displacement: u64,
     ) -> Certified
         requires { ⌜ good (candidateModel h) ≡ true ⌝ }
-        ensures { λ (r : Certified). ⌜ testOf r ≡ tested ((tooLarge (modelOf (h .degree) (h .coefficients) radius), 3) ∷ []) (modelOf (h .degree) (h .coefficients) radius) contraction residual displacement ⌝ }
+        ensures { λ (r : Certified). ⌜ testOf r ≡ formedTest (candidateModel h) radius contraction residual displacement ⌝ }
     {
         if radius <= Model::MAX_RADIUS {
             return Certified::accepted(h, radius as u32, contraction, residual, displacement);
