@@ -1,5 +1,7 @@
 pub mod Tests
 pub mod TwoSums
+pub mod RootBounds
+pub mod TwoSumsLaws
 pub mod TestFits
 pub mod PlaceLaws
 pub mod Stages

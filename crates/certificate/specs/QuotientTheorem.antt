@@ -13,33 +13,10 @@ use Rattle.chebyshev.specs.Coefficients.{weight, subtractLists, scaleList}
 use Rattle.model.specs.Models.{scale, productPlaces, maxRadius, good, modelOf}
 use Rattle.model.specs.declared.types.Model.{Model}
 use Rattle.certificate.specs.Tests.{scratchPlaces, quotientOf, quotientContraction, quotientResidual, quotientModel, displacement}
-use Rattle.certificate.specs.TwoSums.{twoSumsList, productList-good}
+use Rattle.certificate.specs.TwoSums.{quotientM, quotientN, quotientB, quotientRadius}
+use Rattle.certificate.specs.TwoSumsLaws.{productList-good}
 use Rattle.certificate.specs.Stages.{large-radius}
 use Rattle.certificate.specs.QuotientConditions.{quotientResult, quotient-passes, quotient-result}
-
--- "m = up((weight(2S² − C(w,g)) + 2·M·e_g)/(2S))"
-unfoldable pub quotientM : Model → Model → ℕ
-quotientM g w =
-    upℕ
-    (weight (subtractLists ℤ-ring (pos (2 * scale * scale) ∷ []) (twoSumsList productPlaces (w .coefficients) (g .coefficients))) + 2 * weight (w .coefficients) * g .radius)
-    (2 * scale)
-
--- "N = up((weight(C(g,h) − 2S·f) + 2S·e_f + 2·H·e_g)/(2S))"
-unfoldable pub quotientN : Model → Model → Model → ℕ
-quotientN f g h =
-    upℕ
-    (weight (subtractLists ℤ-ring (twoSumsList productPlaces (g .coefficients) (h .coefficients)) (scaleList ℤ-ring (pos (2 * scale)) (f .coefficients)))
-    + 2 * scale * f .radius
-    + 2 * weight (h .coefficients) * g .radius)
-    (2 * scale)
-
--- "b = up(M·N/S)"
-unfoldable pub quotientB : Model → Model → Model → Model → ℕ
-quotientB f g h w = upℕ (weight (w .coefficients) * quotientN f g h) scale
-
--- "radius up(b·S/(S−m))"
-unfoldable pub quotientRadius : Model → Model → Model → Model → ℕ
-quotientRadius f g h w = upℕ (quotientB f g h w * scale) (scale - quotientM g w)
 
 contraction-is : (g w : Model) → good g ≡ true → good w ≡ true → quotientContraction g w ≡ quotientM g w
 unfolding quotientM quotientContraction

@@ -26,20 +26,11 @@ use Rattle.model.specs.GoodLaws.{value-productList}
 use Rattle.model.specs.Operations.{productList}
 use Rattle.model.specs.declared.types.Model.{Model}
 use Rattle.certificate.specs.Tests.{Test, rootOf, rootModel, rootContraction, rootResidual, displacement}
+use Rattle.certificate.specs.RootBounds.{RootBounds, ofUnits}
 use Rattle.certificate.specs.RootAlgebra.{helper-bound, residual-bound, root-algebra, root-choice}
 use Rattle.certificate.specs.RootConditions.{RootConditions, rootDisplacement, rootResult, root-passes, root-result}
 
--- v > 0, and √v lies between y − ρ and y + ρ
-pub record RootBounds (y ρ v : ℚ) : Type 0 where
-  pub positive : whole (pos 0) <ℚ v
-  pub reaches : whole (pos 0) ≤ℚ y +ℚ ρ
-  pub above : v ≤ℚ (y +ℚ ρ) *ℚ (y +ℚ ρ)
-  pub below : (y -ℚ ρ ≤ℚ whole (pos 0)) ⊎ ((y -ℚ ρ) *ℚ (y -ℚ ρ) ≤ℚ v)
-
--- ---- units: 01's "One unit is 1/S."
-
-abbrev pub ofUnits : ℚ → ℚ
-ofUnits z = z /ℚ whole (pos scale)
+-- ---- units
 
 units-scale : (z : ℚ) → ofUnits z *ℚ whole (pos scale) ≡ z
 units-scale z = quotient-mul z (whole (pos scale)) (λ e. natural-positive scale (omega arith) (le-of-eq ℚ-ordered e))

@@ -16,35 +16,10 @@ use Rattle.chebyshev.specs.Sign.{coefficientSum}
 use Rattle.model.specs.Models.{scale, productPlaces, good, modelOf}
 use Rattle.model.specs.declared.types.Model.{Model}
 use Rattle.certificate.specs.Tests.{scratchPlaces, rootOf, rootModel, rootContraction, rootResidual, displacement}
-use Rattle.certificate.specs.TwoSums.{twoSumsList, productList-good}
+use Rattle.certificate.specs.TwoSums.{rootM, rootN, rootB, rootRadius, RootHolds}
+use Rattle.certificate.specs.TwoSumsLaws.{productList-good}
 use Rattle.certificate.specs.RootConditions.{RootConditions, root-passes, root-result}
 use Rattle.certificate.specs.RootRadius.{root-radius-bound, root-fits}
-
--- "m = up(weight(S² − C(w,h))/S)"
-unfoldable pub rootM : Model → Model → ℕ
-rootM h w = upℕ (weight (subtractLists ℤ-ring (pos (scale * scale) ∷ []) (twoSumsList productPlaces (w .coefficients) (h .coefficients)))) scale
-
--- "N = up((weight(C(h,h) − 2S·f) + 2S·e_f)/(2S))"
-unfoldable pub rootN : Model → Model → ℕ
-rootN f h =
-    upℕ
-    (weight (subtractLists ℤ-ring (twoSumsList productPlaces (h .coefficients) (h .coefficients)) (scaleList ℤ-ring (pos (2 * scale)) (f .coefficients)))
-    + 2 * scale * f .radius)
-    (2 * scale)
-
--- "b = up(M·N/S)"
-unfoldable pub rootB : Model → Model → Model → ℕ
-rootB f h w = upℕ (weight (w .coefficients) * rootN f h) scale
-
--- "radius up(2·b·S/(S−m))"
-unfoldable pub rootRadius : Model → Model → Model → ℕ
-rootRadius f h w = upℕ (2 * rootB f h w * scale) (scale - rootM h w)
-
--- "The test: Σ w_k > 0, m < S, N ≤ 2^28, (S−m)² ≥ 8·b·M."
-abbrev pub RootHolds : Model → Model → Model → Type 0
-RootHolds f h w =
-    (pos 0 <ℤ coefficientSum (w .coefficients)) × (rootM h w < scale) × (rootN f h ≤ 2 ^ 28)
-    × (8 * rootB f h w * weight (w .coefficients) ≤ (scale - rootM h w) * (scale - rootM h w))
 
 contraction-is : (h w : Model) → good h ≡ true → good w ≡ true → rootContraction h w ≡ rootM h w
 unfolding rootM rootContraction
