@@ -8,7 +8,7 @@ use lib.ListN.{length, getD, set, drop}
 use Rattle.integer.specs.Clearing.{Clearing, clearing-begins, clearing-turn, clearing-ends}
 use Rattle.chebyshev.specs.Coefficients.{weight}
 use Rattle.chebyshev.specs.Weight.{weight-step, weight-end}
-use Rattle.certificate.specs.Residual.{Drained}
+use Rattle.certificate.specs.InnerContracts.{Drained}
 
 -- the invariant after k places: what is summed and what is left of the weight is the whole of it, and k numbers are zero
 pub record Draining (D start part : List ℤ) (sum k : ℕ) : Type 0 where

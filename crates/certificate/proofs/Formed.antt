@@ -16,7 +16,7 @@ use Rattle.chebyshev.specs.ProductLaws.{length-product}
 use Rattle.chebyshev.specs.ProductWeight.{weight-product}
 use Rattle.model.specs.Models.{productPlaces}
 use Rattle.certificate.specs.Tests.{scratchPlaces, scratchAfter}
-use Rattle.certificate.specs.Residual.{Lent, Factors, productUpTo}
+use Rattle.certificate.specs.InnerContracts.{Lent, FactorsUpTo, productUpTo}
 use Rattle.certificate.specs.Stages.{scratch-cleared}
 
 module _ {part : List ℤ} (l : Lent part) where
@@ -33,7 +33,7 @@ pub record Formed (c : List ℤ) : Type 0 where
   pub width : length c ≡ productPlaces
   pub weight-le : weight c ≤ 2 ^ 57
 
-pub formed : {a : List ℤ} {n : ℕ} {b : List ℤ} {k : ℕ} → Factors a n b k → (c : List ℤ) → c ≡ productUpTo a n b k → Formed c
+pub formed : {a : List ℤ} {n : ℕ} {b : List ℤ} {k : ℕ} → FactorsUpTo a n b k → (c : List ℤ) → c ≡ productUpTo a n b k → Formed c
 formed {a} {n} {b} {k} f c e = record {
   width = ap length e ∙ length-product ℤ-ring productPlaces (take (suc n) a) (take (suc k) b);
   weight-le =

@@ -13,18 +13,17 @@ use Rattle.model.specs.ModelLaws.{good-is}
 use Rattle.model.specs.Operations.{productList}
 use Rattle.model.specs.GoodLaws.{weight-productList}
 use Rattle.model.specs.declared.types.Model.{Model}
-use Rattle.certificate.specs.Residual.{residualList, constantResidual, Factors}
+use Rattle.certificate.specs.InnerContracts.{residualList, constantResidual, FactorsUpTo, Ready}
 use Rattle.certificate.specs.ResidualLaws.{weight-residual, weight-constant-le}
-use Rattle.certificate.specs.Numbers.{Ready}
 
 module _ {part : List ℤ} {a b : Model} (r : Ready part a b) where
   pub factors : length (a .coefficients) ≡ places → length (b .coefficients) ≡ places
-      → Factors (a .coefficients) (a .degree) (b .coefficients) (b .degree)
+      → FactorsUpTo (a .coefficients) (a .degree) (b .coefficients) (b .degree)
   factors la lb =
       let of-a = good-is a (r .first-good) in
       let of-b = good-is b (r .second-good) in record {
-        first = la;
-        second = lb;
+        first-all = la;
+        second-all = lb;
         first-degree = of-a .degree-fits;
         second-degree = of-b .degree-fits;
         weights = mul-le-mul (of-a .weight-fits) (of-b .weight-fits);

@@ -1,13 +1,12 @@
 pub mod Tests
+pub mod InnerContracts
 pub mod TwoSums
 pub mod RootBounds
 pub mod TwoSumsLaws
 pub mod TestFits
 pub mod PlaceLaws
 pub mod Stages
-pub mod Residual
 pub mod ResidualLaws
-pub mod Numbers
 pub mod QuotientStages
 pub mod QuotientAlgebra
 pub mod QuotientConditions
@@ -18,7 +17,6 @@ pub mod RootConditions
 pub mod RootRadius
 pub mod RootSound
 pub mod RootTheorem
-pub mod RootNumbers
 pub mod NumbersStages
 pub mod RootStages
 pub mod Discriminant

@@ -12,9 +12,8 @@ use Rattle.chebyshev.specs.Sign.{coefficientSum}
 use Rattle.model.specs.Models.{scale, maxRadius, good, firstRefusal}
 use Rattle.model.specs.declared.types.Model.{Model}
 use Rattle.certificate.specs.Tests.{scratchPlaces, rootPlaces, rootContraction, rootResidual, displacement}
-use Rattle.certificate.specs.Numbers.{RootReady}
+use Rattle.certificate.specs.InnerContracts.{RootReady, refused, reached, rootOutcome}
 use Rattle.certificate.specs.Stages.{bad-model}
-use Rattle.certificate.specs.RootNumbers.{refused, reached, rootOutcome}
 
 module _ (len : ℕ) (f h w : Model) where
   pub numbers-short : len < scratchPlaces → rootOutcome len f h w ≡ refused 1

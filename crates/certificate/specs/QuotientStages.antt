@@ -11,8 +11,8 @@ use Rattle.chebyshev.specs.Coefficients.{weight}
 use Rattle.model.specs.Models.{scale, maxRadius, good, firstRefusal}
 use Rattle.model.specs.declared.types.Model.{Model}
 use Rattle.certificate.specs.Tests.{tested, scratchPlaces, displacement, quotientOf, quotientContraction, quotientResidual, quotientModel}
-use Rattle.certificate.specs.Numbers.{QuotientReady}
-use Rattle.certificate.specs.Stages.{refusedTest, formedTest, tested-refuse, bad-model}
+use Rattle.certificate.specs.InnerContracts.{QuotientReady, formedTest}
+use Rattle.certificate.specs.Stages.{refusedTest, tested-refuse, bad-model}
 
 pub quotient-short : (len : ℕ) (f g h w : Model) → len < scratchPlaces → quotientOf len f g h w ≡ refusedTest 1
 unfolding quotientOf

@@ -11,7 +11,7 @@ use Rattle.chebyshev.specs.Coefficients.{weight, addLists, subtractLists, scale
 use Rattle.chebyshev.specs.CoefficientLaws.{length-subtract, length-scale, getD-subtract, getD-scale, subtract-split}
 use Rattle.chebyshev.specs.Weight.{weight-subtract, weight-scale, weight-append, weight-drop, weight-opposite}
 use Rattle.model.specs.Models.{scale}
-use Rattle.certificate.specs.Residual.{residualList, constantResidual}
+use Rattle.certificate.specs.InnerContracts.{residualList, constantResidual}
 
 module _ (c f : List ℤ) where
   pub length-residual : length (residualList c f) ≡ max (length c) (length f)

@@ -8,9 +8,8 @@ use Rattle.integer.specs.RoundingLaws.{upℕ-least}
 use Rattle.model.specs.Models.{scale, maxRadius, firstRefusal}
 use Rattle.model.specs.declared.types.Model.{Model}
 use Rattle.certificate.specs.Tests.{tested, withRadius, rootModel}
-use Rattle.certificate.specs.Numbers.{RootLast}
+use Rattle.certificate.specs.InnerContracts.{RootLast, rootEnd}
 use Rattle.certificate.specs.Stages.{passedTest, refusedTest, large-radius}
-use Rattle.certificate.specs.RootNumbers.{rootEnd}
 use Rattle.certificate.specs.RootRadius.{numerator-bound}
 use Rattle.certificate.specs.Discriminant.{discriminant-quotient, discriminant-test}
 

@@ -11,10 +11,9 @@ use Rattle.model.specs.ModelLaws.{good-is}
 use Rattle.model.specs.RefusalLaws.{first-refusal-zero}
 use Rattle.model.specs.declared.types.Model.{Model}
 use Rattle.certificate.specs.Tests.{tested, rootOf, rootPlaces, rootTestPlaces, rootContraction, rootResidual, displacement}
-use Rattle.certificate.specs.Numbers.{RootLast}
+use Rattle.certificate.specs.InnerContracts.{RootLast, refused, reached, rootOutcome, rootEnd}
 use Rattle.certificate.specs.PlaceLaws.{first-passed, first-refused}
 use Rattle.certificate.specs.Stages.{refusedTest, displacement-bound}
-use Rattle.certificate.specs.RootNumbers.{refused, reached, rootOutcome, rootEnd}
 use Rattle.certificate.specs.RootConditions.{NumbersConditions, numbers-numbered, numbers-conditions}
 use Rattle.certificate.specs.RootRadius.{gap-bound}
 use Rattle.certificate.specs.Discriminant.{weight-positive}

@@ -16,13 +16,7 @@ use Rattle.chebyshev.specs.Coefficients.{weight}
 use Rattle.model.specs.Models.{scale, maxDegree, maxWeight, maxRadius, good, tooLarge, zeroModel, firstRefusal}
 use Rattle.model.specs.ModelLaws.{good-is}
 use Rattle.model.specs.declared.types.Model.{Model}
-use Rattle.model.specs.declared.types.Verdict.{Verdict}
 use Rattle.certificate.specs.Tests.{Test, tested, withRadius, scratchPlaces, scratchAfter, quotientOf, rootPlaces, rootOf}
-use Rattle.certificate.specs.declared.types.Certified.{Certified}
-
--- the answer with these parts
-abbrev pub certifiedOf : Verdict → Model → ℕ → ℕ → ℕ → Certified
-certifiedOf v r m n b = record { verdict = v; model = r; contraction = m; residual = n; displacement = b }
 
 -- the answer of a refusal with number k
 abbrev pub refusedTest : ℕ → Test
@@ -31,10 +25,6 @@ refusedTest k = record { number = k; model = zeroModel; m = 0; N = 0; b = 0 }
 -- the answer of a test that passes
 abbrev pub passedTest : Model → ℕ → ℕ → ℕ → Test
 passedTest r m n b = record { number = 0; model = r; m = m; N = n; b = b }
-
--- the answer of a test that passes unless h with radius e is too large
-abbrev pub formedTest : Model → ℕ → ℕ → ℕ → ℕ → Test
-formedTest h e m n b = tested ((tooLarge (withRadius h e), 3) ∷ []) (withRadius h e) m n b
 
 pub tested-zero : (ps : List (Bool × ℕ)) (r : Model) (m n b : ℕ) → firstRefusal ps ≡ 0 → tested ps r m n b ≡ passedTest r m n b
 unfolding tested

@@ -35,7 +35,9 @@ unfoldable pub quotientN : Model → Model → Model → ℕ
 quotientN f g h =
     upℕ
     (weight
-    (subtractLists ℤ-ring (twoSumsList (g .coefficients) (h .coefficients)) (scaleList ℤ-ring (pos (2 * scale)) (f .coefficients)))
+    (subtractLists ℤ-ring
+    (twoSumsList (g .coefficients) (h .coefficients))
+    (scaleList ℤ-ring (pos (2 * scale)) (f .coefficients)))
     + 2 * scale * f .radius
     + 2 * weight (h .coefficients) * g .radius)
     (2 * scale)
@@ -60,7 +62,9 @@ unfoldable pub rootN : Model → Model → ℕ
 rootN f h =
     upℕ
     (weight
-    (subtractLists ℤ-ring (twoSumsList (h .coefficients) (h .coefficients)) (scaleList ℤ-ring (pos (2 * scale)) (f .coefficients)))
+    (subtractLists ℤ-ring
+    (twoSumsList (h .coefficients) (h .coefficients))
+    (scaleList ℤ-ring (pos (2 * scale)) (f .coefficients)))
     + 2 * scale * f .radius)
     (2 * scale)
 

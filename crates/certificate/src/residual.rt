@@ -7,8 +7,7 @@ ghost use lib.ListN.{length, take, drop};
 ghost use Rattle.integer.specs.Clearing.{zeros};
 ghost use Rattle.chebyshev.specs.Coefficients.{weight};
 ghost use Rattle.model.specs.Models.{scale, places, maxWeight};
-ghost use Rattle.certificate.specs.Residual.{residualList, residualFrom, constantResidual, productUpTo};
-ghost use Rattle.certificate.specs.Residual.{Lent, Factors, Drained};
+ghost use Rattle.certificate.specs.InnerContracts.{residualList, residualFrom, constantResidual, productUpTo, Lent, FactorsUpTo, Drained};
 use integer::absolute::magnitude;
 use model::products::add_products;
 use model::types::Model;
@@ -87,7 +86,8 @@ fn window(f: &[i32], start: usize, count: usize) -> &[i32]
 // The weight of C - 2S f over the part of C from place `start` on, which is cleared; f may be longer than C's own list.
 fn drain_residual(part: &mut [i64], start: usize, f: &[i32]) -> u64
     requires { ⌜ weight (now part) + 2 * scale * weight (now f) < 2 ^ 63 ⌝ }
-    ensures { λ r. ⌜ Drained (residualFrom start (now (part .entry)) (now (f .entry))) (now (part .entry)) (now (part .exit)) r ⌝ }
+    ensures { λ r.
+        ⌜ Drained (residualFrom start (now (part .entry)) (now (f .entry))) (now (part .entry)) (now (part .exit)) r ⌝ }
 {
     let own = window(f, start, part.len());
     let n = own.len();
@@ -97,7 +97,7 @@ fn drain_residual(part: &mut [i64], start: usize, f: &[i32]) -> u64
 
 // C(a, b) of coefficients up to the degrees n and k.
 fn form(part: &mut [i64], a: &[i32; PLACES], n: u32, b: &[i32; PLACES], k: u32)
-    requires { ⌜ Lent (now part) × Factors (now a) n (now b) k ⌝ }
+    requires { ⌜ Lent (now part) × FactorsUpTo (now a) n (now b) k ⌝ }
     ensures { λ _. ⌜ now (part .exit) ≡ productUpTo (now (a .entry)) n (now (b .entry)) k ⌝ }
 {
     let x = &a[..];
@@ -114,7 +114,7 @@ pub(crate) fn constant_residual(
     k: u32,
     c: i64,
 ) -> u64
-    requires { ⌜ Lent (now part) × Factors (now a) n (now b) k ⌝ }
+    requires { ⌜ Lent (now part) × FactorsUpTo (now a) n (now b) k ⌝ }
     requires { ⌜ natAbs c < 2 ^ 62 ⌝ }
     ensures { λ r. ⌜ r ≡ weight (constantResidual 0 c (productUpTo (now (a .entry)) n (now (b .entry)) k)) ⌝ }
     ensures { λ _. ⌜ Lent (now (part .exit)) ⌝ }
@@ -132,7 +132,7 @@ pub(crate) fn product_residual(
     k: u32,
     f: &[i32; PLACES],
 ) -> u64
-    requires { ⌜ Lent (now part) × Factors (now a) n (now b) k ⌝ }
+    requires { ⌜ Lent (now part) × FactorsUpTo (now a) n (now b) k ⌝ }
     requires { ⌜ (length (now f) ≡ places) × (weight (now f) ≤ maxWeight) ⌝ }
     ensures { λ r. ⌜ r ≡ weight (residualList (productUpTo (now (a .entry)) n (now (b .entry)) k) (now (f .entry))) ⌝ }
     ensures { λ _. ⌜ Lent (now (part .exit)) ⌝ }

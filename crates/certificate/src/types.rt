@@ -4,7 +4,7 @@ ghost use mathlib.Core.Bool.{true};
 ghost use Rattle.model.specs.Models.{good, candidateModel, zeroModel};
 ghost use Rattle.model.specs.declared.types.Verdict.the-variants.{Accepted};
 ghost use Rattle.certificate.specs.Tests.{withRadius, testOf};
-ghost use Rattle.certificate.specs.Stages.{certifiedOf, formedTest};
+ghost use Rattle.certificate.specs.InnerContracts.{certifiedOf, formedTest};
 use model::types::Candidate;
 use model::types::Model;
 use model::types::PRODUCT_PLACES;

@@ -10,7 +10,7 @@ use Rattle.model.specs.Models.{candidateModel}
 use Rattle.model.specs.Operations.{productList}
 use Rattle.model.specs.declared.types.Model.{Model}
 use Rattle.certificate.specs.Tests.{quotientContraction}
-use Rattle.certificate.specs.Residual.{constantResidual}
+use Rattle.certificate.specs.InnerContracts.{constantResidual}
 use Rattle.certificate.proofs.Ranges.{factors, constant-range, error-range}
 use Rattle.certificate.proofs.numbers.quotient_contraction.Statement.{statement}
 use Rattle.certificate.proofs.numbers.quotient_contraction.Tie as tie

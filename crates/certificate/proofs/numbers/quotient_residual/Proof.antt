@@ -10,7 +10,7 @@ use Rattle.model.specs.ModelLaws.{Good, good-is}
 use Rattle.model.specs.Operations.{productList}
 use Rattle.model.specs.declared.types.Model.{Model}
 use Rattle.certificate.specs.Tests.{quotientResidual}
-use Rattle.certificate.specs.Residual.{residualList}
+use Rattle.certificate.specs.InnerContracts.{residualList}
 use Rattle.certificate.proofs.Ranges.{factors, residual-range, error-range}
 use Rattle.certificate.proofs.numbers.quotient_residual.Statement.{statement}
 use Rattle.certificate.proofs.numbers.quotient_residual.Tie as tie

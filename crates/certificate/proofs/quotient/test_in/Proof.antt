@@ -5,7 +5,7 @@ use mathlib.Core.Logic.{⊎-elim}
 use mathlib.Core.Bool.{false, _&&_}
 use Rattle.model.specs.Models.{good, candidateModel}
 use Rattle.certificate.specs.Tests.{testOf}
-use Rattle.certificate.specs.Residual.{Lent}
+use Rattle.certificate.specs.InnerContracts.{Lent}
 use Rattle.certificate.specs.QuotientStages.{quotient-bad}
 use Rattle.certificate.proofs.Formed.{lent-scratch}
 use Rattle.certificate.proofs.quotient.test_in.Statement.{statement}

@@ -6,7 +6,7 @@ use mir.Syntax.{w64}
 use mir.Val.{toZ, ofZ}
 use mir.Facts.{toZ-ofZ}
 use Rattle.chebyshev.specs.Coefficients.{weight}
-use Rattle.certificate.specs.Residual.{constantResidual}
+use Rattle.certificate.specs.InnerContracts.{constantResidual}
 use Rattle.certificate.proofs.Formed.{Formed, formed, lent-after}
 use Rattle.certificate.proofs.residual.constant_residual.Statement.{statement}
 use Rattle.certificate.proofs.residual.constant_residual.Tie as tie

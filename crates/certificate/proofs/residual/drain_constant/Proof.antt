@@ -15,7 +15,7 @@ use Rattle.integer.specs.Machine.{abs-fits}
 use Rattle.integer.specs.Clearing.{zeros}
 use Rattle.chebyshev.specs.Coefficients.{weight}
 use Rattle.chebyshev.specs.Weight.{weight-at}
-use Rattle.certificate.specs.Residual.{constantResidual}
+use Rattle.certificate.specs.InnerContracts.{constantResidual}
 use Rattle.certificate.specs.ResidualLaws.{weight-constant, weight-no-constant, weight-constant-le}
 use Rattle.certificate.proofs.residual.drain_constant.Statement.{statement}
 use Rattle.certificate.proofs.residual.drain_constant.Tie as tie

@@ -11,7 +11,7 @@ use Rattle.integer.specs.Clearing.{zeros, zeros-append}
 use Rattle.chebyshev.specs.Coefficients.{weight}
 use Rattle.chebyshev.specs.Weight.{weight-take, weight-drop}
 use Rattle.model.specs.Models.{scale}
-use Rattle.certificate.specs.Residual.{residualList}
+use Rattle.certificate.specs.InnerContracts.{residualList}
 use Rattle.certificate.specs.ResidualLaws.{weight-residual, weight-residual-split}
 use Rattle.certificate.proofs.TwoParts.{length-halfway, second-part, both-parts}
 use Rattle.certificate.proofs.residual.drain_residual.Statement.{statement}

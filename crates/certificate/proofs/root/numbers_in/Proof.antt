@@ -3,7 +3,7 @@ use borrow.Author.Needs.{needs}
 use mathlib.Core.Path.{_≡_, sym, _∙_}
 use mathlib.Core.Bool.{true}
 use Rattle.model.specs.Models.{good, candidateModel}
-use Rattle.certificate.specs.Residual.{Lent}
+use Rattle.certificate.specs.InnerContracts.{Lent}
 use Rattle.certificate.specs.NumbersStages.{numbers-bad}
 use Rattle.certificate.proofs.Formed.{lent-scratch}
 use Rattle.certificate.proofs.root.numbers_in.Statement.{statement}

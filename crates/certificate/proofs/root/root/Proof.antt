@@ -5,7 +5,7 @@ use Prim.Native.Nat.{ℕ}
 use lib.ListN.{length}
 use Rattle.model.specs.Models.{candidateModel, numberOf}
 use Rattle.certificate.specs.Tests.{testOf}
-use Rattle.certificate.specs.RootNumbers.{rootOutcomeOf}
+use Rattle.certificate.specs.InnerContracts.{rootOutcomeOf}
 use Rattle.certificate.specs.RootStages.{RootReached, root-reached-is, root-refused-is, root-last}
 use Rattle.certificate.proofs.root.root.Statement.{statement}
 use Rattle.certificate.proofs.root.root.Tie as tie

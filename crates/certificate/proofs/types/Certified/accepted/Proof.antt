@@ -2,7 +2,7 @@
 use borrow.Author.Needs.{needs}
 use mathlib.Core.Path.{ap}
 use Rattle.model.specs.declared.types.Verdict.the-variants.{Accepted}
-use Rattle.certificate.specs.Stages.{certifiedOf}
+use Rattle.certificate.specs.InnerContracts.{certifiedOf}
 use Rattle.certificate.proofs.types.Certified.accepted.Statement.{statement}
 use Rattle.certificate.proofs.types.Certified.accepted.Tie as tie
 

@@ -1,7 +1,7 @@
 -- `Certified::refused` meets its contract.
 use borrow.Author.Needs.{needs}
 use mathlib.Core.Path.{ap}
-use Rattle.certificate.specs.Stages.{certifiedOf}
+use Rattle.certificate.specs.InnerContracts.{certifiedOf}
 use Rattle.certificate.proofs.types.Certified.refused.Statement.{statement}
 use Rattle.certificate.proofs.types.Certified.refused.Tie as tie
 
