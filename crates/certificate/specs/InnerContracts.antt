@@ -15,8 +15,8 @@ use Rattle.model.specs.Models.{numberOf, firstRefusal}
 use Rattle.model.specs.declared.types.Model.{Model}
 use Rattle.model.specs.declared.types.Candidate.{Candidate}
 use Rattle.model.specs.declared.types.Verdict.{Verdict}
-use Rattle.certificate.specs.Tests.{Test, tested, withRadius, rootPlaces, rootLastPlaces, rootModel, rootContraction, rootResidual}
-use Rattle.certificate.specs.Tests.{displacement}
+use Rattle.certificate.specs.Tests.{Test, tested, withRadius}
+use Rattle.certificate.specs.Tests.{rootPlaces, rootLastPlaces, rootModel, rootContraction, rootResidual, displacement}
 use Rattle.certificate.specs.declared.types.Certified.{Certified}
 use Rattle.certificate.specs.declared.types.RootNumbers.{RootNumbers}
 use Rattle.certificate.specs.declared.types.RootNumbers.the-variants.{Refused, Reached}
