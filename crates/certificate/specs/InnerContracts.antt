@@ -10,7 +10,7 @@ use Rattle.integer.specs.Integer.{ℤ-ring}
 use Rattle.integer.specs.Clearing.{zeros}
 use Rattle.chebyshev.specs.Coefficients.{weight, subtractLists, scaleList}
 use Rattle.chebyshev.specs.Product.{product}
-use Rattle.model.specs.Models.{scale, places, productPlaces, maxDegree, maxWeight, good, tooLarge, zeroModel, candidateModel}
+use Rattle.model.specs.Models.{scale, places, productPlaces, maxDegree, maxWeight, good, tooLarge, candidateModel}
 use Rattle.model.specs.Models.{numberOf, firstRefusal}
 use Rattle.model.specs.declared.types.Model.{Model}
 use Rattle.model.specs.declared.types.Candidate.{Candidate}

@@ -3,14 +3,9 @@
 use mathlib.Core.Path.{_≡_, sym, _∙_}
 use mathlib.Core.Logic.{_↔_}
 use mathlib.Core.Bool.{true}
-use mathlib.Core.List.{[], _∷_}
-use Prim.Native.Nat.{ℕ, _+_, _*_, _-_, _^_, _≤_, _<_}
-use lib.IntN.{pos}
+use Prim.Native.Nat.{ℕ, _-_, _^_, _≤_, _<_}
 use borrow.Author.Tests.{ltb-false, le-ltb}
-use Rattle.integer.specs.Integer.{ℤ-ring}
-use Rattle.integer.specs.Rounding.{upℕ}
-use Rattle.chebyshev.specs.Coefficients.{weight, subtractLists, scaleList}
-use Rattle.model.specs.Models.{scale, productPlaces, maxRadius, good, modelOf}
+use Rattle.model.specs.Models.{scale, maxRadius, good, modelOf}
 use Rattle.model.specs.declared.types.Model.{Model}
 use Rattle.certificate.specs.Tests.{scratchPlaces, quotientOf, quotientContraction, quotientResidual, quotientModel, displacement}
 use Rattle.certificate.specs.TwoSums.{quotientM, quotientN, quotientB, quotientRadius}

@@ -12,7 +12,7 @@ use Rattle.integer.specs.OrderedRing.{_⟨≼⟩_, by-certificate, gap, abs-le,
 use Rattle.integer.specs.Order.{le-pos}
 use Rattle.integer.specs.Fraction.{ℚ, whole, _+ℚ_, _-ℚ_, -ℚ_, _*ℚ_, *ℚ-comm, ℚ-ring, reifyℚ, solveℚ}
 use Rattle.integer.specs.FractionOrder.{_≤ℚ_, _<ℚ_, ∣_∣ℚ, ℚ-ordered, whole-le}
-use Rattle.integer.specs.FractionInverse.{_/ℚ_, quotient-mul}
+use Rattle.integer.specs.FractionInverse.{quotient-mul}
 use Rattle.integer.specs.FractionRounding.{natural-add, natural-mul, natural-le, natural-positive, up-bound}
 use Rattle.integer.specs.RoundingLaws.{le-upℕ}
 use Rattle.chebyshev.specs.Coefficients.{weight, subtractLists, scaleList}

@@ -4,16 +4,9 @@
 use mathlib.Core.Path.{_≡_}
 use mathlib.Core.Logic.{_↔_}
 use mathlib.Core.Bool.{true}
-use mathlib.Core.List.{[], _∷_}
-use Prim.Native.Nat.{ℕ, _+_, _*_, _-_, _^_, _≤_, _<_}
+use Prim.Native.Nat.{ℕ, _-_, _^_, _≤_}
 use native.Mathlib.Omega.{arith}
-use lib.IntN.{pos}
-use lib.Signed.{_<ℤ_}
-use Rattle.integer.specs.Integer.{ℤ-ring}
-use Rattle.integer.specs.Rounding.{upℕ}
-use Rattle.chebyshev.specs.Coefficients.{weight, subtractLists, scaleList}
-use Rattle.chebyshev.specs.Sign.{coefficientSum}
-use Rattle.model.specs.Models.{scale, productPlaces, good, modelOf}
+use Rattle.model.specs.Models.{good, modelOf}
 use Rattle.model.specs.declared.types.Model.{Model}
 use Rattle.certificate.specs.Tests.{scratchPlaces, rootOf, rootModel, rootContraction, rootResidual, displacement}
 use Rattle.certificate.specs.TwoSums.{rootM, rootN, rootB, rootRadius, RootHolds}

@@ -1,5 +1,5 @@
 -- The answers of the two tests by their parts, and what their places share: the scratch, models and candidates, the result.
-use mathlib.Core.Path.{_≡_, refl, _∙_}
+use mathlib.Core.Path.{_≡_, refl}
 use mathlib.Core.Bool.{Bool, true, false, not, _&&_, cond, or-false}
 use mathlib.Core.List.{List, [], _∷_, _++_}
 use Prim.Native.Nat.{ℕ, _*_, _^_, _≤_, _<_}
@@ -8,7 +8,7 @@ use native.Mathlib.Nat.{mul-le-mul}
 use lib.Dec.{ltb}
 use lib.IntN.{ℤ}
 use lib.ListN.{length, drop}
-use borrow.Author.Tests.{ne-eqb, lt-ltb, le-ltb, le-leb, lt-leb}
+use borrow.Author.Tests.{ne-eqb, le-ltb, le-leb, lt-leb}
 use Rattle.integer.specs.Clearing.{zeros}
 use Rattle.integer.specs.Rounding.{upℕ}
 use Rattle.integer.specs.RoundingLaws.{upℕ-least}
