@@ -18,9 +18,10 @@ use Rattle.integer.specs.Rounding.{upℕ}
 use Rattle.chebyshev.specs.Coefficients.{weight, addLists, subtractLists, scaleList}
 use Rattle.chebyshev.specs.Product.{addAt, addPair, addRow, addRows, product}
 use Rattle.chebyshev.specs.Sign.{coefficientSum}
-use Rattle.model.specs.Models.{scale, firstRefusal, good, tooLarge, makeModel, constantModel, zeroModel}
+use Rattle.model.specs.Models.{scale, good, tooLarge, makeModel, constantModel, zeroModel}
 use Rattle.model.specs.Operations.{productList}
-use Rattle.certificate.specs.Tests.{rootOf, rootPlaces, rootContraction, rootResidual, rootModel, displacement, tested}
+use Rattle.model.specs.Outcomes.{number, outcome}
+use Rattle.certificate.specs.Tests.{byDiscriminant, rootOf, rootPlaces, rootContraction, rootResidual, rootModel, displacement}
 
 pub discriminant-quotient : (b M m : ℕ) → 0 < M → (8 * b * M ≤ (scale - m) * (scale - m)) ↔ (b ≤ (scale - m) * (scale - m) / (8 * M))
 discriminant-quotient b M m h =
@@ -60,11 +61,11 @@ numbers e =
     let n = rootResidual f h in
     let b = displacement w n in
     let d = 8 * b * weight (w .coefficients) in
-    m ∷ n ∷ b ∷ d ∷ (d % 2 ^ 64) ∷ ((scale - m) * (scale - m)) ∷ (rootOf 65 f h w) .number ∷ []
+    m ∷ n ∷ b ∷ d ∷ (d % 2 ^ 64) ∷ ((scale - m) * (scale - m)) ∷ number (rootOf byDiscriminant 65 f h w) ∷ []
 
 pub wrapped-discriminant : (numbers 0 ∷ numbers 4 ∷ [])
     ≡ (0 ∷ (2 ^ 28 - 4) ∷ (2 ^ 36 - 2 ^ 10) ∷ (2 ^ 67 - 2 ^ 41) ∷ (2 ^ 64 - 2 ^ 41) ∷ 2 ^ 40 ∷ 8 ∷ [])
     ∷ (0 ∷ 2 ^ 28 ∷ 2 ^ 36 ∷ 2 ^ 67 ∷ 0 ∷ 2 ^ 40 ∷ 8 ∷ [])
     ∷ []
-unfolding rootOf rootPlaces tested rootContraction rootResidual rootModel displacement coefficientSum productList firstRefusal good tooLarge constantModel zeroModel weight addLists subtractLists scaleList addAt addPair addRow addRows product upℕ
+unfolding rootOf rootPlaces rootContraction rootResidual rootModel displacement coefficientSum productList outcome good tooLarge constantModel zeroModel weight addLists subtractLists scaleList addAt addPair addRow addRows product upℕ
 wrapped-discriminant = refl

@@ -1,9 +1,13 @@
 pub mod Tests
+pub mod InnerContracts
 pub mod TwoSums
+pub mod RootBounds
+pub mod TwoSumsLaws
 pub mod TestFits
-pub mod PlaceLaws
+pub mod OutcomeLaws
 pub mod Stages
-pub mod Residuals
+pub mod ResidualLaws
+pub mod QuotientStages
 pub mod QuotientAlgebra
 pub mod QuotientConditions
 pub mod QuotientSound
@@ -13,7 +17,8 @@ pub mod RootConditions
 pub mod RootRadius
 pub mod RootSound
 pub mod RootTheorem
-pub mod RootNumbers
+pub mod NumbersStages
 pub mod RootStages
 pub mod Discriminant
+pub mod RootEnd
 pub mod Examples

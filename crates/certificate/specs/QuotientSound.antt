@@ -23,9 +23,10 @@ use Rattle.model.specs.Values.{position, AllowsAt, Allows, OnInterval}
 use Rattle.model.specs.ValueLaws.{valueAt, valueAt-scale, valueAt-weight, valueAt-difference}
 use Rattle.model.specs.GoodLaws.{value-productList}
 use Rattle.model.specs.declared.types.Model.{Model}
-use Rattle.certificate.specs.Tests.{quotientOf, quotientContraction, quotientResidual, quotientModel, displacement}
+use Rattle.model.specs.Outcomes.{accepted}
+use Rattle.certificate.specs.Tests.{Certificate, quotientOf, quotientContraction, quotientResidual, quotientModel, displacement}
 use Rattle.certificate.specs.QuotientAlgebra.{contraction-bound, residual-bound, divisor-away, divisor-nonzero, quotient-bound}
-use Rattle.certificate.specs.QuotientConditions.{QuotientConditions, quotientDisplacement, quotient-passes, quotient-result}
+use Rattle.certificate.specs.QuotientConditions.{QuotientConditions, quotientDisplacement, quotient-passes}
 
 -- w(x) and h(x) are in units: |S − w(x)·v| ≤ m
 contraction-sound : (g w : Model) → good g ≡ true → good w ≡ true → (x v : ℚ) → OnInterval x → AllowsAt g x v
@@ -72,9 +73,9 @@ radius-bound w n k positive = chain _ _ _ (le-upℕ (weight (w .coefficients) * 
     chain : (p q r : ℕ) → p ≤ q → q ≤ r * k → p ≤ k * r
     chain p q r i j = omega arith
 
-module _ (len : ℕ) (f g h w : Model) (passes : (quotientOf len f g h w) .number ≡ 0) (x : ℚ) (on : OnInterval x) where
+module _ (len : ℕ) (f g h w : Model) {c : Certificate} (passes : quotientOf len f g h w ≡ accepted c) (x : ℚ) (on : OnInterval x) where
   conditions : QuotientConditions len f g h w
-  conditions = quotient-passes len f g h w .0 passes
+  conditions = quotient-passes len f g h w passes .0
 
   -- S − m ≤ M·|v|, where S − m > 0
   quotient-divisor : (v : ℚ) → AllowsAt g x v → whole (pos (scale - quotientContraction g w)) ≤ℚ (whole (pos (weight (w .coefficients))) *ℚ ∣ v ∣ℚ)
@@ -91,10 +92,10 @@ module _ (len : ℕ) (f g h w : Model) (passes : (quotientOf len f g h w) .numbe
   unfolding position
   quotient-nonzero v hv = divisor-nonzero ℚ-ordered v positive (quotient-divisor v hv)
 
-  pub quotient-sound : (u v : ℚ) → Allows f x u → Allows g x v → Allows ((quotientOf len f g h w) .model) x (u /ℚ v)
+  pub quotient-sound : (u v : ℚ) → Allows f x u → Allows g x v → Allows (c .model) x (u /ℚ v)
   unfolding position AllowsAt allows quotientModel
   quotient-sound u v hu hv =
-      rw (quotient-result len f g h w passes)
+      rw (quotient-passes len f g h w passes .1)
       (quotient-bound ℚ-ordered (whole (pos scale)) u v (u /ℚ v) (valueAt x (h .coefficients))
       (quotient-mul u v (quotient-nonzero v hv)) (ι-nonneg ℚ-ordered (weight (w .coefficients))) positive
       (residual-sound f g h (conditions .good-g) (conditions .good-h) x u v on hu hv) (quotient-divisor v hv)

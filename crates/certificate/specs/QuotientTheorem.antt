@@ -1,45 +1,19 @@
 -- The quotient test in 01's whole numbers, with C( , ) formed by its two sums: for good models, good candidates and enough
 -- scratch, a candidate is accepted exactly where the test holds and the stated radius is within 2^28, with exactly that radius.
-use mathlib.Core.Path.{_≡_, sym, _∙_}
+use mathlib.Core.Path.{_≡_, sym, _∙_, ap}
 use mathlib.Core.Logic.{_↔_}
 use mathlib.Core.Bool.{true}
-use mathlib.Core.List.{[], _∷_}
-use Prim.Native.Nat.{ℕ, _+_, _*_, _-_, _^_, _≤_, _<_}
-use lib.IntN.{pos}
+use Prim.Native.Nat.{ℕ, _-_, _^_, _≤_, _<_}
 use borrow.Author.Tests.{ltb-false, le-ltb}
-use Rattle.integer.specs.Integer.{ℤ-ring}
-use Rattle.integer.specs.Rounding.{upℕ}
-use Rattle.chebyshev.specs.Coefficients.{weight, subtractLists, scaleList}
-use Rattle.model.specs.Models.{scale, productSize, maxRadius, good, makeModel}
+use Rattle.model.specs.Models.{scale, maxRadius, good, makeModel}
+use Rattle.model.specs.Outcomes.{accepted}
 use Rattle.model.specs.declared.types.Model.{Model}
 use Rattle.certificate.specs.Tests.{scratchSize, quotientOf, quotientContraction, quotientResidual, quotientModel, displacement}
-use Rattle.certificate.specs.TwoSums.{twoSumsList, productList-good}
+use Rattle.certificate.specs.Tests.{Certificate, makeCertificate}
+use Rattle.certificate.specs.TwoSums.{quotientM, quotientN, quotientB, quotientRadius}
+use Rattle.certificate.specs.TwoSumsLaws.{productList-good}
 use Rattle.certificate.specs.Stages.{large-radius}
-use Rattle.certificate.specs.QuotientConditions.{quotientResult, quotient-passes, quotient-result}
-
--- "m = up((weight(2S² − C(w,g)) + 2·M·e_g)/(2S))"
-unfoldable pub quotientM : Model → Model → ℕ
-quotientM g w =
-    upℕ
-    (weight (subtractLists ℤ-ring (pos (2 * scale * scale) ∷ []) (twoSumsList productSize (w .coefficients) (g .coefficients))) + 2 * weight (w .coefficients) * g .radius)
-    (2 * scale)
-
--- "N = up((weight(C(g,h) − 2S·f) + 2S·e_f + 2·H·e_g)/(2S))"
-unfoldable pub quotientN : Model → Model → Model → ℕ
-quotientN f g h =
-    upℕ
-    (weight (subtractLists ℤ-ring (twoSumsList productSize (g .coefficients) (h .coefficients)) (scaleList ℤ-ring (pos (2 * scale)) (f .coefficients)))
-    + 2 * scale * f .radius
-    + 2 * weight (h .coefficients) * g .radius)
-    (2 * scale)
-
--- "b = up(M·N/S)"
-unfoldable pub quotientB : Model → Model → Model → Model → ℕ
-quotientB f g h w = upℕ (weight (w .coefficients) * quotientN f g h) scale
-
--- "radius up(b·S/(S−m))"
-unfoldable pub quotientRadius : Model → Model → Model → Model → ℕ
-quotientRadius f g h w = upℕ (quotientB f g h w * scale) (scale - quotientM g w)
+use Rattle.certificate.specs.QuotientConditions.{QuotientConditions, quotientResult, quotientCertificate, quotient-passes, quotient-result}
 
 contraction-is : (g w : Model) → good g ≡ true → good w ≡ true → quotientContraction g w ≡ quotientM g w
 unfolding quotientM quotientContraction
@@ -49,20 +23,45 @@ residual-is : (f g h : Model) → good g ≡ true → good h ≡ true → quotie
 unfolding quotientN quotientResidual
 residual-is f g h gg gh = rw (productList-good g h gg gh)
 
-module _ (len : ℕ) (f g h w : Model) (enough : scratchSize ≤ len) (gf : good f ≡ true) (gg : good g ≡ true) (gh : good h ≡ true) (gw : good w ≡ true) where
+module _ (len : ℕ) (f g h w : Model) (enough : scratchSize ≤ len)
+    (gf : good f ≡ true) (gg : good g ≡ true) (gh : good h ≡ true) (gw : good w ≡ true) where
   -- "The test: m < S and N ≤ 2^28.", and the result's radius is within 2^28
-  pub quotient-accepted : ((quotientOf len f g h w) .number ≡ 0) ↔ ((quotientM g w < scale) × (quotientN f g h ≤ 2 ^ 28) × (quotientRadius f g h w ≤ 2 ^ 28))
+  abbrev pub QuotientHolds : Type 0
+  QuotientHolds = (quotientM g w < scale) × (quotientN f g h ≤ 2 ^ 28) × (quotientRadius f g h w ≤ 2 ^ 28)
+
+  -- "Result h with radius up(b·S/(S−m))", and 01's m, N and b
+  abbrev pub quotientGiven : Certificate
+  quotientGiven =
+      makeCertificate (makeModel (h .degree) (h .coefficients) (quotientRadius f g h w)) (quotientM g w) (quotientN f g h) (quotientB f g h w)
+
+  given-is : quotientCertificate f g h w ≡ quotientGiven
   unfolding quotientRadius quotientB displacement quotientModel
-  quotient-accepted =
-      let passes = quotient-passes len f g h w in
+  given-is = rw (← contraction-is g w gg gw, ← residual-is f g h gg gh)
+
+  conditions-holds : QuotientConditions len f g h w ↔ QuotientHolds
+  unfolding quotientRadius quotientB displacement quotientModel
+  conditions-holds =
       let radius = (quotientResult f g h w) .radius in
       let large = large-radius h radius gh in
       rw (← contraction-is g w gg gw, ← residual-is f g h gg gh) (
-        λ e. let c = passes .0 e in (c .contraction, c .residual, ltb-false maxRadius radius (sym large ∙ c .result)),
-        λ t. passes .1 (record { scratch = enough; good-f = gf; good-g = gg; good-h = gh; good-w = gw; contraction = t .0; residual = t .1; result = large ∙ le-ltb maxRadius radius (t .2) }),
+        λ c. (c .contraction, c .residual, ltb-false maxRadius radius (sym large ∙ c .result)),
+        λ t. record {
+          scratch = enough;
+          good-f = gf;
+          good-g = gg;
+          good-h = gh;
+          good-w = gw;
+          contraction = t .0;
+          residual = t .1;
+          result = large ∙ le-ltb maxRadius radius (t .2);
+        },
       )
 
-  pub quotient-accepted-result : (quotientOf len f g h w) .number ≡ 0
-      → quotientOf len f g h w ≡ record { number = 0; model = makeModel (h .degree) (h .coefficients) (quotientRadius f g h w); m = quotientM g w; N = quotientN f g h; b = quotientB f g h w }
-  unfolding quotientRadius quotientB displacement quotientModel
-  quotient-accepted-result e = rw (← contraction-is g w gg gw, ← residual-is f g h gg gh) (quotient-result len f g h w e)
+  -- accepted where the test holds
+  pub quotient-accepted : QuotientHolds → quotientOf len f g h w ≡ accepted quotientGiven
+  quotient-accepted t = quotient-result len f g h w (conditions-holds .1 t) ∙ ap accepted given-is
+
+  -- and only there
+  pub quotient-accepted-only : {c : Certificate} → quotientOf len f g h w ≡ accepted c → QuotientHolds × (c ≡ quotientGiven)
+  quotient-accepted-only e =
+      let (conditions, same) = quotient-passes len f g h w e in (conditions-holds .0 conditions, same ∙ given-is)

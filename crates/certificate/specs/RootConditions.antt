@@ -1,11 +1,9 @@
--- The places of the root test before that of its result, as facts; and the result of a test that passes.
+-- The places of the root test as facts, and the result of a test that passes.
 use mathlib.Core.Path.{_≡_, refl}
 use mathlib.Core.Logic.{_↔_}
 use mathlib.Core.Bool.{Bool, true, false}
-use mathlib.Core.List.{[], _∷_, _++_}
 use Prim.Native.Nat.{ℕ, _*_, _-_, _≤_, _<_}
 use native.Mathlib.Omega.{arith}
-use lib.Dec.{ltb}
 use lib.IntN.{ℤ, pos}
 use lib.Signed.{_<ℤ_, leZ}
 use borrow.Author.Tests.{ltb-false, leb-false, not-false, le-ltb, lt-leb}
@@ -15,11 +13,11 @@ use Rattle.integer.specs.Machine.{le-false}
 use Rattle.chebyshev.specs.Coefficients.{weight}
 use Rattle.chebyshev.specs.Sign.{coefficientSum}
 use Rattle.model.specs.Models.{scale, maxRadius, good, tooLarge}
-use Rattle.model.specs.RefusalLaws.{Passed, first-refusal-zero}
+use Rattle.model.specs.Outcomes.{accepted}
+use Rattle.model.specs.PlaceLaws.{Passed, outcome-passed, outcome-accepted, not-of-true, passed-append}
 use Rattle.model.specs.declared.types.Model.{Model}
-use Rattle.certificate.specs.PlaceLaws.{not-of-true, passed-last}
-use Rattle.certificate.specs.Stages.{tested-zero}
-use Rattle.certificate.specs.Tests.{scratchSize, rootOf, rootPlaces, rootModel, rootContraction, rootResidual, displacement, tested}
+use Rattle.certificate.specs.Tests.{scratchSize, rootPlaces, rootLastPlaces, rootModel, rootContraction, rootResidual, displacement}
+use Rattle.certificate.specs.Tests.{Certificate, zeroCertificate, byDiscriminant, rootTestPlaces, rootCertificate, rootOf}
 
 -- b and the result of the test
 abbrev pub rootDisplacement : Model → Model → Model → ℕ
@@ -28,13 +26,8 @@ rootDisplacement f h w = displacement w (rootResidual f h)
 abbrev pub rootResult : Model → Model → Model → Model
 rootResult f h w = rootModel h (rootContraction h w) (rootDisplacement f h w)
 
--- the test "(S−m)² < 8·b·M"
-abbrev pub negativeDiscriminant : Model → Model → Model → Bool
-negativeDiscriminant f h w =
-    ltb ((scale - rootContraction h w) * (scale - rootContraction h w)) (8 * rootDisplacement f h w * weight (w .coefficients))
-
--- refusals 1, 2 three times, 7, 5, 6 and 8 are not due
-pub record RootConditions (len : ℕ) (f h w : Model) : Type 0 where
+-- refusals 1, 2 three times, 7, 5 and 6 are not due
+pub record NumbersConditions (len : ℕ) (f h w : Model) : Type 0 where
   pub scratch : scratchSize ≤ len
   pub good-f : good f ≡ true
   pub good-h : good h ≡ true
@@ -42,6 +35,10 @@ pub record RootConditions (len : ℕ) (f h w : Model) : Type 0 where
   pub helper : pos 0 <ℤ coefficientSum (w .coefficients)
   pub contraction : rootContraction h w < scale
   pub residual : rootResidual f h ≤ maxRadius
+
+-- nor is 8
+pub record RootConditions (len : ℕ) (f h w : Model) : Type 0 where
+  pub numbers : NumbersConditions len f h w
   pub discriminant : 8 * rootDisplacement f h w * weight (w .coefficients) ≤ (scale - rootContraction h w) * (scale - rootContraction h w)
 
 positive-above : (z : ℤ) → pos 0 <ℤ z → leZ z (pos 0) ≡ false
@@ -52,9 +49,9 @@ positive-above z h = pick (leZ z (pos 0)) refl
     pick false e = refl
 
 module _ (len : ℕ) (f h w : Model) where
-  pub root-conditions : Passed (rootPlaces len f h w ++ ((negativeDiscriminant f h w, 8) ∷ [])) ↔ RootConditions len f h w
+  pub numbers-conditions : Passed (rootPlaces len f h w) ↔ NumbersConditions len f h w
   unfolding rootPlaces
-  root-conditions = (
+  numbers-conditions = (
     λ p. record {
       scratch = ltb-false len scratchSize (p .0);
       good-f = not-false (good f) (p .1 .0);
@@ -63,22 +60,30 @@ module _ (len : ℕ) (f h w : Model) where
       helper = le-false (coefficientSum (w .coefficients)) (pos 0) (p .1 .1 .1 .1 .0);
       contraction = leb-false scale (rootContraction h w) (p .1 .1 .1 .1 .1 .0);
       residual = ltb-false maxRadius (rootResidual f h) (p .1 .1 .1 .1 .1 .1 .0);
-      discriminant = ltb-false _ _ (p .1 .1 .1 .1 .1 .1 .1 .0);
     },
     λ c. search (le-ltb, lt-leb, not-of-true, positive-above) depth 20,
   )
 
   -- the test passes exactly where these hold and the result is not too large
-  pub root-passes : ((rootOf len f h w) .number ≡ 0) ↔ (RootConditions len f h w × (tooLarge (rootResult f h w) ≡ false))
-  unfolding rootOf tested rootPlaces
-  root-passes =
-      let ps = rootPlaces len f h w ++ ((negativeDiscriminant f h w, 8) ∷ []) in
-      let last = passed-last ps (tooLarge (rootResult f h w), 3) in
-      let zero = first-refusal-zero (ps ++ ((tooLarge (rootResult f h w), 3) ∷ [])) (omega arith) in
-      (λ e. (root-conditions .0 (last .0 (zero .0 e) .0), last .0 (zero .0 e) .1), λ c. zero .1 (last .1 (root-conditions .1 (c .0), c .1)))
+  pub root-conditions : Passed (rootTestPlaces byDiscriminant len f h w) ↔ (RootConditions len f h w × (tooLarge (rootResult f h w) ≡ false))
+  root-conditions =
+      let parts = passed-append (rootPlaces len f h w) (rootLastPlaces h (weight (w .coefficients)) (rootContraction h w) (rootDisplacement f h w)) in (
+        λ p. let q = parts .0 p in (record { numbers = numbers-conditions .0 (q .0); discriminant = ltb-false _ _ (q .1 .0) }, q .1 .1 .0),
+        λ c. parts .1 (numbers-conditions .1 (c .0 .numbers), (le-ltb _ _ (c .0 .discriminant), (c .1, tt))),
+      )
 
-  -- number, model, m, N and b of a test that passes
-  pub root-result : (rootOf len f h w) .number ≡ 0
-      → rootOf len f h w ≡ record { number = 0; model = rootResult f h w; m = rootContraction h w; N = rootResidual f h; b = rootDisplacement f h w }
-  unfolding rootOf tested
-  root-result e = tested-zero _ (rootResult f h w) (rootContraction h w) (rootResidual f h) (rootDisplacement f h w) e
+  -- accepted exactly where these hold, with model, m, N and b of the test
+  pub root-passes : {c : Certificate} → rootOf byDiscriminant len f h w ≡ accepted c
+      → RootConditions len f h w × (tooLarge (rootResult f h w) ≡ false) × (c ≡ rootCertificate byDiscriminant f h w)
+  unfolding rootOf
+  root-passes e =
+      let (passed, same) = outcome-accepted (rootTestPlaces byDiscriminant len f h w) (rootCertificate byDiscriminant f h w) zeroCertificate e in
+      let (conditions, small) = root-conditions .0 passed in
+      (conditions, small, same)
+
+  pub root-result : RootConditions len f h w → tooLarge (rootResult f h w) ≡ false
+      → rootOf byDiscriminant len f h w ≡ accepted (rootCertificate byDiscriminant f h w)
+  unfolding rootOf
+  root-result c small =
+      outcome-passed (rootTestPlaces byDiscriminant len f h w) (rootCertificate byDiscriminant f h w) zeroCertificate
+      (root-conditions .1 (c, small))

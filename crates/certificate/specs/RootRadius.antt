@@ -1,14 +1,14 @@
 -- 01, of the root's radius: "which these limits keep at or below 2^27". So the place of the result never refuses a root.
 use mathlib.Core.Path.{_≡_, _∙_, ap}
 use mathlib.Core.Logic.{_≢_}
-use mathlib.Core.Bool.{false}
-use mathlib.Core.List.{[], _∷_, _++_}
+use mathlib.Core.Bool.{Bool, false}
+use mathlib.Core.List.{List, [], _∷_, _++_}
 use Prim.Native.Nat.{ℕ, suc, _+_, _*_, _-_, _^_, _≤_, _<_}
 use native.Mathlib.Omega.{arith}
 use native.Mathlib.Nat.{mul-le-mul, mul-le-mul-left, le-of-mul-le-mul-left}
 use lib.IntN.{pos, natAbs, _-ℤ_}
 use lib.ListN.{getD}
-use borrow.Author.Tests.{le-ltb}
+use borrow.Author.Tests.{ltb-false, le-ltb}
 use Rattle.integer.specs.Parts.{abs, difference}
 use Rattle.integer.specs.Integer.{ℤ-ring}
 use Rattle.integer.specs.RoundingLaws.{le-upℕ, upℕ-least}
@@ -20,10 +20,11 @@ use Rattle.model.specs.Models.{scale, maxRadius, productSize, terms, tooLarge}
 use Rattle.model.specs.ModelLaws.{good-is}
 use Rattle.model.specs.Operations.{productList}
 use Rattle.model.specs.declared.types.Model.{Model}
-use Rattle.certificate.specs.Tests.{rootOf, rootPlaces, rootModel, rootContraction, tested}
-use Rattle.certificate.specs.PlaceLaws.{last-unused}
+use Rattle.certificate.specs.Tests.{byDiscriminant, rootOf, rootPlaces, negativeDiscriminant, rootModel, rootContraction}
+use Rattle.model.specs.Outcomes.{number}
+use Rattle.model.specs.PlaceLaws.{passed-append, last-unused}
 use Rattle.certificate.specs.Stages.{large-radius}
-use Rattle.certificate.specs.RootConditions.{RootConditions, rootDisplacement, rootResult, negativeDiscriminant, root-conditions}
+use Rattle.certificate.specs.RootConditions.{NumbersConditions, RootConditions, rootDisplacement, rootResult, numbers-conditions}
 
 -- S² ≤ m·S + 2·M·H: the place 0 of S² − C(w,h)
 pub square-bound : (h w : Model) → scale * scale ≤ rootContraction h w * scale + 2 * weight (w .coefficients) * weight (h .coefficients)
@@ -51,23 +52,32 @@ pub numerator-bound : (p b M : ℕ) → 0 < p → p * scale ≤ 2 ^ 29 * M → 8
 numerator-bound p b M h k d = le-of-mul-le-mul-left {m = 2 * b * scale} {n = 2 ^ 27 * p} {k = p} (omega (arith, mul-le-mul-left (8 * b) k)) h
 
 module _ (len : ℕ) (f h w : Model) where
+  -- (S−m)·S ≤ 2^29·M
+  pub gap-bound : NumbersConditions len f h w → (scale - rootContraction h w) * scale ≤ 2 ^ 29 * weight (w .coefficients)
+  gap-bound c =
+      omega (arith, square-bound h w, mul-le-mul-left (2 * weight (w .coefficients)) (good-is h (c .good-h) .weight-fits), c .contraction)
+
   pub root-radius-bound : RootConditions len f h w → (rootResult f h w) .radius ≤ 2 ^ 27
   unfolding rootModel
   root-radius-bound c =
       let p = scale - rootContraction h w in
-      upℕ-least (2 * rootDisplacement f h w * scale) p (2 ^ 27) (omega (arith, c .contraction))
-      (numerator-bound p (rootDisplacement f h w) (weight (w .coefficients)) (omega (arith, c .contraction))
-      (omega (arith, square-bound h w, mul-le-mul-left (2 * weight (w .coefficients)) (good-is h (c .good-h) .weight-fits), c .contraction))
-      (c .discriminant))
+      let positive : 0 < p = omega (arith, c .numbers .contraction) in
+      upℕ-least (2 * rootDisplacement f h w * scale) p (2 ^ 27) positive
+      (numerator-bound p (rootDisplacement f h w) (weight (w .coefficients)) positive (gap-bound (c .numbers)) (c .discriminant))
 
   -- the result of a test whose other places pass is not too large
   pub root-fits : RootConditions len f h w → tooLarge (rootResult f h w) ≡ false
   unfolding rootModel
-  root-fits c = let radius = (rootResult f h w) .radius in large-radius h radius (c .good-h) ∙ le-ltb maxRadius radius (omega (arith, root-radius-bound c))
+  root-fits c =
+      let radius = (rootResult f h w) .radius in
+      large-radius h radius (c .numbers .good-h) ∙ le-ltb maxRadius radius (omega (arith, root-radius-bound c))
 
   -- refusal 3 is never answered
-  pub root-never-large : (rootOf len f h w) .number ≢ 3
-  unfolding rootOf tested rootPlaces
+  pub root-never-large : number (rootOf byDiscriminant len f h w) ≢ 3
+  unfolding rootOf rootPlaces
   root-never-large =
-      last-unused (rootPlaces len f h w ++ ((negativeDiscriminant f h w, 8) ∷ [])) (tooLarge (rootResult f h w)) 3 (omega arith) (omega arith)
-      (λ p. root-fits (root-conditions len f h w .0 p))
+      let eighth : List (Bool × ℕ) = (negativeDiscriminant (rootContraction h w) (rootDisplacement f h w) (weight (w .coefficients)), 8) ∷ [] in
+      last-unused (rootPlaces len f h w ++ eighth) (tooLarge (rootResult f h w)) 3 _ _ (omega arith) (omega arith)
+      (λ p.
+      let q = passed-append (rootPlaces len f h w) eighth .0 p in
+      root-fits (record { numbers = numbers-conditions len f h w .0 (q .0); discriminant = ltb-false _ _ (q .1 .0) }))

@@ -2,17 +2,17 @@
 -- lies between y − ρ and y + ρ, where y is h(x) and ρ the radius. No square root is taken: squares are compared.
 use mathlib.Core.Path.{_≡_, sym, _∙_, ap}
 use mathlib.Core.Logic.{_⊎_, inl, inr}
-use mathlib.Core.List.{[], _∷_}
+use mathlib.Core.List.{List, [], _∷_}
 use Prim.Native.Nat.{ℕ, _+_, _*_, _-_}
 use native.Mathlib.Omega.{arith}
-use lib.IntN.{pos}
+use lib.IntN.{ℤ, pos}
 use Rattle.integer.specs.Embedding.{ι-nonneg}
 use Rattle.integer.specs.Integer.{ℤ-ring}
 use Rattle.integer.specs.OrderedRing.{_⟨≼⟩_, by-certificate, gap, abs-le, abs-upper, abs-lower, le-of-eq}
 use Rattle.integer.specs.Order.{le-pos}
 use Rattle.integer.specs.Fraction.{ℚ, whole, _+ℚ_, _-ℚ_, -ℚ_, _*ℚ_, *ℚ-comm, ℚ-ring, reifyℚ, solveℚ}
 use Rattle.integer.specs.FractionOrder.{_≤ℚ_, _<ℚ_, ∣_∣ℚ, ℚ-ordered, whole-le}
-use Rattle.integer.specs.FractionInverse.{_/ℚ_, quotient-mul}
+use Rattle.integer.specs.FractionInverse.{quotient-mul}
 use Rattle.integer.specs.FractionRounding.{natural-add, natural-mul, natural-le, natural-positive, up-bound}
 use Rattle.integer.specs.RoundingLaws.{le-upℕ}
 use Rattle.chebyshev.specs.Coefficients.{weight, subtractLists, scaleList}
@@ -25,21 +25,13 @@ use Rattle.model.specs.ValueLaws.{valueAt, valueAt-scale, valueAt-weight, value
 use Rattle.model.specs.GoodLaws.{value-productList}
 use Rattle.model.specs.Operations.{productList}
 use Rattle.model.specs.declared.types.Model.{Model}
-use Rattle.certificate.specs.Tests.{Test, rootOf, rootModel, rootContraction, rootResidual, displacement}
+use Rattle.model.specs.Outcomes.{accepted}
+use Rattle.certificate.specs.Tests.{Certificate, byDiscriminant, rootOf, rootModel, rootContraction, rootResidual, displacement}
+use Rattle.certificate.specs.RootBounds.{RootBounds, ofUnits}
 use Rattle.certificate.specs.RootAlgebra.{helper-bound, residual-bound, root-algebra, root-choice}
-use Rattle.certificate.specs.RootConditions.{RootConditions, rootDisplacement, rootResult, root-passes, root-result}
+use Rattle.certificate.specs.RootConditions.{RootConditions, rootDisplacement, rootResult, root-passes}
 
--- v > 0, and √v lies between y − ρ and y + ρ
-pub record RootBounds (y ρ v : ℚ) : Type 0 where
-  pub positive : whole (pos 0) <ℚ v
-  pub reaches : whole (pos 0) ≤ℚ y +ℚ ρ
-  pub above : v ≤ℚ (y +ℚ ρ) *ℚ (y +ℚ ρ)
-  pub below : (y -ℚ ρ ≤ℚ whole (pos 0)) ⊎ ((y -ℚ ρ) *ℚ (y -ℚ ρ) ≤ℚ v)
-
--- ---- units: 01's "One unit is 1/S."
-
-abbrev pub ofUnits : ℚ → ℚ
-ofUnits z = z /ℚ whole (pos scale)
+-- ---- units
 
 units-scale : (z : ℚ) → ofUnits z *ℚ whole (pos scale) ≡ z
 units-scale z = quotient-mul z (whole (pos scale)) (λ e. natural-positive scale (omega arith) (le-of-eq ℚ-ordered e))
@@ -50,11 +42,11 @@ units-nonneg n =
     (rw (*ℚ-comm (whole (pos scale)) (ofUnits (whole (pos n))), units-scale (whole (pos n)), ← natural-mul scale 0) (natural-le (omega arith)))
 
 -- what lies between y − ρ and y + ρ is allowed
-between-allows : (m : Model) (x r : ℚ) → r ≤ℚ ofUnits (valueAt x (m .coefficients)) +ℚ ofUnits (whole (pos (m .radius)))
-    → ofUnits (valueAt x (m .coefficients)) -ℚ ofUnits (whole (pos (m .radius))) ≤ℚ r → AllowsAt m x r
+between-allows : (m : Model) (cs : List ℤ) (x r : ℚ) → m .coefficients ≡ cs → r ≤ℚ ofUnits (valueAt x cs) +ℚ ofUnits (whole (pos (m .radius)))
+    → ofUnits (valueAt x cs) -ℚ ofUnits (whole (pos (m .radius))) ≤ℚ r → AllowsAt m x r
 unfolding AllowsAt
-between-allows m x r above below =
-    allows-quotient scale (m .coefficients) (m .radius) x r (omega arith) .1 (distance (ofUnits (valueAt x (m .coefficients))) (ofUnits (whole (pos (m .radius)))) above below)
+between-allows m cs x r same above below =
+    rw same (allows-quotient scale cs (m .radius) x r (omega arith) .1 (distance (ofUnits (valueAt x cs)) (ofUnits (whole (pos (m .radius)))) above below))
   where
     distance : (y ρ : ℚ) → r ≤ℚ y +ℚ ρ → y -ℚ ρ ≤ℚ r → ∣ r -ℚ y ∣ℚ ≤ℚ ρ
     distance y ρ k l =
@@ -75,7 +67,7 @@ module _ (len : ℕ) (f h w : Model) (c : RootConditions len f h w) where
   helper-distance : (x : ℚ) → OnInterval x
       → ∣ whole (pos scale) *ℚ whole (pos scale) -ℚ whole (pos 2) *ℚ valueAt x (w .coefficients) *ℚ valueAt x (h .coefficients) ∣ℚ ≤ℚ whole (pos contractionWeight)
   helper-distance x on =
-      rw (← natural-mul scale scale, value-productList w h (c .good-w) (c .good-h) x)
+      rw (← natural-mul scale scale, value-productList w h (c .numbers .good-w) (c .numbers .good-h) x)
       (rw (value-constant ℚ-ring x (whole (pos (scale * scale)))) at (valueAt-difference on (pos (scale * scale) ∷ []) (productList w h)))
 
   -- w(x) > 0
@@ -83,8 +75,8 @@ module _ (len : ℕ) (f h w : Model) (c : RootConditions len f h w) where
   unfolding rootContraction
   helper-value x on =
       helper-positive (whole (pos scale) *ℚ whole (pos scale)) (whole (pos contractionWeight)) (w .coefficients) (h .coefficients)
-      (c .helper)
-      (λ k. omega (arith, le-pos (scale * scale) contractionWeight (whole-le _ _ .0 (rw (← natural-mul scale scale) at k)), le-upℕ contractionWeight scale (omega arith), c .contraction))
+      (c .numbers .helper)
+      (λ k. omega (arith, le-pos (scale * scale) contractionWeight (whole-le _ _ .0 (rw (← natural-mul scale scale) at k)), le-upℕ contractionWeight scale (omega arith), c .numbers .contraction))
       (λ y k. helper-distance y (record { above = abs-lower ℚ-ordered k; below = abs-upper ℚ-ordered k }))
       x (abs-le ℚ-ordered (on .below) (on .above))
 
@@ -107,7 +99,7 @@ module _ (len : ℕ) (f h w : Model) (c : RootConditions len f h w) where
         (rw (natural-add residualWeight (2 * scale * f .radius), natural-mul (2 * scale) (f .radius), natural-mul 2 scale)
         (residual-bound ℚ-ordered (whole (pos scale)) (valueAt x (f .coefficients)) (valueAt x (h .coefficients)) y v (whole (pos residualWeight)) (whole (pos (f .radius)))
         (ι-nonneg ℚ-ordered scale) (units-scale (valueAt x (h .coefficients)))
-        (rw (value-productList h h (c .good-h) (c .good-h) x, ← natural-mul 2 scale, ← valueAt-scale x (pos (2 * scale)) (f .coefficients)) (valueAt-difference on (productList h h) (scaleList ℤ-ring (pos (2 * scale)) (f .coefficients))))
+        (rw (value-productList h h (c .numbers .good-h) (c .numbers .good-h) x, ← natural-mul 2 scale, ← valueAt-scale x (pos (2 * scale)) (f .coefficients)) (valueAt-difference on (productList h h) (scaleList ℤ-ring (pos (2 * scale)) (f .coefficients))))
         allowed))
 
     bounds : RootBounds y (ofUnits (whole (pos ((rootResult f h w) .radius)))) v
@@ -123,38 +115,39 @@ module _ (len : ℕ) (f h w : Model) (c : RootConditions len f h w) where
         root-algebra ℚ-ordered (whole (pos scale)) (whole (pos m)) (whole (pos n)) (whole (pos b)) (whole (pos k)) (whole (pos M))
         (valueAt x (w .coefficients)) y (ofUnits (whole (pos r))) v
         (natural-positive scale (omega arith))
-        (sym (natural-add k m) ∙ ap (λ (j : ℕ). whole (pos j)) (omega (arith, c .contraction)))
-        (natural-positive k (omega (arith, c .contraction)))
+        (sym (natural-add k m) ∙ ap (λ (j : ℕ). whole (pos j)) (omega (arith, c .numbers .contraction)))
+        (natural-positive k (omega (arith, c .numbers .contraction)))
         (units-nonneg r)
         helper-residual
         root-residual
         (helper-value x on)
         (abs-upper ℚ-ordered (valueAt-weight on (w .coefficients)))
         (rw (← natural-mul M n, ← natural-mul b scale) (natural-le (le-upℕ (M * n) scale (omega arith))))
-        (rw (units-scale (whole (pos r)), ← natural-mul 2 b, ← natural-mul (2 * b) scale, ← natural-mul r k) (natural-le (le-upℕ (2 * b * scale) k (omega (arith, c .contraction)))))
+        (rw (units-scale (whole (pos r)), ← natural-mul 2 b, ← natural-mul (2 * b) scale, ← natural-mul r k) (natural-le (le-upℕ (2 * b * scale) k (omega (arith, c .numbers .contraction)))))
         (rw (← natural-mul 8 b, ← natural-mul (8 * b) M, ← natural-mul k k) (natural-le (c .discriminant))) in
         record { positive = facts .3; reaches = facts .0; above = facts .1; below = facts .2 }
 
 -- ---- the test
 
-module _ (len : ℕ) (f h w : Model) (passed : (rootOf len f h w) .number ≡ 0) (x v : ℚ) (on : OnInterval x) (allowed : Allows f x v) where
-  pub root-sound : RootBounds (ofUnits (valueAt x (h .coefficients))) (ofUnits (whole (pos ((rootOf len f h w) .model .radius)))) v
+module _ (len : ℕ) (f h w : Model) {c : Certificate} (passed : rootOf byDiscriminant len f h w ≡ accepted c)
+    (x v : ℚ) (on : OnInterval x) (allowed : Allows f x v) where
+  pub root-sound : RootBounds (ofUnits (valueAt x (h .coefficients))) (ofUnits (whole (pos (c .model .radius)))) v
   unfolding position
-  root-sound = rw (root-result len f h w passed) (bounds len f h w (root-passes len f h w .0 passed .0) x v on allowed)
+  root-sound = let (conditions, small, same) = root-passes len f h w passed in rw same (bounds len f h w conditions x v on allowed)
 
-  same-coefficients : (rootOf len f h w) .model .coefficients ≡ h .coefficients
+  same-coefficients : c .model .coefficients ≡ h .coefficients
   unfolding rootModel
-  same-coefficients = ap (λ (t : Test). t .model .coefficients) (root-result len f h w passed)
+  same-coefficients = ap (λ (t : Certificate). t .model .coefficients) (root-passes len f h w passed .2)
 
   -- Every box that 01 permits for the root, where v lies in the box from l to u under it, holds a value that the result allows
   pub root-overlap : (low high l u : ℚ) → (low ≡ whole (pos 0)) ⊎ ((whole (pos 0) <ℚ low) × (low *ℚ low ≤ℚ l)) → whole (pos 0) ≤ℚ high → u ≤ℚ high *ℚ high
-      → low ≤ℚ high → l ≤ℚ v → v ≤ℚ u → (r : ℚ) × (low ≤ℚ r) × (r ≤ℚ high) × Allows ((rootOf len f h w) .model) x r
+      → low ≤ℚ high → l ≤ℚ v → v ≤ℚ u → (r : ℚ) × (low ≤ℚ r) × (r ≤ℚ high) × Allows (c .model) x r
   unfolding position
   root-overlap low high l u low-fits high-nonneg high-fits ordered above below =
       let (r, low-r, r-high, r-above, r-below) =
-      root-choice ℚ-ordered _ _ v low high (units-nonneg ((rootOf len f h w) .model .radius)) (root-sound .reaches) (root-sound .above) (root-sound .below)
+      root-choice ℚ-ordered _ _ v low high (units-nonneg (c .model .radius)) (root-sound .reaches) (root-sound .above) (root-sound .below)
       (square low-fits) high-nonneg (_⟨≼⟩_ ℚ-ordered below high-fits) ordered in
-      (r, low-r, r-high, between-allows ((rootOf len f h w) .model) x r (rw same-coefficients r-above) (rw same-coefficients r-below))
+      (r, low-r, r-high, between-allows (c .model) (h .coefficients) x r same-coefficients r-above r-below)
     where
       square : (low ≡ whole (pos 0)) ⊎ ((whole (pos 0) <ℚ low) × (low *ℚ low ≤ℚ l)) → (low ≡ whole (pos 0)) ⊎ (low *ℚ low ≤ℚ v)
       square (inl e) = inl e

@@ -1,19 +1,14 @@
--- The list C( , ) of 01 by its two sums, place by place, and that the walk of the definitions forms the same list.
-use mathlib.Core.Path.{_≡_, refl, sym, _∙_, ap}
-use mathlib.Core.Bool.{true}
+-- Document 01, "The two tests", once more, with the list C( , ) formed by its two sums, place by place.
 use mathlib.Core.List.{List, [], _∷_}
-use Prim.Native.Nat.{ℕ, zero, suc, _<_}
-use native.Mathlib.Omega.{arith}
+use Prim.Native.Nat.{ℕ, zero, suc, _+_, _*_, _-_, _^_, _≤_, _<_}
 use lib.IntN.{ℤ, pos}
-use lib.ListN.{length, getD}
-use lib.Seq.{ext-getD}
+use lib.Signed.{_<ℤ_}
 use Rattle.integer.specs.Integer.{ℤ-ring}
-use Rattle.chebyshev.specs.Product.{product}
-use Rattle.chebyshev.specs.ProductLaws.{length-product}
-use Rattle.chebyshev.specs.ProductSums.{twoSums, product-two-sums}
-use Rattle.model.specs.Models.{productSize, good}
-use Rattle.model.specs.GoodLaws.{product-coefficients}
-use Rattle.model.specs.Operations.{productList}
+use Rattle.integer.specs.Rounding.{upℕ}
+use Rattle.chebyshev.specs.Coefficients.{weight, subtractLists, scaleList}
+use Rattle.chebyshev.specs.ProductSums.{twoSums}
+use Rattle.chebyshev.specs.Sign.{coefficientSum}
+use Rattle.model.specs.Models.{scale, productSize}
 use Rattle.model.specs.declared.types.Model.{Model}
 
 -- f 0, f 1, …, f (n − 1)
@@ -21,31 +16,68 @@ unfoldable pub tabulate : ℕ → (ℕ → ℤ) → List ℤ
 tabulate zero f = []
 tabulate (suc n) f = f 0 ∷ tabulate n (λ k. f (suc k))
 
--- C_0, …, C_(width − 1): "C_k = Σ a_i·b_j over i+j = k, plus Σ a_i·b_j over |i−j| = k; a pair that meets both conditions
--- counts twice."
-unfoldable pub twoSumsList : ℕ → List ℤ → List ℤ → List ℤ
-twoSumsList width a b = tabulate width (λ k. twoSums ℤ-ring k a b)
+-- C_0, …, C_64: "C_k = Σ a_i·b_j over i+j = k, plus Σ a_i·b_j over |i−j| = k; a pair that meets both conditions counts twice."
+unfoldable pub twoSumsList : List ℤ → List ℤ → List ℤ
+twoSumsList a b = tabulate productSize (λ k. twoSums ℤ-ring k a b)
 
-length-tabulate : (n : ℕ) (f : ℕ → ℤ) → length (tabulate n f) ≡ n
-unfolding tabulate
-length-tabulate zero f = refl
-length-tabulate (suc n) f = ap suc (length-tabulate n (λ k. f (suc k)))
+-- ---- the quotient test
 
-at-tabulate : (n : ℕ) (f : ℕ → ℤ) (k : ℕ) → k < n → getD (tabulate n f) k (pos 0) ≡ f k
-unfolding tabulate
-at-tabulate zero f k h = absurd (omega arith)
-at-tabulate (suc n) f zero h = refl
-at-tabulate (suc n) f (suc k) h = at-tabulate n (λ k. f (suc k)) k (omega arith)
+-- "m = up((weight(2S² − C(w,g)) + 2·M·e_g)/(2S))"
+unfoldable pub quotientM : Model → Model → ℕ
+quotientM g w =
+    upℕ
+    (weight (subtractLists ℤ-ring (pos (2 * scale * scale) ∷ []) (twoSumsList (w .coefficients) (g .coefficients)))
+    + 2 * weight (w .coefficients) * g .radius)
+    (2 * scale)
 
-product-two-sums-list : (width : ℕ) (a b : List ℤ) → product ℤ-ring width a b ≡ twoSumsList width a b
-unfolding twoSumsList
-product-two-sums-list width a b =
-    ext-getD (pos 0) (product ℤ-ring width a b) (tabulate width (λ k. twoSums ℤ-ring k a b))
-    (length-product ℤ-ring width a b ∙ sym (length-tabulate width (λ k. twoSums ℤ-ring k a b)))
-    (λ k h.
-    let l : k < width = rw (length-product ℤ-ring) at h in
-    product-two-sums ℤ-ring width a b k l ∙ sym (at-tabulate width (λ k. twoSums ℤ-ring k a b) k l))
+-- "N = up((weight(C(g,h) − 2S·f) + 2S·e_f + 2·H·e_g)/(2S))"
+unfoldable pub quotientN : Model → Model → Model → ℕ
+quotientN f g h =
+    upℕ
+    (weight
+    (subtractLists ℤ-ring
+    (twoSumsList (g .coefficients) (h .coefficients))
+    (scaleList ℤ-ring (pos (2 * scale)) (f .coefficients)))
+    + 2 * scale * f .radius
+    + 2 * weight (h .coefficients) * g .radius)
+    (2 * scale)
 
--- of good models, over all coefficients
-pub productList-good : (a b : Model) → good a ≡ true → good b ≡ true → productList a b ≡ twoSumsList productSize (a .coefficients) (b .coefficients)
-productList-good a b ga gb = product-coefficients a b ga gb ∙ product-two-sums-list productSize (a .coefficients) (b .coefficients)
+-- "b = up(M·N/S)"
+unfoldable pub quotientB : Model → Model → Model → Model → ℕ
+quotientB f g h w = upℕ (weight (w .coefficients) * quotientN f g h) scale
+
+-- "radius up(b·S/(S−m))"
+unfoldable pub quotientRadius : Model → Model → Model → Model → ℕ
+quotientRadius f g h w = upℕ (quotientB f g h w * scale) (scale - quotientM g w)
+
+-- ---- the root test
+
+-- "m = up(weight(S² − C(w,h))/S)"
+unfoldable pub rootM : Model → Model → ℕ
+rootM h w =
+    upℕ (weight (subtractLists ℤ-ring (pos (scale * scale) ∷ []) (twoSumsList (w .coefficients) (h .coefficients)))) scale
+
+-- "N = up((weight(C(h,h) − 2S·f) + 2S·e_f)/(2S))"
+unfoldable pub rootN : Model → Model → ℕ
+rootN f h =
+    upℕ
+    (weight
+    (subtractLists ℤ-ring
+    (twoSumsList (h .coefficients) (h .coefficients))
+    (scaleList ℤ-ring (pos (2 * scale)) (f .coefficients)))
+    + 2 * scale * f .radius)
+    (2 * scale)
+
+-- "b = up(M·N/S)"
+unfoldable pub rootB : Model → Model → Model → ℕ
+rootB f h w = upℕ (weight (w .coefficients) * rootN f h) scale
+
+-- "radius up(2·b·S/(S−m))"
+unfoldable pub rootRadius : Model → Model → Model → ℕ
+rootRadius f h w = upℕ (2 * rootB f h w * scale) (scale - rootM h w)
+
+-- "The test: Σ w_k > 0, m < S, N ≤ 2^28, (S−m)² ≥ 8·b·M."
+abbrev pub RootHolds : Model → Model → Model → Type 0
+RootHolds f h w =
+    (pos 0 <ℤ coefficientSum (w .coefficients)) × (rootM h w < scale) × (rootN f h ≤ 2 ^ 28)
+    × (8 * rootB f h w * weight (w .coefficients) ≤ (scale - rootM h w) * (scale - rootM h w))

@@ -1,11 +1,10 @@
 // The quotient test: is h a quotient f/g, with w as a helper?
 ghost use mathlib.Core.Path.{_≡_};
-ghost use mathlib.Core.Bool.{true};
 ghost use lib.ListN.{length};
-ghost use Rattle.integer.specs.Clearing.{zeros};
 ghost use Rattle.chebyshev.specs.Coefficients.{weight};
-ghost use Rattle.model.specs.Models.{good, candidateModel};
+ghost use Rattle.model.specs.Models.{candidateModel};
 ghost use Rattle.certificate.specs.Tests.{scratchSize, scratchAfter, testOf, quotientTest};
+ghost use Rattle.certificate.specs.InnerContracts.{Lent, QuotientReady};
 use crate::numbers::SCALE;
 use crate::numbers::displacement;
 use crate::numbers::quotient_contraction;
@@ -18,9 +17,9 @@ use model::measure::measure;
 use model::measure::measure_candidate;
 use model::types::Candidate;
 use model::types::Model;
-use model::types::Verdict;
+use model::types::Refusal;
 
-// The test of good models and candidates, in a part that is zero before and after.
+// The test of good models and candidates, over a lent part.
 fn test_good(
     part: &mut [i64],
     f: Model,
@@ -30,10 +29,10 @@ fn test_good(
     w: Candidate,
     w_weight: u64,
 ) -> TestOutcome
-    requires { ⌜ (now part ≡ zeros scratchSize) × (good f ≡ true) × (good g ≡ true) × (good (candidateModel h) ≡ true) × (good (candidateModel w) ≡ true) ⌝ }
+    requires { ⌜ QuotientReady (now part) f g (candidateModel h) (candidateModel w) ⌝ }
     requires { ⌜ («h_weight» ≡ weight (h .coefficients)) × («w_weight» ≡ weight (w .coefficients)) ⌝ }
     ensures { λ (r : TestOutcome). ⌜ testOf r ≡ quotientTest scratchSize f g h w ⌝ }
-    ensures { λ _. ⌜ now (part .exit) ≡ zeros scratchSize ⌝ }
+    ensures { λ _. ⌜ Lent (now (part .exit)) ⌝ }
 {
     let m = quotient_contraction(part, g, w, w_weight);
     if m < SCALE {
@@ -43,10 +42,10 @@ fn test_good(
             let radius = quotient_radius(b, m);
             TestOutcome::formed(h, radius, m, n, b)
         } else {
-            TestOutcome::refused(Verdict::LargeResidual)
+            TestOutcome::refused(Refusal::LargeResidual)
         }
     } else {
-        TestOutcome::refused(Verdict::NotContracting)
+        TestOutcome::refused(Refusal::NotContracting)
     }
 }
 
@@ -54,7 +53,7 @@ fn test_good(
 fn test_in(part: &mut [i64], f: Model, g: Model, h: Candidate, w: Candidate) -> TestOutcome
     requires { ⌜ length (now part) ≡ scratchSize ⌝ }
     ensures { λ (r : TestOutcome). ⌜ testOf r ≡ quotientTest scratchSize f g h w ⌝ }
-    ensures { λ _. ⌜ now (part .exit) ≡ zeros scratchSize ⌝ }
+    ensures { λ _. ⌜ Lent (now (part .exit)) ⌝ }
 {
     clear(part);
     if measure(f).good {
@@ -68,7 +67,7 @@ fn test_in(part: &mut [i64], f: Model, g: Model, h: Candidate, w: Candidate) -> 
             }
         }
     }
-    TestOutcome::refused(Verdict::BadModel)
+    TestOutcome::refused(Refusal::BadModel)
 }
 
 pub fn quotient(f: Model, g: Model, h: Candidate, w: Candidate, scratch: &mut [i64]) -> TestOutcome
@@ -76,7 +75,7 @@ pub fn quotient(f: Model, g: Model, h: Candidate, w: Candidate, scratch: &mut [i
     ensures { λ _. ⌜ now (scratch .exit) ≡ scratchAfter (now (scratch .entry)) ⌝ }
 {
     if scratch.len() < SCRATCH_SIZE {
-        return TestOutcome::refused(Verdict::ShortArea);
+        return TestOutcome::refused(Refusal::ShortArea);
     }
     test_in(&mut scratch[..SCRATCH_SIZE], f, g, h, w)
 }

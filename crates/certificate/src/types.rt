@@ -1,14 +1,14 @@
 // What a test answers.
 ghost use mathlib.Core.Path.{_≡_};
 ghost use mathlib.Core.Bool.{true};
-ghost use mathlib.Core.List.{[], _∷_};
-ghost use Rattle.model.specs.Models.{good, tooLarge, makeModel, candidateModel, zeroModel};
-ghost use Rattle.model.specs.declared.types.Verdict.the-variants.{Accepted};
-ghost use Rattle.certificate.specs.Tests.{testOf, tested};
-ghost use Rattle.certificate.specs.Stages.{certifiedOf};
+ghost use Rattle.model.specs.Models.{good, candidateModel};
+ghost use Rattle.model.specs.Outcomes.{numberOf};
+ghost use Rattle.certificate.specs.Tests.{withRadius, testOf};
+ghost use Rattle.certificate.specs.InnerContracts.{refusedTest, passedTest, formedTest};
 use model::types::Candidate;
 use model::types::Model;
 use model::types::PRODUCT_SIZE;
+use model::types::Refusal;
 use model::types::Verdict;
 
 // How many numbers a test borrows.
@@ -24,11 +24,11 @@ pub struct TestOutcome {
 }
 
 impl TestOutcome {
-    pub(crate) fn refused(verdict: Verdict) -> TestOutcome
-        ensures { λ (r : TestOutcome). ⌜ r ≡ certifiedOf verdict zeroModel 0 0 0 ⌝ }
+    pub(crate) fn refused(refusal: Refusal) -> TestOutcome
+        ensures { λ (r : TestOutcome). ⌜ testOf r ≡ refusedTest (numberOf refusal) ⌝ }
     {
         TestOutcome {
-            verdict,
+            verdict: Verdict::Refused(refusal),
             model: Model::zero(),
             contraction: 0,
             residual: 0,
@@ -44,7 +44,8 @@ impl TestOutcome {
         residual: u64,
         displacement: u64,
     ) -> TestOutcome
-        ensures { λ (r : TestOutcome). ⌜ r ≡ certifiedOf Accepted (makeModel (h .degree) (h .coefficients) radius) contraction residual displacement ⌝ }
+        ensures { λ (r : TestOutcome).
+            ⌜ testOf r ≡ passedTest (withRadius (candidateModel h) radius) contraction residual displacement ⌝ }
     {
         let coefficients = h.coefficients;
         TestOutcome {
@@ -65,18 +66,18 @@ impl TestOutcome {
         displacement: u64,
     ) -> TestOutcome
         requires { ⌜ good (candidateModel h) ≡ true ⌝ }
-        ensures { λ (r : TestOutcome). ⌜ testOf r ≡ tested ((tooLarge (makeModel (h .degree) (h .coefficients) radius), 3) ∷ []) (makeModel (h .degree) (h .coefficients) radius) contraction residual displacement ⌝ }
+        ensures { λ (r : TestOutcome). ⌜ testOf r ≡ formedTest (candidateModel h) radius contraction residual displacement ⌝ }
     {
         if radius <= Model::MAX_RADIUS {
             return TestOutcome::accepted(h, radius as u32, contraction, residual, displacement);
         }
-        TestOutcome::refused(Verdict::LargeResult)
+        TestOutcome::refused(Refusal::LargeResult)
     }
 }
 
 // The root test up to N and b: refused, or M, m, N and b.
 pub(crate) enum RootNumbers {
-    Refused(Verdict),
+    Refused(Refusal),
     Reached {
         weight: u64,
         contraction: u64,

@@ -1,12 +1,13 @@
 -- Lists of places (Outcomes.antt): an outcome accepts exactly if no condition holds, and then has the operation's own values.
 use mathlib.Core.Path.{_≡_, refl, sym, ap}
+use mathlib.Core.Logic.{_↔_, _≢_}
 use mathlib.Core.Bool.{Bool, true, false, not, cond, true≢false}
 use mathlib.Core.List.{List, [], _∷_, _++_}
 use Prim.Native.Nat.{ℕ}
 use native.Mathlib.Omega.{arith}
 use borrow.Author.Tests.{not-false}
 use Rattle.model.specs.Models.{good, zeroModel, badPlace}
-use Rattle.model.specs.Outcomes.{Outcome, accepted, refused, values, outcome}
+use Rattle.model.specs.Outcomes.{Outcome, accepted, refused, number, values, outcome}
 use Rattle.model.specs.Operations.{sumModel, differenceModel, productModel, addition, subtraction, multiplication}
 use Rattle.model.specs.declared.types.Model.{Model}
 
@@ -28,6 +29,18 @@ module _ {A : Type 0} where
   outcome-behind [] qs a z h = refl
   outcome-behind (p ∷ ps) qs a z h = rw (h .0) (outcome-behind ps qs a z (h .1))
 
+  -- a refusal stays the first, whatever is behind and whatever the values are
+  pub outcome-refused : {B : Type 0} (ps qs : List (Bool × ℕ)) (a z : A) (b y : B) {k : ℕ} {c : A}
+      → outcome ps a z ≡ refused k c → outcome (ps ++ qs) b y ≡ refused k y
+  unfolding outcome
+  outcome-refused [] qs a z b y e = absurd (refused-not-accepted (sym e))
+  outcome-refused (p ∷ ps) qs a z b y {k} {c} e = pick (p .0) (outcome-refused ps qs a z b y) e
+    where
+      pick : (t : Bool) → (outcome ps a z ≡ refused k c → outcome (ps ++ qs) b y ≡ refused k y)
+          → cond t (refused (p .1) z) (outcome ps a z) ≡ refused k c → cond t (refused (p .1) y) (outcome (ps ++ qs) b y) ≡ refused k y
+      pick true rest e = ap (λ (n : ℕ). refused n y) (ap number e)
+      pick false rest e = rest e
+
   pub outcome-passed : (ps : List (Bool × ℕ)) (a z : A) → Passed ps → outcome ps a z ≡ accepted a
   unfolding outcome
   outcome-passed [] a z h = refl
@@ -42,6 +55,38 @@ module _ {A : Type 0} where
           → cond t (refused (p .1) z) (outcome ps a z) ≡ accepted b → ((t ≡ false) × Passed ps) × (b ≡ a)
       pick true rest e = absurd (refused-not-accepted e)
       pick false rest e = let r = rest e in ((refl, r .0), r .1)
+
+-- ---- places of two parts
+
+pub passed-append : (ps qs : List (Bool × ℕ)) → Passed (ps ++ qs) ↔ (Passed ps × Passed qs)
+passed-append [] qs = (λ q. (tt, q), λ q. q .1)
+passed-append (p ∷ ps) qs =
+    let rest = passed-append ps qs in
+    (λ q. ((q .0, rest .0 (q .1) .0), rest .0 (q .1) .1), λ q. (q .0 .0, rest .1 (q .0 .1, q .1)))
+
+-- the place "not (good m)" passes
+pub not-of-true : (t : Bool) → t ≡ true → not t ≡ false
+not-of-true t e = ap not e
+
+-- ---- a place that never refuses
+
+-- n is none of the numbers of the list
+abbrev pub Without : ℕ → List (Bool × ℕ) → Type 0
+Without n [] = Unit {0}
+Without n (p ∷ ps) = (p .1 ≢ n) × Without n ps
+
+-- a last place whose condition fails wherever those before it do never refuses
+pub last-unused : {A : Type 0} (ps : List (Bool × ℕ)) (c : Bool) (n : ℕ) (a z : A) → Without n ps → 0 ≢ n → (Passed ps → c ≡ false)
+    → number (outcome (ps ++ ((c, n) ∷ [])) a z) ≢ n
+unfolding outcome
+last-unused [] c n a z others k unused = rw (unused tt) k
+last-unused (p ∷ ps) c n a z others k unused =
+    pick (p .0) refl (λ e. last-unused ps c n a z (others .1) k (λ q. unused (e, q)))
+  where
+    pick : (t : Bool) → p .0 ≡ t → (p .0 ≡ false → number (outcome (ps ++ ((c, n) ∷ [])) a z) ≢ n)
+        → number (cond t (refused (p .1) z) (outcome (ps ++ ((c, n) ∷ [])) a z)) ≢ n
+    pick true e rest = others .0
+    pick false e rest = rest e
 
 -- ---- the operations on two models
 

@@ -3,16 +3,15 @@ use borrow.Author.Needs.{needs}
 use mathlib.Core.Path.{_≡_, sym, _∙_, ap}
 use mathlib.Core.Logic.{⊎-elim}
 use mathlib.Core.Bool.{false, _&&_}
-use native.Mathlib.Omega.{arith}
-use Rattle.integer.specs.Clearing.{zeros}
 use Rattle.model.specs.Models.{good, candidateModel}
-use Rattle.certificate.specs.Tests.{scratchSize, testOf}
-use Rattle.certificate.specs.Stages.{quotient-bad}
+use Rattle.certificate.specs.InnerContracts.{Lent}
+use Rattle.certificate.specs.QuotientStages.{quotient-bad}
+use Rattle.certificate.proofs.Formed.{lent-scratch}
 use Rattle.certificate.proofs.quotient.test_in.Statement.{statement}
 use Rattle.certificate.proofs.quotient.test_in.Tie as tie
 
-cleared : (c : tie.After-clear) → c .clear .last .0 ≡ zeros scratchSize
-cleared c = c .clear .ensures ∙ ap zeros (c .before .before .pre)
+is-lent : (c : tie.After-clear) → Lent (c .clear .last .0)
+is-lent c = lent-scratch (c .before .before .args .part .now) (c .before .before .pre) (c .clear .ensures)
 
 test-good-requires : tie.Need-test-good-requires
 test-good-requires c κs =
@@ -20,13 +19,13 @@ test-good-requires c κs =
     let of-h = of-w .before .before in
     let of-g = of-h .before .before in
     let of-f = of-g .before .before in (
-      (
-        cleared (of-f .before .before),
-        sym (of-f .measure .ensures .0) ∙ of-g .before .if1 .taken,
-        sym (of-g .measure2 .ensures .0) ∙ of-h .before .if2 .taken,
-        sym (of-h .measure-candidate .ensures .0) ∙ of-w .before .if3 .taken,
-        sym (of-w .measure-candidate2 .ensures .0) ∙ c .before .if4 .taken,
-      ),
+      record {
+        lent = is-lent (of-f .before .before);
+        good-f = sym (of-f .measure .ensures .0) ∙ of-g .before .if1 .taken;
+        good-g = sym (of-g .measure2 .ensures .0) ∙ of-h .before .if2 .taken;
+        good-h = sym (of-h .measure-candidate .ensures .0) ∙ of-w .before .if3 .taken;
+        good-w = sym (of-w .measure-candidate2 .ensures .0) ∙ c .before .if4 .taken;
+      },
       (of-h .measure-candidate .ensures .1, of-w .measure-candidate2 .ensures .1),
     )
 
@@ -48,8 +47,8 @@ bad c =
 returns-2 : tie.Need-returns-2
 returns-2 c =
     let s = c .before .before .before .before .before .before in (
-      ap testOf (c .refused .ensures) ∙ sym (quotient-bad scratchSize (s .args .f) (s .args .g) (candidateModel (s .args .h)) (candidateModel (s .args .w)) (omega arith) (bad (c .before))),
-      cleared (c .before .before .before .before),
+      c .refused .ensures ∙ sym (quotient-bad (s .args .f) (s .args .g) (candidateModel (s .args .h)) (candidateModel (s .args .w)) (bad (c .before))),
+      is-lent (c .before .before .before .before),
     )
 
 pub test-in-spec : {M : Type 1} → statement M

@@ -1,23 +1,16 @@
 -- `root::numbers_in` meets its contract: model and candidates are measured in operand order.
 use borrow.Author.Needs.{needs}
-use mathlib.Core.Path.{_≡_, sym, _∙_, ap}
-use mathlib.Core.Bool.{true, false, _&&_}
-use native.Mathlib.Omega.{arith}
-use Rattle.integer.specs.Clearing.{zeros}
+use mathlib.Core.Path.{_≡_, sym, _∙_}
+use mathlib.Core.Bool.{true}
 use Rattle.model.specs.Models.{good, candidateModel}
-use Rattle.certificate.specs.Tests.{scratchSize}
-use Rattle.certificate.specs.RootNumbers.{refused, rootOutcome, root-bad}
+use Rattle.certificate.specs.InnerContracts.{Lent}
+use Rattle.certificate.specs.NumbersStages.{numbers-bad}
+use Rattle.certificate.proofs.Formed.{lent-scratch}
 use Rattle.certificate.proofs.root.numbers_in.Statement.{statement}
 use Rattle.certificate.proofs.root.numbers_in.Tie as tie
 
-cleared : (c : tie.After-clear) → c .clear .last .0 ≡ zeros scratchSize
-cleared c = c .clear .ensures ∙ ap zeros (c .before .before .pre)
-
--- a model or a candidate is bad
-module _ (s : tie.Start) where
-  bad : (good (s .args .f) && (good (candidateModel (s .args .h)) && good (candidateModel (s .args .w)))) ≡ false
-      → refused 2 ≡ rootOutcome scratchSize (s .args .f) (candidateModel (s .args .h)) (candidateModel (s .args .w))
-  bad e = sym (root-bad scratchSize (s .args .f) (candidateModel (s .args .h)) (candidateModel (s .args .w)) (omega arith) e)
+is-lent : (c : tie.After-clear) → Lent (c .clear .last .0)
+is-lent c = lent-scratch (c .before .before .args .part .now) (c .before .before .pre) (c .clear .ensures)
 
 good-f : (c : tie.Then1) → good (c .before .before .before .before .before .args .f) ≡ true
 good-f c = sym (c .before .measure .ensures .0) ∙ c .if1 .taken
@@ -28,12 +21,13 @@ good-h c = sym (c .before .measure-candidate .ensures .0) ∙ c .if2 .taken
 numbers-of-good-requires : tie.Need-numbers-of-good-requires
 numbers-of-good-requires c κs =
     let of-w = c .before .before in
-    let t = of-w .before in
-    let of-f = t .before .before .before in (
-      cleared (of-f .before .before),
-      good-f (t .before .before),
-      good-h t,
-      sym (of-w .measure-candidate2 .ensures .0) ∙ c .before .if3 .taken,
+    let t = of-w .before in (
+      record {
+        lent = is-lent (t .before .before .before .before .before);
+        good-f = good-f (t .before .before);
+        good-h = good-h t;
+        good-w = sym (of-w .measure-candidate2 .ensures .0) ∙ c .before .if3 .taken;
+      },
       of-w .measure-candidate2 .ensures .1,
     )
 
@@ -42,19 +36,29 @@ returns-2 c =
     let of-w = c .before in
     let t = of-w .before in
     let d = t .before .before .before .before .before in
-    (bad (d .before .before) (rw (good-f (t .before .before), good-h t) (sym (of-w .measure-candidate2 .ensures .0) ∙ c .if3 .left)), cleared d)
+    let a = d .before .before .args in (
+      sym (numbers-bad (a .f) (candidateModel (a .h)) (candidateModel (a .w))
+          (rw (good-f (t .before .before), good-h t) (sym (of-w .measure-candidate2 .ensures .0) ∙ c .if3 .left))),
+      is-lent d,
+    )
 
 returns-3 : tie.Need-returns-3
 returns-3 c =
     let of-h = c .before in
     let d = of-h .before .before .before .before in
-    (bad (d .before .before) (rw (good-f (of-h .before), sym (of-h .measure-candidate .ensures .0) ∙ c .if2 .left)), cleared d)
+    let a = d .before .before .args in (
+      sym (numbers-bad (a .f) (candidateModel (a .h)) (candidateModel (a .w))
+          (rw (good-f (of-h .before), sym (of-h .measure-candidate .ensures .0) ∙ c .if2 .left))),
+      is-lent d,
+    )
 
 returns-4 : tie.Need-returns-4
 returns-4 c =
-    let of-f = c .before in
-    let d = of-f .before .before in
-    (bad (d .before .before) (rw (sym (of-f .measure .ensures .0) ∙ c .if1 .left)), cleared d)
+    let d = c .before .before .before in
+    let a = d .before .before .args in (
+      sym (numbers-bad (a .f) (candidateModel (a .h)) (candidateModel (a .w)) (rw (sym (c .before .measure .ensures .0) ∙ c .if1 .left))),
+      is-lent d,
+    )
 
 pub numbers-in-spec : {M : Type 1} → statement M
 numbers-in-spec =

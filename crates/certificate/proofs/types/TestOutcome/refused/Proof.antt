@@ -1,12 +1,13 @@
 -- `TestOutcome::refused` meets its contract.
 use borrow.Author.Needs.{needs}
 use mathlib.Core.Path.{ap}
-use Rattle.certificate.specs.Stages.{certifiedOf}
+use Rattle.model.specs.Outcomes.{refused, numberOf}
+use Rattle.certificate.specs.Tests.{makeCertificate}
 use Rattle.certificate.proofs.types.TestOutcome.refused.Statement.{statement}
 use Rattle.certificate.proofs.types.TestOutcome.refused.Tie as tie
 
 returns : tie.Need-returns
-returns c = ap (λ m. certifiedOf (c .before .args .verdict) m 0 0 0) (c .zero .ensures)
+returns c = ap (λ m. refused (numberOf (c .before .args .refusal)) (makeCertificate m 0 0 0)) (c .zero .ensures)
 
 pub refused-spec : {M : Type 1} → statement M
 refused-spec = tie.close (tie.spec (λ c κs. search needs) returns)

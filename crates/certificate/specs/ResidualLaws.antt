@@ -1,4 +1,4 @@
--- The lists whose weights the two tests take, over a part of the list C.
+-- The lists whose weights the two tests take: elements, weights and how a part of them counts.
 use mathlib.Core.Path.{_≡_, ap, _∙_}
 use mathlib.Core.List.{List, [], _∷_}
 use Prim.Native.Nat.{ℕ, _+_, _*_, _≤_, _<_, max}
@@ -11,10 +11,7 @@ use Rattle.chebyshev.specs.Coefficients.{weight, addLists, subtractLists, scale
 use Rattle.chebyshev.specs.CoefficientLaws.{length-subtract, length-scale, getD-subtract, getD-scale, subtract-split}
 use Rattle.chebyshev.specs.Weight.{weight-subtract, weight-scale, weight-append, weight-drop, weight-opposite}
 use Rattle.model.specs.Models.{scale}
-
--- C − 2S·f
-abbrev pub residualList : List ℤ → List ℤ → List ℤ
-residualList c f = subtractLists ℤ-ring c (scaleList ℤ-ring (pos (2 * scale)) f)
+use Rattle.certificate.specs.InnerContracts.{residualList, constantResidual}
 
 module _ (c f : List ℤ) where
   pub length-residual : length (residualList c f) ≡ max (length c) (length f)
@@ -33,10 +30,6 @@ module _ (c f : List ℤ) where
       ∙ weight-append (residualList (take (length f) c) f) (drop (length f) c)
 
 -- ---- a number at place 0
-
--- z − C, from place `start` on; z stands at place 0
-abbrev pub constantResidual : ℕ → ℤ → List ℤ → List ℤ
-constantResidual start z c = subtractLists ℤ-ring (drop start (z ∷ [])) c
 
 -- as code writes it: |z − c_0| is |c_0 − z|
 pub weight-constant : (z : ℤ) (c : List ℤ) → 0 < length c → weight (set c 0 (getD c 0 (pos 0) -ℤ z)) ≡ weight (constantResidual 0 z c)
