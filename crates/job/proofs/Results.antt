@@ -1,19 +1,19 @@
 -- The work area: the results that it holds, read back and added to.
-use mathlib.Core.Path.{_≡_, refl, ap, sym, _∙_}
+use mathlib.Core.Path.{_≡_, refl, ap, ap₂, sym, _∙_}
 use mathlib.Core.List.{List, [], _∷_, _++_, append-assoc, append-nil}
 use Prim.Native.Nat.{ℕ, zero, suc, _+_, _*_, _-_, _≤_, _<_}
 use native.Mathlib.Omega.{arith}
 use lib.IntN.{ℤ}
 use lib.ListN.{length, take, drop, length-append}
-use lib.Seq.{take-at, drop-at, drop-append-add, drop-drop}
+use lib.Seq.{take-at, take-suc, take-length, drop-at, drop-append-add, drop-drop}
 use Rattle.integer.specs.Clearing.{zeros, length-zeros, zeros-append}
-use Rattle.model.specs.Models.{places}
+use Rattle.model.specs.Models.{places, zeroModel}
 use Rattle.model.specs.Areas.{modelPlaces, words, areaModel}
 use Rattle.model.specs.AreaLaws.{length-words, model-words}
 use Rattle.model.specs.declared.types.Model.{Model}
 use Rattle.job.specs.Commands.{maxResults}
 use Rattle.job.specs.Makers.{resultAt}
-use Rattle.job.specs.Work.{workPlaces, stretch, stretches, workOf, storedAt}
+use Rattle.job.specs.Work.{workSize, stretch, modelsIn, stretches, workOf, storedAt}
 use Rattle.job.specs.Steps.{Sized, Holds}
 
 length-stretches : (rs : List Model) → Sized rs → length (stretches rs) ≡ modelPlaces * length rs
@@ -56,35 +56,46 @@ drop-zeros n k t h =
     ∙ ap (λ (l : List ℤ). drop k l) (append-assoc (zeros k) (zeros (n - k)) t)
     ∙ drop-at (zeros k) (zeros (n - k) ++ t) k (length-zeros k)
 
-length-workOf : (rs : List Model) → Sized rs → length rs ≤ maxResults → length (workOf rs) ≡ workPlaces
+length-workOf : (rs : List Model) → Sized rs → length rs ≤ maxResults → length (workOf rs) ≡ workSize
 unfolding workOf
 length-workOf rs s few =
-    length-append (stretches rs) (zeros (workPlaces - modelPlaces * length rs))
-    ∙ omega (arith, length-stretches rs s, length-zeros (workPlaces - modelPlaces * length rs))
+    length-append (stretches rs) (zeros (workSize - modelPlaces * length rs))
+    ∙ omega (arith, length-stretches rs s, length-zeros (workSize - modelPlaces * length rs))
 
 -- ---- a work area that holds results
 
 module _ {w : List ℤ} {count : ℕ} {rs : List Model} {t : List ℤ} (h : Holds w count rs t) where
   abbrev z : List ℤ
-  z = zeros (workPlaces - modelPlaces * length rs)
+  z = zeros (workSize - modelPlaces * length rs)
 
   front-is : w ≡ stretches rs ++ (z ++ t)
   unfolding workOf
   front-is = h .work-is ∙ append-assoc (stretches rs) z t
 
   -- the count is the number of results
-  pub counted : Holds w (length rs) rs t
-  counted = record { work-is = h .work-is; count-is = refl; sized = h .sized }
+  pub holds-all : Holds w (length rs) rs t
+  holds-all = record { work-is = h .work-is; count-is = refl; sized = h .sized }
 
   -- the model read at result i
   pub result-held : (i : ℕ) → i < count → stretch w i ≡ resultAt rs i
   result-held i lt =
       ap (λ (l : List ℤ). stretch l i) front-is ∙ stretch-result rs (z ++ t) i (h .sized) (omega (arith, h .count-is))
 
+  models-upto : (n : ℕ) → n ≤ count → modelsIn w n ≡ take n rs
+  unfolding modelsIn
+  models-upto zero le = refl
+  models-upto (suc n) le =
+      let b = h .count-is in
+      ap₂ (λ (a : List Model) (m : Model). a ++ (m ∷ [])) (models-upto n (omega arith)) (result-held n (omega arith))
+      ∙ sym (take-suc rs n zeroModel (omega (arith, b)))
+
+  pub models-held : modelsIn w (length rs) ≡ rs
+  models-held = models-upto (length rs) (omega (arith, h .count-is)) ∙ take-length rs
+
   -- the numbers behind
-  pub behind : length rs ≤ maxResults → drop workPlaces w ≡ t
+  pub behind : length rs ≤ maxResults → drop workSize w ≡ t
   behind few =
-      ap (λ (l : List ℤ). drop workPlaces l) (h .work-is) ∙ drop-at (workOf rs) t workPlaces (length-workOf rs (h .sized) few)
+      ap (λ (l : List ℤ). drop workSize l) (h .work-is) ∙ drop-at (workOf rs) t workSize (length-workOf rs (h .sized) few)
 
   -- a model stored as the next result
   pub stored-holds : (m : Model) → count < maxResults → length (m .coefficients) ≡ places
@@ -93,7 +104,7 @@ module _ {w : List ℤ} {count : ℕ} {rs : List Model} {t : List ℤ} (h : Hold
   stored-holds m few h33 =
       let rs′ : List Model = rs ++ (m ∷ []) in
       let a : ℕ = modelPlaces * count in
-      let z′ : List ℤ = zeros (workPlaces - modelPlaces * length rs′) in
+      let z′ : List ℤ = zeros (workSize - modelPlaces * length rs′) in
       let ce : count ≡ length rs = h .count-is in
       let la : length (stretches rs) ≡ a = omega (arith, length-stretches rs (h .sized)) in
       let lr : length rs′ ≡ length rs + 1 = length-append rs (m ∷ []) in
@@ -102,7 +113,7 @@ module _ {w : List ℤ} {count : ℕ} {rs : List Model} {t : List ℤ} (h : Hold
       ap (λ (l : List ℤ). drop (a + modelPlaces) l) front-is
       ∙ sym (drop-drop modelPlaces a (stretches rs ++ (z ++ t)))
       ∙ ap (λ (l : List ℤ). drop modelPlaces l) (drop-at (stretches rs) (z ++ t) a la)
-      ∙ drop-zeros (workPlaces - modelPlaces * length rs) modelPlaces t (omega arith)
+      ∙ drop-zeros (workSize - modelPlaces * length rs) modelPlaces t (omega arith)
       ∙ ap (λ (k : ℕ). zeros k ++ t) (omega arith) in record {
         work-is =
             ap (λ (l : List ℤ). l ++ (words m ++ drop (a + modelPlaces) w)) front

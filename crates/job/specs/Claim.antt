@@ -20,9 +20,9 @@ use Rattle.certificate.specs.RootSound.{root-sound, root-overlap}
 use Rattle.model.specs.declared.types.Model.{Model}
 use Rattle.job.specs.Makers.{Maker, load, add, subtract, multiply, quotient, root, resultAt, operation}
 use Rattle.job.specs.Commands.{Command, result, finish}
-use Rattle.job.specs.Reading.{commandOf}
-use Rattle.job.specs.Made.{MadeFrom, MadeBy}
-use Rattle.job.specs.Boxes.{Box, Permitted, load-box, add-box, subtract-box, multiply-box, quotient-box, root-box, Overlaps}
+use Rattle.job.specs.JobReading.{commandOf}
+use Rattle.job.specs.MadeLaws.{MadeFrom, MadeBy}
+use Rattle.job.specs.Requirement.{Box, Permitted, load-box, add-box, subtract-box, multiply-box, quotient-box, root-box, Overlaps}
 use Rattle.job.specs.Hull.{sum-lies, difference-lies, product-lies, quotient-lies}
 
 -- each result is what its command gives for the results, without a refusal

@@ -25,8 +25,8 @@ use Rattle.model.specs.declared.types.Model.{Model}
 use Rattle.job.specs.Bytes.{signedsAt}
 use Rattle.job.specs.Makers.{load, add, subtract, multiply, quotient, root}
 use Rattle.job.specs.Commands.{Command, result, makerAt, readingPlaces, readingNumber}
-use Rattle.job.specs.Reading.{readFrom, readingOf, commandsOf, commandOf}
-use Rattle.job.specs.Boxes.{Box, Lies, Permitted, load-box, add-box, subtract-box, multiply-box, quotient-box, root-box}
+use Rattle.job.specs.JobReading.{readFrom, jobReading, well}
+use Rattle.job.specs.Requirement.{Box, Lies, Permitted, load-box, add-box, subtract-box, multiply-box, quotient-box, root-box}
 use Rattle.job.specs.ExampleJob.{exampleJob}
 
 abbrev third : ℚ
@@ -37,10 +37,10 @@ abbrev ends : (l : ℤ) (a : ℕ) (h : ℤ) (b : ℕ) → (l /1+ a) ≤ℚ (h /1
 ends l a h b o = record { low = l /1+ a; high = h /1+ b; ordered = o }
 
 -- the models of the blocks: a constant, and a multiple of T_1
-abbrev constantOf : ℕ → Model
+abbrev pub constantOf : ℕ → Model
 constantOf c = modelOf 0 ((pos c ∷ []) ++ replicate 32 (pos 0)) 0
 
-abbrev linearOf : ℕ → Model
+abbrev pub linearOf : ℕ → Model
 linearOf c = modelOf 1 ((pos 0 ∷ pos c ∷ []) ++ replicate 31 (pos 0)) 0
 
 -- 4; 1/3; 4 + 1/3; (4 + 1/3) − 1/3; around 4/3; around 1; around 2
@@ -58,24 +58,22 @@ boxes =
 abbrev pub exampleBox : ℕ → Box
 exampleBox i = getD boxes i (ends (pos 0) 0 (pos 0) 0 (le-refl ℚ-ordered _))
 
-abbrev cs : List Command
-cs = commandsOf exampleJob
-
 -- ---- the commands, read from the bytes
 
-abbrev Commands : Type 0
-Commands =
-    (commandOf cs 0 ≡ result (load (constantOf 4194304)))
-    × ((commandOf cs 1 ≡ result (load (linearOf 1048576)))
-    × ((commandOf cs 2 ≡ result (add 0 1))
-    × ((commandOf cs 3 ≡ result (subtract 2 1))
-    × ((commandOf cs 4 ≡ result (multiply 3 1 2))
-    × ((commandOf cs 5 ≡ result (quotient 3 0 (constantOf 1048576) (constantOf 262144)))
-    × (commandOf cs 6 ≡ result (root 3 (constantOf 2097152) (constantOf 262144))))))))
+abbrev pub cs : List Command
+cs =
+    result (load (constantOf 4194304))
+    ∷ result (load (linearOf 1048576))
+    ∷ result (add 0 1)
+    ∷ result (subtract 2 1)
+    ∷ result (multiply 3 1 2)
+    ∷ result (quotient 3 0 (constantOf 1048576) (constantOf 262144))
+    ∷ result (root 3 (constantOf 2097152) (constantOf 262144))
+    ∷ []
 
-commands : Commands
-unfolding readingOf readFrom readingNumber readingPlaces firstRefusal makerAt signedsAt
-commands = (refl, (refl, (refl, (refl, (refl, (refl, refl))))))
+pub example-read : jobReading exampleJob ≡ well cs
+unfolding jobReading readFrom readingNumber readingPlaces firstRefusal makerAt signedsAt
+example-read = refl
 
 -- ---- what the loads allow
 
@@ -108,32 +106,32 @@ abbrev Allowed : ℕ → Type 0
 Allowed i = Permitted cs third exampleBox i
 
 permitted-0 : Allowed 0
-permitted-0 = load-box 0 (constantOf 4194304) (pos 4 /1+ 0) (commands .0) allows-four refl refl
+permitted-0 = load-box 0 (constantOf 4194304) (pos 4 /1+ 0) refl allows-four refl refl
 
 permitted-1 : Allowed 1
-permitted-1 = load-box 1 (linearOf 1048576) third (commands .1 .0) allows-third refl refl
+permitted-1 = load-box 1 (linearOf 1048576) third refl allows-third refl refl
 
 permitted-2 : Allowed 2
-permitted-2 = add-box 2 0 1 (commands .1 .1 .0) permitted-0 permitted-1 sum sum
+permitted-2 = add-box 2 0 1 refl permitted-0 permitted-1 sum sum
   where
     sum : pos 13 /1+ 2 ≡ pos 4 /1+ 0 +ℚ pos 1 /1+ 2
     sum = simp fraction-add (fraction-eq _ _ _ _ (simp (den-mul, den-is)))
 
 permitted-3 : Allowed 3
-permitted-3 = subtract-box 3 2 1 (commands .1 .1 .1 .0) permitted-2 permitted-1 difference difference
+permitted-3 = subtract-box 3 2 1 refl permitted-2 permitted-1 difference difference
   where
     difference : pos 12 /1+ 2 ≡ pos 13 /1+ 2 -ℚ pos 1 /1+ 2
     difference = simp (fraction-neg, fraction-add) (fraction-eq _ _ _ _ (simp (den-mul, den-is)))
 
 permitted-4 : Allowed 4
-permitted-4 = multiply-box 4 3 1 2 (commands .1 .1 .1 .1 .0) permitted-3 permitted-1 (record { low-low = four-thirds; low-high = four-thirds; high-low = four-thirds; high-high = four-thirds })
+permitted-4 = multiply-box 4 3 1 2 refl permitted-3 permitted-1 (record { low-low = four-thirds; low-high = four-thirds; high-low = four-thirds; high-high = four-thirds })
   where
     four-thirds : Lies (pos 12 /1+ 2 *ℚ pos 1 /1+ 2) (exampleBox 4)
     four-thirds = record { above = simp (fraction-mul, fraction-le, den-mul, den-is) (leZ-yes tt); below = simp (fraction-mul, fraction-le, den-mul, den-is) (leZ-yes tt) }
 
 permitted-5 : Allowed 5
 permitted-5 =
-    quotient-box 5 3 0 (constantOf 1048576) (constantOf 262144) (commands .1 .1 .1 .1 .1 .0) permitted-3 permitted-0
+    quotient-box 5 3 0 (constantOf 1048576) (constantOf 262144) refl permitted-3 permitted-0
     (λ h. outside (simp (whole-is, fraction-le, den-is) at (h .above)))
     (record { low-low = one; low-high = one; high-low = one; high-high = one })
   where
@@ -151,7 +149,7 @@ permitted-5 =
 
 permitted-6 : Allowed 6
 permitted-6 =
-    root-box 6 3 (constantOf 2097152) (constantOf 262144) (commands .1 .1 .1 .1 .1 .1) permitted-3
+    root-box 6 3 (constantOf 2097152) (constantOf 262144) refl permitted-3
     (inr (positive, simp (fraction-mul, fraction-le, den-mul, den-is) (leZ-yes tt)))
     (simp (whole-is, fraction-le, den-is) (leZ-yes tt))
     (simp (fraction-mul, fraction-le, den-mul, den-is) (leZ-yes tt))

@@ -3,6 +3,7 @@ use mathlib.Core.Path.{_≡_, refl}
 use mathlib.Core.List.{List, [], _∷_, _++_}
 use Prim.Native.Nat.{ℕ, _+_, _/_, _%_}
 use lib.ListN.{replicate, length}
+use Rattle.model.specs.declared.types.Model.{Model}
 use Rattle.integer.specs.Rounding.{upℕ, near, floor}
 use Rattle.chebyshev.specs.Coefficients.{weight, addLists, subtractLists, scaleList}
 use Rattle.chebyshev.specs.Product.{addAt, addPair, addRow, addRows, product}
@@ -13,7 +14,8 @@ use Rattle.certificate.specs.Tests.{tested, quotientOf, rootOf, rootPlaces, quo
 use Rattle.job.specs.Bytes.{signedsAt}
 use Rattle.job.specs.Makers.{operation}
 use Rattle.job.specs.Commands.{makerAt, readingPlaces, readingNumber}
-use Rattle.job.specs.Jobs.{command, run, jobOf, JobOutcome, accepted, refused}
+use Rattle.job.specs.Outcomes.{JobOutcome, accepted, refused}
+use Rattle.job.specs.Jobs.{command, run, jobOf}
 
 -- a natural number as four bytes, the lowest first
 abbrev word : ℕ → List ℕ
@@ -37,7 +39,7 @@ exampleJob =
     ++ ((0x21 ∷ 3 ∷ block 0 2097152 0) ++ block 0 262144 0
     ++ (0x00 ∷ []))))))))
 
-abbrev count : JobOutcome → ℕ
+abbrev count : JobOutcome (List Model) → ℕ
 count (accepted rs) = length rs
 count (refused n k) = 1000 + n
 

@@ -9,7 +9,7 @@ ghost use Rattle.certificate.specs.Tests.{testOf};
 ghost use Rattle.job.specs.Bytes.{byteAt};
 ghost use Rattle.job.specs.Commands.{keptByte, maxResults, makerAt};
 ghost use Rattle.job.specs.Makers.{fromTest};
-ghost use Rattle.job.specs.Work.{workPlaces, stretch};
+ghost use Rattle.job.specs.Work.{workSize, stretch};
 ghost use Rattle.job.specs.Steps.{Performs, Operable, NamesTwo, Clear};
 use crate::bytes::read_candidate;
 use crate::bytes::read_model;
@@ -23,7 +23,7 @@ use model::types::Verdict;
 
 // The result that byte i of the job names.
 fn named(job: &[u8], i: usize, work: &[i32]) -> Model
-    requires { ⌜ (i < length (now job)) × ((byteAt (now job) i < maxResults) × (workPlaces ≤ length (now work))) ⌝ }
+    requires { ⌜ (i < length (now job)) × ((byteAt (now job) i < maxResults) × (workSize ≤ length (now work))) ⌝ }
     ensures { λ (m : Model). ⌜ m ≡ stretch (now (work .entry)) (byteAt (now (job .entry)) i) ⌝ }
 {
     stretch_at(work, job[i] as usize)

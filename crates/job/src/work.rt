@@ -7,18 +7,18 @@ ghost use Rattle.integer.specs.Clearing.{zeros};
 ghost use Rattle.model.specs.Areas.{Storable};
 ghost use Rattle.certificate.specs.Tests.{scratchPlaces};
 ghost use Rattle.job.specs.Commands.{maxResults};
-ghost use Rattle.job.specs.Work.{workPlaces, stretch, storedAt};
+ghost use Rattle.job.specs.Work.{workSize, stretch, storedAt};
 use certificate::types::SCRATCH_PLACES;
 use model::area::MODEL_PLACES;
 use model::area::read;
 use model::area::write;
 use model::types::Model;
 
-pub const WORK_PLACES: usize = 1120;
+pub const WORK_SIZE: usize = 1120;
 
 // Writes a model into stretch i.
 pub(crate) fn store(work: &mut [i32], i: usize, m: Model)
-    requires { ⌜ (workPlaces ≤ length (now work)) × ((i < maxResults) × Storable m) ⌝ }
+    requires { ⌜ (workSize ≤ length (now work)) × ((i < maxResults) × Storable m) ⌝ }
     ensures { λ _. ⌜ now (work .exit) ≡ storedAt (now (work .entry)) i m ⌝ }
 {
     let a = MODEL_PLACES * i;
@@ -27,7 +27,7 @@ pub(crate) fn store(work: &mut [i32], i: usize, m: Model)
 
 // The model in stretch i.
 pub fn stretch_at(work: &[i32], i: usize) -> Model
-    requires { ⌜ (workPlaces ≤ length (now work)) × (i < maxResults) ⌝ }
+    requires { ⌜ (workSize ≤ length (now work)) × (i < maxResults) ⌝ }
     ensures { λ (m : Model). ⌜ m ≡ stretch (now (work .entry)) i ⌝ }
 {
     let a = MODEL_PLACES * i;
@@ -36,11 +36,11 @@ pub fn stretch_at(work: &[i32], i: usize) -> Model
 
 // The first 1,120 numbers become zero.
 pub(crate) fn clear_work(work: &mut [i32])
-    requires { ⌜ workPlaces ≤ length (now work) ⌝ }
-    ensures { λ _. ⌜ now (work .exit) ≡ zeros workPlaces ++ drop workPlaces (now (work .entry)) ⌝ }
+    requires { ⌜ workSize ≤ length (now work) ⌝ }
+    ensures { λ _. ⌜ now (work .exit) ≡ zeros workSize ++ drop workSize (now (work .entry)) ⌝ }
 {
     let mut i: usize = 0;
-    while i < WORK_PLACES {
+    while i < WORK_SIZE {
         work[i] = 0;
         i += 1;
     }

@@ -2,7 +2,7 @@
 use mathlib.Core.Path.{_∙_}
 use native.Mathlib.Omega.{arith}
 use denote.Ref.{now}
-use Rattle.job.specs.Work.{workPlaces}
+use Rattle.job.specs.Work.{workSize}
 use Rattle.job.proofs.Entry.{cleared-is, cleared-clear, short-work, short-scratch, ran-leaves}
 use borrow.Author.Needs.{needs}
 use Rattle.job.proofs.run.check.Statement.{statement}
@@ -25,7 +25,7 @@ run-requires c κs =
     let es = d .clear-scratch .ensures in (
       omega (arith, e .clear-work .kept .0, e .before .before .before .if1 .left),
       (
-        cleared-is workPlaces (now (g .work)) (e .clear-work .last .0) ew,
+        cleared-is workSize (now (g .work)) (e .clear-work .last .0) ew,
         cleared-clear (now (g .scratch)) (d .clear-scratch .last .0) es
             (omega (arith, d .clear-scratch .kept .0, e .before .before .if2 .left)),
       ),
@@ -41,7 +41,7 @@ returns-3 c =
     ran-leaves (now (g .job)) (now (g .work)) (now (g .scratch)) (e .before .before .before .if1 .left)
     (e .before .before .if2 .left)
     (e .clear-work .last .0) (r .run .last .1 .0) (r .run .last .1 .1 .0) (r .run .result) (e .clear-work .ensures)
-    (record { answer = r .run .ensures .0; work-is = r .run .ensures .1 .0; vouched = r .run .ensures .1 .1 .1 })
+    (record { answer = r .run .ensures .0; work-is = r .run .ensures .1 .0; claim = r .run .ensures .1 .1 .1 })
     (r .run .ensures .1 .1 .0 ∙ d .clear-scratch .ensures)
 
 pub check-spec : {M : Type 1} → statement M

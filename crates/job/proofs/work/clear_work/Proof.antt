@@ -1,20 +1,20 @@
 -- `work::clear_work` meets its contract.
 use borrow.Author.Needs.{needs}
 use Prim.Native.Nat.{_-_}
-use Rattle.job.specs.Work.{workPlaces}
+use Rattle.job.specs.Work.{workSize}
 use Rattle.integer.specs.Filling.{ends}
 use Rattle.integer.specs.Clearing.{Clearing, clearing-begins, clearing-turn}
 use Rattle.job.proofs.work.clear_work.Statement.{statement}
 use Rattle.job.proofs.work.clear_work.Tie as tie
 
 abbrev Inv-loop : tie.InvT-loop
-Inv-loop work₀ i₀ work i = Clearing workPlaces work₀ work i
+Inv-loop work₀ i₀ work i = Clearing workSize work₀ work i
 
 abbrev μ-loop : tie.MeasureT-loop
-μ-loop work₀ i₀ work i = workPlaces - i
+μ-loop work₀ i₀ work i = workSize - i
 
 loop-holds : tie.Need-loop-holds Inv-loop μ-loop
-loop-holds c = clearing-begins workPlaces _ (c .pre)
+loop-holds c = clearing-begins workSize _ (c .pre)
 
 loop-again : tie.Need-loop-again Inv-loop μ-loop
 loop-again c = clearing-turn (c .before .loop .inv) (c .loop-test .taken)

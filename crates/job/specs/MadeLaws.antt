@@ -1,5 +1,4 @@
--- "each of its results is exactly the loaded model, or what the operation or test of its command gives for the results, d and
--- blocks it names": the commands of the results beside the results.
+-- Results made one after the other: each is what its command gives for all of them.
 use mathlib.Core.Path.{_≡_, refl, ap, ap₂, sym}
 use mathlib.Core.Bool.{Bool, true, false}
 use mathlib.Core.List.{List, [], _∷_, _++_}
@@ -13,14 +12,9 @@ use Rattle.model.specs.Models.{zeroModel}
 use Rattle.model.specs.declared.types.Model.{Model}
 use Rattle.job.specs.Makers.{Maker, Given, Row, of-none, of-one, of-two, rowOf, badIn, resultAt, givenIn, namesBad, operation}
 use Rattle.job.specs.Commands.{Command, edition, result, finish, unknown}
-use Rattle.job.specs.Reading.{commandOf}
+use Rattle.job.specs.JobReading.{commandOf}
+use Rattle.job.specs.Requirement.{Made, nothing, one-more}
 use Rattle.job.specs.CommandLaws.{both-below}
-
--- the results rs are made by the commands cs, one after the other, each from those before it
-pub data Made : List Command → List Model → Type 0 where
-  nothing : Made [] []
-  one-more : {cs : List Command} {rs : List Model} → Made cs rs → (m : Maker) → namesBad m (length rs) ≡ false
-      → operation m rs .number ≡ 0 → Made (cs ++ (result m ∷ [])) (rs ++ (operation m rs .model ∷ []))
 
 pub made-length : {cs : List Command} {rs : List Model} → Made cs rs → length cs ≡ length rs
 made-length nothing = refl
