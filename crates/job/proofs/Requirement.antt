@@ -1,5 +1,5 @@
 -- Requirement 3 of an accepted job, of the models as left in the work area.
-use mathlib.Core.Path.{_≡_, refl, sym, subst, subst⁻¹, _∙_}
+use mathlib.Core.Path.{_≡_, refl, subst, subst⁻¹}
 use mathlib.Core.Bool.{false}
 use mathlib.Core.List.{List, []}
 use Prim.Native.Nat.{ℕ, _<_}
@@ -20,8 +20,8 @@ use Rattle.job.specs.JobReading.{commandOf}
 use Rattle.job.specs.Work.{stretch}
 use Rattle.job.specs.Steps.{Holds}
 use Rattle.job.specs.CommandLaws.{both-below}
-use Rattle.job.specs.Requirement.{Overlaps, Made, Vouched, Results, Requirement3}
-use Rattle.job.specs.MadeLaws.{MadeBy, made-length, made-from-all}
+use Rattle.job.specs.Requirement.{Overlaps, Made, Results, Requirement3}
+use Rattle.job.specs.MadeLaws.{made-maker}
 use Rattle.job.specs.Accepted.{accepted-read}
 use Rattle.job.specs.Claim.{overlaps, divisor-nonzero, radicand-positive}
 use Rattle.job.proofs.Results.{result-held, models-held}
@@ -33,12 +33,9 @@ module _ (job : List ℕ) (rs : List Model) (e : jobOf job ≡ accepted rs) (wor
   all-made : Made cs rs
   all-made = accepted-read job rs e .2
 
-  made : (i : ℕ) → i < length cs → MadeBy (commandOf cs i) rs i (resultAt rs i)
-  made i h = made-from-all all-made i (omega (arith, made-length all-made))
-
   -- the results that a command names stand before its own
-  named : (i : ℕ) (m : Maker) → i < length rs → commandOf cs i ≡ result m → namesBad m i ≡ false
-  named i m h f = subst (λ (c : Command). MadeBy c rs i (resultAt rs i)) f (made i (omega (arith, made-length all-made))) .names
+  named : (i : ℕ) (m : Maker) → commandOf cs i ≡ result m → namesBad m i ≡ false
+  named i m f = made-maker all-made i m f .names
 
   -- what a stretch allows, its result allows
   allowed : (x v : ℚ) (i : ℕ) → i < length rs → Allows (stretch work i) x v → Allows (resultAt rs i) x v
@@ -50,13 +47,13 @@ module _ (job : List ℕ) (rs : List Model) (e : jobOf job ≡ accepted rs) (wor
     read = accepted-read job rs e .1;
     made = subst⁻¹ (Made cs) (models-held holds) all-made;
     vouched = λ i h x on. record {
-      overlaps = λ box p. subst⁻¹ (λ (m : Model). Overlaps (box i) m x) (result-held holds i h) (overlaps cs rs made x on box p);
+      overlaps = λ box p. subst⁻¹ (λ (m : Model). Overlaps (box i) m x) (result-held holds i h) (overlaps all-made x on box p);
       divisor = λ j k d w f v a.
-          divisor-nonzero cs rs made x on i j k d w f v (allowed x v k (omega (arith, both-below i j k (named i (quotient j k d w) h f))) a);
+          divisor-nonzero all-made x on i j k d w f v (allowed x v k (omega (arith, both-below i j k (named i (quotient j k d w) f))) a);
       radicand = λ j d w f v a n.
           n
           (lt-le ℚ-ordered
-          (radicand-positive cs rs made x on i j d w f v (allowed x v j (omega (arith, leb-false i j (named i (root j d w) h f))) a)));
+          (radicand-positive all-made x on i j d w f v (allowed x v j (omega (arith, leb-false i j (named i (root j d w) f))) a)));
     };
   }
 

@@ -21,3 +21,7 @@ pub mod Claim
 pub mod Examples
 pub mod ExampleJob
 pub mod ExampleBoxes
+pub mod ExactValues
+pub mod ExactAllowed
+pub mod ChosenValues
+pub mod ExactExists
