@@ -8,7 +8,6 @@ use Prim.Native.Nat.{ℕ, zero, suc, _<_}
 use native.Mathlib.Omega.{arith}
 use borrow.Author.Tests.{leb-false}
 use lib.IntN.{ℤ}
-use lib.ListN.{length, length-append}
 use Rattle.integer.specs.Fraction.{ℚ, _*ℚ_, -ℚ_, reifyℚ, solveℚ}
 use Rattle.integer.specs.FractionOrder.{∣_∣ℚ, absℚ-nonneg, absℚ-cases}
 use Rattle.model.specs.Values.{Allows, OnInterval}
@@ -16,18 +15,14 @@ use Rattle.job.specs.Makers.{Maker, load, add, subtract, multiply, quoti
 use Rattle.job.specs.Commands.{Command, result}
 use Rattle.job.specs.JobReading.{commandOf}
 use Rattle.job.specs.Outcomes.{JobOutcome, accepted}
-use Rattle.job.specs.Work.{stretch, modelsIn}
+use Rattle.job.specs.Work.{stretch}
+use Rattle.job.specs.WorkLaws.{length-modelsIn}
 use Rattle.job.specs.CommandLaws.{both-below}
 use Rattle.job.specs.Requirement.{Requirement3}
 use Rattle.job.specs.MadeLaws.{made-maker, made-by-maker}
 use Rattle.job.specs.ExactValues.{Exact, load-value, add-value, subtract-value, multiply-value, quotient-value, root-value, Names, itself, through, Chosen, Follows}
 use Rattle.job.specs.ChosenValues.{values-to}
 use Rattle.job.specs.ExactAllowed.{vouchedFor, cs, exact-allowed, exact-divisor}
-
-length-modelsIn : (w : List ℤ) (n : ℕ) → length (modelsIn w n) ≡ n
-unfolding modelsIn
-length-modelsIn w zero = refl
-length-modelsIn w (suc n) = omega (arith, length-append (modelsIn w n) (stretch w n ∷ []), length-modelsIn w n)
 
 -- the square of an absolute value
 square-abs : (c : ℚ) → ∣ c ∣ℚ *ℚ ∣ c ∣ℚ ≡ c *ℚ c

@@ -51,7 +51,7 @@ module _ (cs : List Command) (rs : List Model) (c : Command) (x : Model) (n : le
   last : i ≡ length rs → MadeBy c rs (length rs) x → Added
   last e b = rw (getD-at cs c [] finish i (omega arith), getD-at rs x [] zeroModel i (sym e), take-at rs (x ∷ []) i (sym e), e) b
 
-made-at : {cs : List Command} {rs : List Model} → Made cs rs → (i : ℕ) → i < length rs
+pub made-at : {cs : List Command} {rs : List Model} → Made cs rs → (i : ℕ) → i < length rs
     → MadeBy (commandOf cs i) (take i rs) i (resultAt rs i)
 made-at nothing i lt = absurd (omega arith)
 made-at (one-more {cs} {rs} d m h₁ h₂) i lt = by (ltb i (length rs)) refl (λ h. made-at d i h)
