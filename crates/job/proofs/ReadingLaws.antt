@@ -6,7 +6,7 @@ use Prim.Native.Nat.{ℕ, _+_}
 use lib.Dec.{eqb, leb, ltb}
 use lib.ListN.{length}
 use Rattle.model.specs.Models.{firstRefusal}
-use Rattle.job.specs.Commands.{shapeAt, maxResults, badKind, badValues, badBytes, makesResult, isEnd, readingPlaces, readingNumber, ReadOutcome, found, refusal, readOutcome}
+use Rattle.job.specs.Commands.{shapeAt, maxResults, badKind, badValues, badBytes, makesResult, isEnd, readingPlaces, readingNumber, CommandReading, found, commandReading}
 use Rattle.job.specs.declared.types.Shape.{Shape}
 use Rattle.job.proofs.KindLaws.{agrees}
 
@@ -25,9 +25,9 @@ module _ (job : List ℕ) (k count at : ℕ) (s : Shape) where
       ∷ (isEnd (s .kind) && ltb next (length job), 11)
       ∷ []
 
-  abbrev pub outcomeWith : ℕ → ReadOutcome
-  outcomeWith n = cond (eqb n 0) (found (s .kind) next) (refusal n)
+  abbrev pub outcomeWith : ℕ → CommandReading
+  outcomeWith n = cond (eqb n 0) (found (s .kind) next) (CommandReading.refused n)
 
-  pub read-with : s ≡ shapeAt job k count at → readOutcome job k count at ≡ outcomeWith (firstRefusal placesWith)
-  unfolding readOutcome readingNumber readingPlaces
+  pub read-with : s ≡ shapeAt job k count at → commandReading job k count at ≡ outcomeWith (firstRefusal placesWith)
+  unfolding commandReading readingNumber readingPlaces
   read-with e = rw (e, agrees (shapeAt job k count at .kind) .named job at count)

@@ -1,19 +1,19 @@
 -- The work area: the results that it holds, read back and added to.
-use mathlib.Core.Path.{_≡_, refl, ap, sym, _∙_}
+use mathlib.Core.Path.{_≡_, refl, ap, ap₂, sym, _∙_}
 use mathlib.Core.List.{List, [], _∷_, _++_, append-assoc, append-nil}
 use Prim.Native.Nat.{ℕ, zero, suc, _+_, _*_, _-_, _≤_, _<_}
 use native.Mathlib.Omega.{arith}
 use lib.IntN.{ℤ}
 use lib.ListN.{length, take, drop, length-append}
-use lib.Seq.{take-at, drop-at, drop-append-add, drop-drop}
+use lib.Seq.{take-at, take-suc, take-length, drop-at, drop-append-add, drop-drop}
 use Rattle.integer.specs.Clearing.{zeros, length-zeros, zeros-append}
-use Rattle.model.specs.Models.{coefficientCount}
+use Rattle.model.specs.Models.{coefficientCount, zeroModel}
 use Rattle.model.specs.Areas.{modelSize, words, areaModel}
 use Rattle.model.specs.AreaLaws.{length-words, model-words}
 use Rattle.model.specs.declared.types.Model.{Model}
 use Rattle.job.specs.Commands.{maxResults}
 use Rattle.job.specs.Makers.{resultAt}
-use Rattle.job.specs.Work.{workSize, stretch, stretches, workOf, storedAt}
+use Rattle.job.specs.Work.{workSize, stretch, modelsIn, stretches, workOf, storedAt}
 use Rattle.job.specs.Steps.{Sized, Holds}
 
 length-stretches : (rs : List Model) → Sized rs → length (stretches rs) ≡ modelSize * length rs
@@ -73,13 +73,24 @@ module _ {w : List ℤ} {count : ℕ} {rs : List Model} {t : List ℤ} (h : Hold
   front-is = h .work-is ∙ append-assoc (stretches rs) z t
 
   -- the count is the number of results
-  pub counted : Holds w (length rs) rs t
-  counted = record { work-is = h .work-is; count-is = refl; sized = h .sized }
+  pub holds-all : Holds w (length rs) rs t
+  holds-all = record { work-is = h .work-is; count-is = refl; sized = h .sized }
 
   -- the model read at result i
   pub result-held : (i : ℕ) → i < count → stretch w i ≡ resultAt rs i
   result-held i lt =
       ap (λ (l : List ℤ). stretch l i) front-is ∙ stretch-result rs (z ++ t) i (h .sized) (omega (arith, h .count-is))
+
+  models-upto : (n : ℕ) → n ≤ count → modelsIn w n ≡ take n rs
+  unfolding modelsIn
+  models-upto zero le = refl
+  models-upto (suc n) le =
+      let b = h .count-is in
+      ap₂ (λ (a : List Model) (m : Model). a ++ (m ∷ [])) (models-upto n (omega arith)) (result-held n (omega arith))
+      ∙ sym (take-suc rs n zeroModel (omega (arith, b)))
+
+  pub models-held : modelsIn w (length rs) ≡ rs
+  models-held = models-upto (length rs) (omega (arith, h .count-is)) ∙ take-length rs
 
   -- the numbers behind
   pub behind : length rs ≤ maxResults → drop workSize w ≡ t

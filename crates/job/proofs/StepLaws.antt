@@ -17,8 +17,8 @@ use Rattle.model.specs.declared.types.Verdict.{Verdict}
 use Rattle.model.specs.declared.types.Verdict.the-variants.{Accepted, ShortArea, BadModel, LargeResult, PointOutside, NotContracting, LargeResidual, HelperNotPositive, NegativeDiscriminant, BadValue, JobEnds, BytesAfterEnd, NotAResult, TooManyResults}
 use Rattle.model.proofs.types.Verdict.{the-type}
 use Rattle.job.specs.Makers.{Maker, Row, of-none, of-one, of-two, rowOf, badIn, namesBad}
-use Rattle.job.specs.Commands.{maxResults, shapeAt, nextAt, commandAt, readingPlaces, readingNumber, ReadOutcome, found, refusal, readOutcome}
-use Rattle.job.specs.Jobs.{no, performed, command}
+use Rattle.job.specs.Commands.{maxResults, shapeAt, nextAt, commandAt, readingPlaces, readingNumber, CommandReading, found, commandReading}
+use Rattle.job.specs.Jobs.{refused, performed, command}
 use Rattle.job.specs.CommandLaws.{both-below, Readable, readable, reading-numbered}
 use Rattle.job.specs.Work.{workSize}
 use Rattle.job.specs.Steps.{Performable}
@@ -27,49 +27,49 @@ use Rattle.job.specs.declared.types.Kind.{Kind}
 -- ---- what a reading says of the command
 
 -- by what the reading answers
-abbrev ByReading : List ℕ → ℕ → List Model → ℕ → ReadOutcome → Type 0
+abbrev ByReading : List ℕ → ℕ → List Model → ℕ → CommandReading → Type 0
 ByReading job k rs at (found kind next) = command job k rs at ≡ performed (commandAt kind job at) rs next
-ByReading job k rs at (refusal n) = command job k rs at ≡ no n
+ByReading job k rs at (CommandReading.refused n) = command job k rs at ≡ refused n
 
-by-reading : (job : List ℕ) (k : ℕ) (rs : List Model) (at : ℕ) → ByReading job k rs at (readOutcome job k (length rs) at)
-unfolding command readOutcome
+by-reading : (job : List ℕ) (k : ℕ) (rs : List Model) (at : ℕ) → ByReading job k rs at (commandReading job k (length rs) at)
+unfolding command commandReading
 by-reading job k rs at = by (eqb (readingNumber job k (length rs) at) 0) refl
   where
-    by : (t : Bool) → eqb (readingNumber job k (length rs) at) 0 ≡ t → ByReading job k rs at (readOutcome job k (length rs) at)
+    by : (t : Bool) → eqb (readingNumber job k (length rs) at) 0 ≡ t → ByReading job k rs at (commandReading job k (length rs) at)
     by true e = simp e refl
     by false e = simp e refl
 
-module _ (job : List ℕ) (k count : ℕ) (rs : List Model) (at : ℕ) (e : count ≡ length rs) (o : ReadOutcome)
-    (h : readOutcome job k count at ≡ o) where
+module _ (job : List ℕ) (k count : ℕ) (rs : List Model) (at : ℕ) (e : count ≡ length rs) (o : CommandReading)
+    (h : commandReading job k count at ≡ o) where
   read-is : ByReading job k rs at o
-  read-is = subst (ByReading job k rs at) (ap (λ (n : ℕ). readOutcome job k n at) (sym e) ∙ h) (by-reading job k rs at)
+  read-is = subst (ByReading job k rs at) (ap (λ (n : ℕ). commandReading job k n at) (sym e) ∙ h) (by-reading job k rs at)
 
 pub read-refuses : (job : List ℕ) (k count : ℕ) (rs : List Model) (at n : ℕ) → count ≡ length rs
-    → readOutcome job k count at ≡ refusal n → command job k rs at ≡ no n
-read-refuses job k count rs at n e h = read-is job k count rs at e (refusal n) h
+    → commandReading job k count at ≡ CommandReading.refused n → command job k rs at ≡ refused n
+read-refuses job k count rs at n e h = read-is job k count rs at e (CommandReading.refused n) h
 
 pub read-performs : (job : List ℕ) (k count : ℕ) (rs : List Model) (at : ℕ) (kind : Kind) (next : ℕ) → count ≡ length rs
-    → readOutcome job k count at ≡ found kind next → command job k rs at ≡ performed (commandAt kind job at) rs next
+    → commandReading job k count at ≡ found kind next → command job k rs at ≡ performed (commandAt kind job at) rs next
 read-performs job k count rs at kind next e h = read-is job k count rs at e (found kind next) h
 
 module _ (job : List ℕ) (k count at : ℕ) (kind : Kind) (next : ℕ) (work : List ℤ)
-    (h : readOutcome job k count at ≡ found kind next) where
+    (h : commandReading job k count at ≡ found kind next) where
   abbrev reading : ℕ
   reading = readingNumber job k count at
 
   found-none : reading ≡ 0
-  unfolding readOutcome
+  unfolding commandReading
   found-none = by (eqb reading 0) refl
     where
       by : (t : Bool) → eqb reading 0 ≡ t → reading ≡ 0
       by true e = eqb-true reading 0 e
       by false e =
-          let z : _≡_ {A = ReadOutcome} (refusal reading) (found kind next) = simp e at h in
+          let z : _≡_ {A = CommandReading} (CommandReading.refused reading) (found kind next) = simp e at h in
           let y : _≡_ {A = ℕ} 0 1 = cc z in
           absurd (omega arith)
 
   kind-is : shapeAt job k count at .kind ≡ kind
-  unfolding readOutcome
+  unfolding commandReading
   kind-is =
       let z : found (shapeAt job k count at .kind) (nextAt job k count at) ≡ found kind next = simp found-none at h in
       cc z

@@ -8,13 +8,15 @@ use lib.ListN.{length}
 use Rattle.model.specs.RefusalLaws.{Passed, first-refusal-zero}
 use Rattle.model.specs.declared.types.Model.{Model}
 use Rattle.job.specs.Commands.{Command, edition, result, finish, unknown, commandAt, shapeAt, commandRead, nextAt, badKind, badNames, isEnd, readingPlaces, readingNumber}
-use Rattle.job.specs.Jobs.{operationPlaces, accepted, jobOf}
-use Rattle.job.specs.Reading.{Reading, well, readOn, readFrom, readingOf, ReadsWell, commandsOf}
-use Rattle.job.specs.Places.{passed-front}
-use Rattle.job.specs.Order.{resultsAfter, placesOf, isLast, Reaches, start, next}
+use Rattle.job.specs.Outcomes.{accepted}
+use Rattle.job.specs.Jobs.{jobOf}
+use Rattle.job.specs.JobReading.{JobReading, well, readOn, readFrom, jobReading, ReadsWell}
+use Rattle.job.specs.PlaceLaws.{passed-front}
+use Rattle.job.specs.Order.{operationPlaces, resultsAfter, placesOf, isLast, Reaches, start, next}
 use Rattle.job.specs.CommandLaws.{isEnd-is, reading-numbered, operation-passed, command-readable, command-passed}
 use Rattle.job.specs.OrderLaws.{reaches-bounds, accepted-exactly}
-use Rattle.job.specs.Made.{Made, nothing, one-more, made-length}
+use Rattle.job.specs.Requirement.{Made, nothing, one-more}
+use Rattle.job.specs.MadeLaws.{made-length}
 use Rattle.job.specs.declared.types.Kind.{Kind}
 use Rattle.job.specs.declared.types.Kind.the-variants.{End, Edition, Result, Unknown}
 
@@ -25,7 +27,7 @@ commandsAfter (result m) cs = cs ++ (result m ∷ [])
 commandsAfter finish cs = cs
 commandsAfter unknown cs = cs
 
-module _ (on : List Command → Reading) (cs : List Command) (job : List ℕ) (k at : ℕ) where
+module _ (on : List Command → JobReading) (cs : List Command) (job : List ℕ) (k at : ℕ) where
   reads-on : (kind : Kind) → isEnd kind ≡ false → badKind k kind ≡ false
       → readOn k on cs (commandAt kind job at) ≡ on (commandsAfter (commandAt kind job at) cs)
   reads-on End e b = absurd (true≢false e)
@@ -44,7 +46,7 @@ made-after unknown d n f = d
 record Reached (job : List ℕ) (k : ℕ) (rs : List Model) (at : ℕ) : Type 0 where
   cs : List Command
   made : Made cs rs
-  left : readFrom (length job + 1 - k) job k cs at ≡ readingOf job
+  left : readFrom (length job + 1 - k) job k cs at ≡ jobReading job
 
 module _ {job : List ℕ} {k : ℕ} {rs : List Model} {at : ℕ} (r : Reaches job k rs at) (h : Reached job k rs at)
     (f : Passed (placesOf job k rs at)) where
@@ -54,7 +56,7 @@ module _ {job : List ℕ} {k : ℕ} {rs : List Model} {at : ℕ} (r : Reaches jo
   abbrev kind : Kind
   kind = shapeAt job k (length rs) at .kind
 
-  abbrev onward : List Command → Reading
+  abbrev onward : List Command → JobReading
   onward cs = readFrom (length job + 1 - (k + 1)) job (k + 1) cs (nextAt job k (length rs) at)
 
   abbrev reading : List (Bool × ℕ)
@@ -65,7 +67,7 @@ module _ {job : List ℕ} {k : ℕ} {rs : List Model} {at : ℕ} (r : Reaches jo
   no-refusal = rw (made-length (h .made))
       (first-refusal-zero reading (reading-numbered job k (length rs) at) .1 (passed-front reading (operationPlaces c rs) f))
 
-  by-reading : readOn k onward (h .cs) c ≡ readingOf job
+  by-reading : readOn k onward (h .cs) c ≡ jobReading job
   unfolding readFrom
   by-reading =
       let b = reaches-bounds r in
@@ -79,18 +81,19 @@ module _ {job : List ℕ} {k : ℕ} {rs : List Model} {at : ℕ} (r : Reaches jo
     left = sym (reads-on onward (h .cs) job k at kind e (command-readable job k rs at f .kind-good)) ∙ by-reading;
   }
 
-  reached-end : isLast job k rs at ≡ true → readingOf job ≡ well (h .cs)
+  reached-end : isLast job k rs at ≡ true → jobReading job ≡ well (h .cs)
   reached-end e = sym by-reading ∙ ap (λ (x : Kind). readOn k onward (h .cs) (commandAt x job at)) (isEnd-is kind e)
 
 reached : {job : List ℕ} {k : ℕ} {rs : List Model} {at : ℕ} → Reaches job k rs at → Reached job k rs at
-unfolding readingOf
+unfolding jobReading
 reached {job} start = record { cs = []; made = nothing; left = ap (λ (f : ℕ). readFrom f job 0 [] 0) (omega arith) }
 reached (next r f e) = reached-next r (reached r) f e
 
 -- ---- an accepted job
 
 module _ (job : List ℕ) (rs : List Model) (h : jobOf job ≡ accepted rs) where
-  accepted-read : (cs : List Command) × (readingOf job ≡ well cs) × Made cs rs
+  -- its results are made by the commands that its bytes hold
+  pub accepted-read : (cs : List Command) × (jobReading job ≡ well cs) × Made cs rs
   accepted-read =
       let m = accepted-exactly job rs .0 h in
       let d = reached (m .2) in
@@ -98,10 +101,3 @@ module _ (job : List ℕ) (rs : List Model) (h : jobOf job ≡ accepted rs) wher
 
   pub accepted-reads-well : ReadsWell job
   accepted-reads-well = (accepted-read .0, accepted-read .1)
-
-  -- the results are made by the commands that the bytes hold
-  pub accepted-made : Made (commandsOf job) rs
-  accepted-made = rw (accepted-read .1) (accepted-read .2)
-
-  pub accepted-length : length (commandsOf job) ≡ length rs
-  accepted-length = made-length accepted-made

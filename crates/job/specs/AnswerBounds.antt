@@ -12,31 +12,32 @@ use lib.ListN.{length, length-append}
 use Rattle.model.specs.declared.types.Model.{Model}
 use Rattle.job.specs.Makers.{operation}
 use Rattle.job.specs.Commands.{makerAt, commandAt, shapeAt, maxResults, badKind, isEnd}
-use Rattle.job.specs.Jobs.{JobOutcome, accepted, refused, jobOf}
-use Rattle.job.specs.Work.{areasFit, checkOf, Answer, answered}
+use Rattle.job.specs.Outcomes.{JobOutcome, accepted, refused, counted, refusedCommand, resultCount}
+use Rattle.job.specs.Jobs.{jobOf}
+use Rattle.job.specs.Work.{areasFit, checkOf}
 use Rattle.job.specs.Order.{resultsAfter, Reaches, start, next}
 use Rattle.job.specs.OrderLaws.{reaches-bounds, refused-exactly, accepted-exactly}
 use Rattle.job.specs.CommandLaws.{command-readable}
 use Rattle.job.specs.declared.types.Kind.{Kind}
 use Rattle.job.specs.declared.types.Kind.the-variants.{End, Edition, Result, Unknown}
 
-counted : (job : List ℕ) (k at : ℕ) (rs : List Model) → k ≤ length rs + 1 → (kind : Kind) → isEnd kind ≡ false → badKind k kind ≡ false
+more-results : (job : List ℕ) (k at : ℕ) (rs : List Model) → k ≤ length rs + 1 → (kind : Kind) → isEnd kind ≡ false → badKind k kind ≡ false
     → k + 1 ≤ length (resultsAfter (commandAt kind job at) rs) + 1
-counted job k at rs h End e b = absurd (true≢false e)
-counted job k at rs h Edition e b = omega (arith, eqb-true k 0 (not-false (eqb k 0) b))
-counted job k at rs h (Result o) e b = omega (arith, length-append rs (operation (makerAt o job at) rs .model ∷ []))
-counted job k at rs h Unknown e b = absurd (true≢false b)
+more-results job k at rs h End e b = absurd (true≢false e)
+more-results job k at rs h Edition e b = omega (arith, eqb-true k 0 (not-false (eqb k 0) b))
+more-results job k at rs h (Result o) e b = omega (arith, length-append rs (operation (makerAt o job at) rs .model ∷ []))
+more-results job k at rs h Unknown e b = absurd (true≢false b)
 
 reaches-number : {job : List ℕ} {k : ℕ} {rs : List Model} {at : ℕ} → Reaches job k rs at → k ≤ length rs + 1
 reaches-number start = omega arith
-reaches-number {job} (next {k} {rs} {at} r f e) = counted job k at rs (reaches-number r) (shapeAt job k (length rs) at .kind) e (command-readable job k rs at f .kind-good)
+reaches-number {job} (next {k} {rs} {at} r f e) = more-results job k at rs (reaches-number r) (shapeAt job k (length rs) at .kind) e (command-readable job k rs at f .kind-good)
 
-pub record Small (a : Answer) : Type 0 where
-  pub results : a .count ≤ maxResults
-  pub number : a .command ≤ maxResults + 1
+pub record Small (o : JobOutcome ℕ) : Type 0 where
+  pub results : resultCount o ≤ maxResults
+  pub number : refusedCommand o ≤ maxResults + 1
 
 module _ (job : List ℕ) where
-  outcome-small : (o : JobOutcome) → jobOf job ≡ o → Small (answered o)
+  outcome-small : (o : JobOutcome (List Model)) → jobOf job ≡ o → Small (counted o)
   outcome-small (accepted rs) e =
       let m = accepted-exactly job rs .0 e in
       let b = reaches-bounds (m .2) in
@@ -46,10 +47,10 @@ module _ (job : List ℕ) where
       let b = reaches-bounds (m .2) in
       record { results = omega arith; number = omega (arith, b .results, reaches-number (m .2)) }
 
-  pub answer-small : (w s : List ℤ) → Small (answered (checkOf job w s))
+  pub answer-small : (w s : List ℤ) → Small (counted (checkOf job w s))
   unfolding checkOf
   answer-small w s = by (areasFit w s) refl
     where
-      by : (t : Bool) → areasFit w s ≡ t → Small (answered (checkOf job w s))
+      by : (t : Bool) → areasFit w s ≡ t → Small (counted (checkOf job w s))
       by true e = rw e (outcome-small (jobOf job) refl)
       by false e = rw e (record { results = omega arith; number = omega arith })

@@ -2,7 +2,7 @@
 use mathlib.Core.Path.{_≡_, refl, ap₂, sym, _∙_}
 use mathlib.Core.Bool.{Bool, true, false, true≢false, false≢true, not, _&&_}
 use mathlib.Core.List.{List, [], _∷_}
-use mathlib.Core.Logic.{_⊎_, inl, inr, _↔_}
+use mathlib.Core.Logic.{inl, inr, _↔_}
 use Prim.Native.Nat.{ℕ}
 use native.Mathlib.Omega.{arith}
 use lib.Dec.{leb}
@@ -11,15 +11,11 @@ use lib.ListN.{length}
 use Rattle.model.specs.RefusalLaws.{Passed}
 use Rattle.certificate.specs.Tests.{scratchSize}
 use Rattle.model.specs.declared.types.Model.{Model}
-use Rattle.job.specs.Jobs.{accepted, refused, jobOf}
-use Rattle.job.specs.Places.{First, here, later}
-use Rattle.job.specs.Order.{RefusesAt, EndsWith}
+use Rattle.job.specs.Outcomes.{JobOutcome, accepted, refused}
+use Rattle.job.specs.Jobs.{jobOf}
+use Rattle.job.specs.Order.{First, here, later, EndsWith, Meets}
 use Rattle.job.specs.OrderLaws.{refused-exactly, accepted-exactly}
-use Rattle.job.specs.Work.{workSize, areasFit, checkOf}
-
--- "1: too short"
-abbrev pub areaPlaces : List ℤ → List ℤ → List (Bool × ℕ)
-areaPlaces w s = (not (leb workSize (length w)), 1) ∷ (not (leb scratchSize (length s)), 1) ∷ []
+use Rattle.job.specs.Work.{workSize, areaPlaces, areasFit, checkOf}
 
 -- two tests that are to hold
 module _ where
@@ -49,6 +45,13 @@ module _ where
   failing false b (here p e) = (refl, sym e)
   failing false b (later p f) = absurd (true≢false p)
 
+-- the places of areas that are long enough, or not
+pub areas-fit : (w s : List ℤ) → areasFit w s ≡ true → Passed (areaPlaces w s)
+areas-fit w s e = none-fails (leb workSize (length w)) (leb scratchSize (length s)) e
+
+pub areas-short : (w s : List ℤ) → areasFit w s ≡ false → First (areaPlaces w s) 1
+areas-short w s e = one-fails (leb workSize (length w)) (leb scratchSize (length s)) e
+
 module _ (job : List ℕ) (w s : List ℤ) where
   abbrev a : Bool
   a = leb workSize (length w)
@@ -64,21 +67,19 @@ module _ (job : List ℕ) (w s : List ℤ) where
   unfolding checkOf
   short e = rw e
 
-  -- a check is refused with (n, k) exactly if an area is too short, or none is and the job is refused so
-  pub check-refused-exactly : (n k : ℕ)
-      → (checkOf job w s ≡ refused n k) ↔ ((First (areaPlaces w s) n × (k ≡ 0)) ⊎ (Passed (areaPlaces w s) × RefusesAt job n k))
+  -- a check is refused with (n, k) exactly if that is the refusal that the job over these areas meets
+  pub check-refused-exactly : (n k : ℕ) → (checkOf job w s ≡ refused n k) ↔ Meets (areaPlaces w s) job n k
   check-refused-exactly n k = (into (areasFit w s) refl, from)
     where
-      into : (t : Bool) → areasFit w s ≡ t → checkOf job w s ≡ refused n k
-          → (First (areaPlaces w s) n × (k ≡ 0)) ⊎ (Passed (areaPlaces w s) × RefusesAt job n k)
-      into true e h = inr (none-fails a b e, refused-exactly job n k .0 (sym (fit e) ∙ h))
+      into : (t : Bool) → areasFit w s ≡ t → checkOf job w s ≡ refused n k → Meets (areaPlaces w s) job n k
+      into true e h = inr (areas-fit w s e, refused-exactly job n k .0 (sym (fit e) ∙ h))
       into false e h =
-          let x : refused 1 0 ≡ refused n k = sym (short e) ∙ h in
+          let x : _≡_ {A = JobOutcome (List Model)} (refused 1 0) (refused n k) = sym (short e) ∙ h in
           let y : 1 ≡ n = cc x in
           let z : k ≡ 0 = cc x in
-          inl (rw (← y) (one-fails a b e), z)
+          inl (rw (← y) (areas-short w s e), z)
 
-      from : (First (areaPlaces w s) n × (k ≡ 0)) ⊎ (Passed (areaPlaces w s) × RefusesAt job n k) → checkOf job w s ≡ refused n k
+      from : Meets (areaPlaces w s) job n k → checkOf job w s ≡ refused n k
       from (inl f) = let g = failing a b (f .0) in short (g .0) ∙ ap₂ refused (sym (g .1)) (sym (f .1))
       from (inr f) = fit (both-hold a b (f .0)) ∙ refused-exactly job n k .1 (f .1)
 
@@ -86,5 +87,5 @@ module _ (job : List ℕ) (w s : List ℤ) where
   check-accepted-exactly rs = (into (areasFit w s) refl, λ f. fit (both-hold a b (f .0)) ∙ accepted-exactly job rs .1 (f .1))
     where
       into : (t : Bool) → areasFit w s ≡ t → checkOf job w s ≡ accepted rs → Passed (areaPlaces w s) × EndsWith job rs
-      into true e h = (none-fails a b e, accepted-exactly job rs .0 (sym (fit e) ∙ h))
+      into true e h = (areas-fit w s e, accepted-exactly job rs .0 (sym (fit e) ∙ h))
       into false e h = let x : refused 1 0 ≡ accepted rs = sym (short e) ∙ h in let z : _≡_ {A = ℕ} 0 1 = cc x in absurd (omega arith)

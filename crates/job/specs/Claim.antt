@@ -1,12 +1,10 @@
 -- Requirement 3 over the definitions: what a job's commands make is vouched for. One value is chosen for each result, in its
 -- box and allowed by its model, by induction on the permission of its box.
-use mathlib.Core.Path.{_≡_, sym, _∙_, subst}
+use mathlib.Core.Path.{_≡_, sym, _∙_}
 use mathlib.Core.List.{List}
-use Prim.Native.Nat.{ℕ, _<_}
+use Prim.Native.Nat.{ℕ}
 use native.Mathlib.Omega.{arith}
-use native.Mathlib.Decide.{decLt}
 use lib.IntN.{pos}
-use lib.ListN.{length, List·getD-eq-default}
 use Rattle.integer.specs.OrderedRing.{le-of-eq}
 use Rattle.integer.specs.Fraction.{ℚ, whole, _+ℚ_, _-ℚ_, _*ℚ_}
 use Rattle.integer.specs.FractionOrder.{_<ℚ_, ℚ-ordered}
@@ -19,34 +17,19 @@ use Rattle.certificate.specs.QuotientSound.{quotient-sound, quotient-nonzero}
 use Rattle.certificate.specs.RootSound.{root-sound, root-overlap}
 use Rattle.model.specs.declared.types.Model.{Model}
 use Rattle.job.specs.Makers.{Maker, load, add, subtract, multiply, quotient, root, resultAt, operation}
-use Rattle.job.specs.Commands.{Command, result, finish}
-use Rattle.job.specs.Reading.{commandOf}
-use Rattle.job.specs.Made.{MadeFrom, MadeBy}
-use Rattle.job.specs.Boxes.{Box, Permitted, load-box, add-box, subtract-box, multiply-box, quotient-box, root-box, Overlaps}
+use Rattle.job.specs.Commands.{Command, result}
+use Rattle.job.specs.JobReading.{commandOf}
+use Rattle.job.specs.MadeLaws.{made-maker}
+use Rattle.job.specs.Requirement.{Made, Box, Permitted, load-box, add-box, subtract-box, multiply-box, quotient-box, root-box, Overlaps}
 use Rattle.job.specs.Hull.{sum-lies, difference-lies, product-lies, quotient-lies}
 
 -- each result is what its command gives for the results, without a refusal
-module _ (cs : List Command) (rs : List Model)
-    (made : (i : ℕ) → i < length cs → MadeBy (commandOf cs i) rs i (resultAt rs i)) where
-  -- a command that makes a result is among those of the job
-  listed : (i : ℕ) (m : Maker) → commandOf cs i ≡ result m → i < length cs
-  listed i m e = pick (decLt i (length cs))
-    where
-      pick : Dec (i < length cs) → i < length cs
-      pick (yes h) = h
-      pick (no h) =
-          let d : commandOf cs i ≡ finish = List·getD-eq-default cs finish (omega arith) in
-          let z : _≡_ {A = ℕ} 0 1 = cc in
-          absurd (omega arith)
-
-  from : (i : ℕ) (m : Maker) → commandOf cs i ≡ result m → MadeFrom m rs i (resultAt rs i)
-  from i m e = subst (λ (c : Command). MadeBy c rs i (resultAt rs i)) e (made i (listed i m e))
-
+module _ {cs : List Command} {rs : List Model} (made : Made cs rs) where
   passes : (i : ℕ) (m : Maker) → commandOf cs i ≡ result m → operation m rs .number ≡ 0
-  passes i m e = from i m e .succeeds
+  passes i m e = made-maker made i m e .succeeds
 
   gives : (i : ℕ) (m : Maker) → commandOf cs i ≡ result m → resultAt rs i ≡ operation m rs .model
-  gives i m e = from i m e .gives
+  gives i m e = made-maker made i m e .gives
 
   module _ (x : ℚ) (on : OnInterval x) where
     pub overlaps : (box : ℕ → Box) {i : ℕ} → Permitted cs x box i → Overlaps (box i) (resultAt rs i) x

@@ -15,9 +15,9 @@ use Rattle.certificate.specs.Tests.{tested, quotientOf, rootPlaces, rootOf}
 use Rattle.model.specs.declared.types.Model.{Model}
 use Rattle.job.specs.Makers.{Maker, load, add, subtract, multiply, quotient, root, operation, makerPlaces}
 use Rattle.job.specs.Commands.{Command, edition, result, finish, unknown, makerAt, commandAt, shapeAt, commandRead, nextAt, maxResults, badKind, badValues, badNames, makesResult, isEnd, readingPlaces, readingNumber}
-use Rattle.job.specs.Jobs.{operationPlaces, more, over, no, resulting, performed, command}
-use Rattle.job.specs.Places.{First, first-is, first-positive, passed-front, passed-back, first-parts}
-use Rattle.job.specs.Order.{resultsAfter, placesOf, isLast}
+use Rattle.job.specs.Jobs.{more, over, refused, resulting, performed, command}
+use Rattle.job.specs.PlaceLaws.{first-is, first-positive, passed-front, passed-back, first-parts}
+use Rattle.job.specs.Order.{First, operationPlaces, resultsAfter, placesOf, isLast}
 use Rattle.job.specs.declared.types.Kind.{Kind}
 use Rattle.job.specs.declared.types.Kind.the-variants.{End, Edition, Result, Unknown}
 
@@ -81,7 +81,7 @@ isEnd-is Edition e = absurd (false≢true e)
 isEnd-is (Result o) e = absurd (false≢true e)
 isEnd-is Unknown e = absurd (false≢true e)
 
-pub resulting-refuses : (rs : List Model) (next n : ℕ) (o : Outcome) → o .number ≡ n → 0 < n → resulting rs next o ≡ no n
+pub resulting-refuses : (rs : List Model) (next n : ℕ) (o : Outcome) → o .number ≡ n → 0 < n → resulting rs next o ≡ refused n
 resulting-refuses rs next n o e h = rw e (simp (ne-eqb n 0 (omega arith)))
 
 pub resulting-takes : (rs : List Model) (next : ℕ) (o : Outcome) → o .number ≡ 0
@@ -94,7 +94,7 @@ module _ (rs : List Model) (next n : ℕ) where
   unfolding firstRefusal
   nowhere f = omega (arith, first-positive tt f, first-is f)
 
-  performed-refuses : (c : Command) → First (operationPlaces c rs) n → performed c rs next ≡ no n
+  performed-refuses : (c : Command) → First (operationPlaces c rs) n → performed c rs next ≡ refused n
   performed-refuses edition f = absurd (nowhere f)
   performed-refuses (result m) f =
       resulting-refuses rs next n (operation m rs) (lawful m rs .number-is ∙ first-is f) (first-positive (lawful m rs .numbered) f)
@@ -131,11 +131,11 @@ module _ (job : List ℕ) (k : ℕ) (rs : List Model) (at : ℕ) where
   unfolding placesOf
   command-readable f = readable job k (length rs) at (passed-front reading (operationPlaces c rs) f)
 
-  pub command-refuses : {n : ℕ} → First (placesOf job k rs at) n → command job k rs at ≡ no n
+  pub command-refuses : {n : ℕ} → First (placesOf job k rs at) n → command job k rs at ≡ refused n
   unfolding placesOf command readingNumber
   command-refuses {n} f = by (first-parts reading (operationPlaces c rs) f)
     where
-      by : First reading n ⊎ (Passed reading × First (operationPlaces c rs) n) → command job k rs at ≡ no n
+      by : First reading n ⊎ (Passed reading × First (operationPlaces c rs) n) → command job k rs at ≡ refused n
       by (inl g) =
           let h : 0 < n = first-positive (reading-numbered job k (length rs) at) g in
           rw (first-is g) (simp (ne-eqb n 0 (omega arith)))

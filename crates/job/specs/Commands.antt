@@ -16,8 +16,8 @@ use Rattle.job.specs.declared.types.Names.the-variants.{Nothing, One, Tw
 use Rattle.job.specs.declared.types.Values.{Values}
 use Rattle.job.specs.declared.types.Values.the-variants.{Any, EditionOne, KeptDegree}
 use Rattle.job.specs.declared.types.Shape.{Shape}
-use Rattle.job.specs.declared.types.Read.{Read}
-use Rattle.job.specs.declared.types.Read.the-variants.{Command as CommandRead, Refused}
+use Rattle.job.specs.declared.types.CommandReading.{CommandReading as CodeReading}
+use Rattle.job.specs.declared.types.CommandReading.the-variants.{Command as CommandRead, Refused}
 
 -- "Results are counted 0 to 31 as they arise."
 abbrev pub maxResults : ℕ
@@ -63,7 +63,7 @@ layoutOf Unknown = record { width = 0; names = Nothing; values = Any }
 
 -- "The command byte decides the operand width and the operation"
 abbrev pub shapeWith : Kind → Shape
-shapeWith kind = record { kind = kind; width = layoutOf kind .width; names = layoutOf kind .names; values = layoutOf kind .values }
+shapeWith kind = let o = layoutOf kind in record { kind = kind; width = o .width; names = o .names; values = o .values }
 
 abbrev pub shapeOf : ℕ → Shape
 shapeOf b = shapeWith (kindIn commandBytes b)
@@ -177,16 +177,16 @@ module _ (job : List ℕ) (k count at : ℕ) where
   readingNumber = firstRefusal readingPlaces
 
 -- what reading answers: the kind of the command and the next position, or a refusal
-pub data ReadOutcome : Type 0 where
-  found : Kind → ℕ → ReadOutcome
-  refusal : ℕ → ReadOutcome
+pub data CommandReading : Type 0 where
+  found : Kind → ℕ → CommandReading
+  refused : ℕ → CommandReading
 
-abbrev pub readOutcomeOf : Read → ReadOutcome
-readOutcomeOf (CommandRead kind next) = found kind next
-readOutcomeOf (Refused v) = refusal (numberOf v)
+abbrev pub commandReadingOf : CodeReading → CommandReading
+commandReadingOf (CommandRead kind next) = found kind next
+commandReadingOf (Refused v) = refused (numberOf v)
 
-unfoldable pub readOutcome : List ℕ → ℕ → ℕ → ℕ → ReadOutcome
-readOutcome job k count at =
+unfoldable pub commandReading : List ℕ → ℕ → ℕ → ℕ → CommandReading
+commandReading job k count at =
     cond (eqb (readingNumber job k count at) 0)
     (found (shapeAt job k count at .kind) (nextAt job k count at))
-    (refusal (readingNumber job k count at))
+    (refused (readingNumber job k count at))

@@ -1,167 +1,108 @@
--- The claim of requirement 3 is not empty: at x = 1/3, for the job of ExampleJob.antt, which is accepted with load, add, subtract,
--- multiply, quotient and root, boxes of all results are permitted.
-use mathlib.Core.Path.{_≡_, refl, sym, _∙_, ap}
-use mathlib.Core.Logic.{inr}
-use mathlib.Core.List.{List, [], _∷_, _++_}
-use Prim.Native.Nat.{ℕ}
+-- Boxes that 01 permits for the job of ExampleJob.antt at x = 1/3, wider than single fractions from the first product on.
+use mathlib.Core.Path.{_≡_, refl, sym, subst}
+use mathlib.Core.Logic.{inl, inr}
+use mathlib.Core.List.{List, [], _∷_}
+use Prim.Native.Nat.{ℕ, suc, _<_}
 use native.Mathlib.Omega.{arith}
-use lib.IntN.{ℤ, pos, _*ℤ_}
-use lib.ListN.{replicate, getD}
+use lib.IntN.{ℤ, pos, negsuc, _*ℤ_}
+use lib.ListN.{getD}
 use lib.Signed.{_≤ℤ_, leZ-yes}
-use Rattle.integer.specs.OrderedRing.{le-refl, abs-of-nonneg}
-use Rattle.integer.specs.Fraction.{ℚ, whole, whole-is, _/1+_, _+ℚ_, _-ℚ_, _*ℚ_, fraction-add, fraction-mul, fraction-eq, fraction-exact, den-is, den-mul, ℚ-ring, reifyℚ, solveℚ}
+use Rattle.integer.specs.OrderedRing.{le-refl}
+use Rattle.integer.specs.Fraction.{ℚ, whole, whole-is, _/1+_, _*ℚ_, fraction-add, fraction-mul, fraction-eq, den-is, den-mul}
 use Rattle.integer.specs.FractionOrder.{_≤ℚ_, _<ℚ_, ℚ-ordered, fraction-le, fraction-neg}
-use Rattle.integer.specs.FractionRounding.{natural-le}
-use Rattle.integer.specs.Parts.{_⁺}
-use Rattle.integer.specs.FractionInverse.{_/ℚ_, inverse-right}
-use Rattle.chebyshev.specs.Kinds.{firstKind}
-use Rattle.chebyshev.specs.Coefficients.{value, valueFrom}
-use Rattle.chebyshev.specs.CoefficientLaws.{value-constant}
-use Rattle.chebyshev.specs.Allows.{allows}
-use Rattle.model.specs.Models.{scale, makeModel, firstRefusal}
-use Rattle.model.specs.Values.{position, AllowsAt, Allows}
-use Rattle.model.specs.ValueLaws.{valueAt, valueAt-append-zeros}
-use Rattle.model.specs.declared.types.Model.{Model}
-use Rattle.job.specs.Bytes.{signedsAt}
-use Rattle.job.specs.Makers.{load, add, subtract, multiply, quotient, root}
-use Rattle.job.specs.Commands.{Command, result, makerAt, readingPlaces, readingNumber}
-use Rattle.job.specs.Reading.{readFrom, readingOf, commandsOf, commandOf}
-use Rattle.job.specs.Boxes.{Box, Lies, Permitted, load-box, add-box, subtract-box, multiply-box, quotient-box, root-box}
-use Rattle.job.specs.ExampleJob.{exampleJob}
-
-abbrev third : ℚ
-third = pos 1 /1+ 2
+use Rattle.job.specs.Requirement.{Box, Lies, Permitted, load-box, add-box, subtract-box, multiply-box, quotient-box, root-box}
+use Rattle.job.specs.ExampleJob.{exampleCommands}
+use Rattle.job.specs.ExampleValues.{third, allows-a, allows-b, divided, nonzero, upto-at}
 
 -- a box by its ends, in order
 abbrev ends : (l : ℤ) (a : ℕ) (h : ℤ) (b : ℕ) → (l /1+ a) ≤ℚ (h /1+ b) → Box
 ends l a h b o = record { low = l /1+ a; high = h /1+ b; ordered = o }
 
--- the models of the blocks: a constant, and a multiple of T_1
-abbrev constantOf : ℕ → Model
-constantOf c = makeModel 0 ((pos c ∷ []) ++ replicate 32 (pos 0)) 0
-
-abbrev linearOf : ℕ → Model
-linearOf c = makeModel 1 ((pos 0 ∷ pos c ∷ []) ++ replicate 31 (pos 0)) 0
-
--- 4; 1/3; 4 + 1/3; (4 + 1/3) − 1/3; around 4/3; around 1; around 2
+-- a; b; around a·a, a, a + b, b, (a + b)·(a + b), that over a, a + b
 abbrev boxes : List Box
 boxes =
-    ends (pos 4) 0 (pos 4) 0 (le-refl ℚ-ordered _)
-    ∷ ends (pos 1) 2 (pos 1) 2 (le-refl ℚ-ordered _)
-    ∷ ends (pos 13) 2 (pos 13) 2 (le-refl ℚ-ordered _)
-    ∷ ends (pos 12) 2 (pos 12) 2 (le-refl ℚ-ordered _)
-    ∷ ends (pos 1) 0 (pos 2) 0 (simp (fraction-le, den-is) (leZ-yes tt))
-    ∷ ends (pos 1) 1 (pos 3) 1 (simp (fraction-le, den-is) (leZ-yes tt))
+    ends (pos 257) 127 (pos 257) 127 (le-refl ℚ-ordered _)
+    ∷ ends (pos 11) 31 (pos 11) 31 (le-refl ℚ-ordered _)
+    ∷ ends (pos 4) 0 (pos 5) 0 (simp (fraction-le, den-is) (leZ-yes tt))
     ∷ ends (pos 1) 0 (pos 3) 0 (simp (fraction-le, den-is) (leZ-yes tt))
+    ∷ ends (pos 43) 31 (pos 107) 31 (simp (fraction-le, den-is) (leZ-yes tt))
+    ∷ ends (negsuc 84) 127 (pos 171) 127 (simp (fraction-le, den-is) (leZ-yes tt))
+    ∷ ends (pos 1) 0 (pos 12) 0 (simp (fraction-le, den-is) (leZ-yes tt))
+    ∷ ends (pos 1) 2 (pos 12) 0 (simp (fraction-le, den-is) (leZ-yes tt))
+    ∷ ends (pos 0) 0 (pos 4) 0 (simp (fraction-le, den-is) (leZ-yes tt))
     ∷ []
 
 abbrev pub exampleBox : ℕ → Box
 exampleBox i = getD boxes i (ends (pos 0) 0 (pos 0) 0 (le-refl ℚ-ordered _))
 
-abbrev cs : List Command
-cs = commandsOf exampleJob
+abbrev pub Fits : ℕ → Type 0
+Fits i = Permitted exampleCommands third exampleBox i
 
--- ---- the commands, read from the bytes
+-- a fraction between the ends
+module _ (l : ℤ) (a : ℕ) (h : ℤ) (b : ℕ) (o : (l /1+ a) ≤ℚ (h /1+ b)) where
+  between : {v : ℚ} (p : ℤ) (q : ℕ) → p /1+ q ≡ v → (l *ℤ pos (suc q)) ≤ℤ (p *ℤ pos (suc a)) → (p *ℤ pos (suc b)) ≤ℤ (h *ℤ pos (suc q))
+      → Lies v (ends l a h b o)
+  between p q e t u =
+      subst (λ z. Lies z (ends l a h b o)) e (record { above = simp (fraction-le, den-is) t; below = simp (fraction-le, den-is) u })
 
-abbrev Commands : Type 0
-Commands =
-    (commandOf cs 0 ≡ result (load (constantOf 4194304)))
-    × ((commandOf cs 1 ≡ result (load (linearOf 1048576)))
-    × ((commandOf cs 2 ≡ result (add 0 1))
-    × ((commandOf cs 3 ≡ result (subtract 2 1))
-    × ((commandOf cs 4 ≡ result (multiply 3 1 2))
-    × ((commandOf cs 5 ≡ result (quotient 3 0 (constantOf 1048576) (constantOf 262144)))
-    × (commandOf cs 6 ≡ result (root 3 (constantOf 2097152) (constantOf 262144))))))))
+fits-0 : Fits 0
+fits-0 = load-box 0 _ _ refl allows-a refl refl
 
-commands : Commands
-unfolding readingOf readFrom readingNumber readingPlaces firstRefusal makerAt signedsAt
-commands = (refl, (refl, (refl, (refl, (refl, (refl, refl))))))
+fits-1 : Fits 1
+fits-1 = load-box 1 _ _ refl allows-b refl refl
 
--- ---- what the loads allow
-
-exact : (m : Model) (x v : ℚ) → v *ℚ whole (pos scale) ≡ valueAt x (m .coefficients) → Allows m x v
-unfolding position AllowsAt allows
-exact m x v e = rw (ap (λ z. z -ℚ valueAt x (m .coefficients)) e ∙ same, abs-of-nonneg ℚ-ordered (le-refl ℚ-ordered (whole (pos 0)))) (natural-le (omega arith))
+fits-2 : Fits 2
+fits-2 = multiply-box 2 0 0 0 refl fits-0 fits-0 (record { low-low = l; low-high = l; high-low = l; high-high = l })
   where
-    same : valueAt x (m .coefficients) -ℚ valueAt x (m .coefficients) ≡ whole (pos 0)
-    same = solveℚ (valueAt x (m .coefficients) ∷ []) (search reifyℚ depth 9) (search reifyℚ depth 9) tt
+    l : Lies (pos 257 /1+ 127 *ℚ pos 257 /1+ 127) (exampleBox 2)
+    l = between (pos 4) 0 (pos 5) 0 _ (pos 66049) 16383 (simp fraction-mul (fraction-eq _ _ _ _ (simp (den-mul, den-is)))) (leZ-yes tt) (leZ-yes tt)
 
-allows-four : Allows (constantOf 4194304) third (pos 4 /1+ 0)
-allows-four =
-    exact (constantOf 4194304) third (pos 4 /1+ 0)
-    (simp (whole-is, fraction-mul) (fraction-eq _ _ _ _ (simp (den-mul, den-is)))
-    ∙ sym (valueAt-append-zeros third (pos 4194304 ∷ []) 32 ∙ value-constant ℚ-ring third (whole (pos 4194304))))
-
-allows-third : Allows (linearOf 1048576) third third
-unfolding value valueFrom firstKind
-allows-third = exact (linearOf 1048576) third third (sym (valueAt-append-zeros third (pos 0 ∷ pos 1048576 ∷ []) 31 ∙ solveℚ (third ∷ []) (search reifyℚ depth 12) (search reifyℚ depth 12) tt))
-
--- ---- the permissions
-
-nonzero : ¬ (pos 4 /1+ 0 ≡ whole (pos 0))
-nonzero e = absurd-four (simp den-is at (fraction-exact (pos 4) 0 (pos 0) 0 (e ∙ whole-is (pos 0))))
+positive : whole (pos 0) <ℚ pos 1 /1+ 0
+positive h = below (simp (whole-is, fraction-le, den-is) at h)
   where
-    absurd-four : pos 4 ≡ pos 0 → ⊥
-    absurd-four e = omega (arith, ap _⁺ e)
+    below : (pos 1 *ℤ pos 1) ≤ℤ (pos 0 *ℤ pos 1) → ⊥
+    below h = h .le
 
-abbrev Allowed : ℕ → Type 0
-Allowed i = Permitted cs third exampleBox i
+fits-3 : Fits 3
+fits-3 =
+    root-box 3 2 _ _ refl fits-2 (inr (positive, simp (fraction-mul, fraction-le, den-mul, den-is) (leZ-yes tt)))
+    (simp (whole-is, fraction-le, den-is) (leZ-yes tt)) (simp (fraction-mul, fraction-le, den-mul, den-is) (leZ-yes tt))
 
-permitted-0 : Allowed 0
-permitted-0 = load-box 0 (constantOf 4194304) (pos 4 /1+ 0) (commands .0) allows-four refl refl
+fits-4 : Fits 4
+fits-4 =
+    add-box 4 3 1 refl fits-3 fits-1 (simp fraction-add (fraction-eq _ _ _ _ (simp (den-mul, den-is))))
+    (simp fraction-add (fraction-eq _ _ _ _ (simp (den-mul, den-is))))
 
-permitted-1 : Allowed 1
-permitted-1 = load-box 1 (linearOf 1048576) third (commands .1 .0) allows-third refl refl
+fits-5 : Fits 5
+fits-5 =
+    subtract-box 5 4 0 refl fits-4 fits-0 (simp (fraction-neg, fraction-add) (fraction-eq _ _ _ _ (simp (den-mul, den-is))))
+    (simp (fraction-neg, fraction-add) (fraction-eq _ _ _ _ (simp (den-mul, den-is))))
 
-permitted-2 : Allowed 2
-permitted-2 = add-box 2 0 1 (commands .1 .1 .0) permitted-0 permitted-1 sum sum
-  where
-    sum : pos 13 /1+ 2 ≡ pos 4 /1+ 0 +ℚ pos 1 /1+ 2
-    sum = simp fraction-add (fraction-eq _ _ _ _ (simp (den-mul, den-is)))
+fits-6 : Fits 6
+fits-6 =
+    multiply-box 6 4 4 32 refl fits-4 fits-4 (record {
+      low-low = between (pos 1) 0 (pos 12) 0 _ (pos 1849) 1023 (simp fraction-mul (fraction-eq _ _ _ _ (simp (den-mul, den-is)))) (leZ-yes tt) (leZ-yes tt);
+      low-high = between (pos 1) 0 (pos 12) 0 _ (pos 4601) 1023 (simp fraction-mul (fraction-eq _ _ _ _ (simp (den-mul, den-is)))) (leZ-yes tt) (leZ-yes tt);
+      high-low = between (pos 1) 0 (pos 12) 0 _ (pos 4601) 1023 (simp fraction-mul (fraction-eq _ _ _ _ (simp (den-mul, den-is)))) (leZ-yes tt) (leZ-yes tt);
+      high-high = between (pos 1) 0 (pos 12) 0 _ (pos 11449) 1023 (simp fraction-mul (fraction-eq _ _ _ _ (simp (den-mul, den-is)))) (leZ-yes tt) (leZ-yes tt);
+    })
 
-permitted-3 : Allowed 3
-permitted-3 = subtract-box 3 2 1 (commands .1 .1 .1 .0) permitted-2 permitted-1 difference difference
-  where
-    difference : pos 12 /1+ 2 ≡ pos 13 /1+ 2 -ℚ pos 1 /1+ 2
-    difference = simp (fraction-neg, fraction-add) (fraction-eq _ _ _ _ (simp (den-mul, den-is)))
+fits-7 : Fits 7
+fits-7 =
+    let n = nonzero 1 0 (omega arith) in
+    let k = nonzero 3 0 (omega arith) in
+    quotient-box 7 6 3 _ _ refl fits-6 fits-3 (λ l. positive (l .above)) (record {
+      low-low = between (pos 1) 2 (pos 12) 0 _ (pos 1) 0 (divided _ _ _ n (simp fraction-mul (fraction-eq _ _ _ _ (simp (den-mul, den-is))))) (leZ-yes tt) (leZ-yes tt);
+      low-high = between (pos 1) 2 (pos 12) 0 _ (pos 1) 2 (divided _ _ _ k (simp fraction-mul (fraction-eq _ _ _ _ (simp (den-mul, den-is))))) (leZ-yes tt) (leZ-yes tt);
+      high-low = between (pos 1) 2 (pos 12) 0 _ (pos 12) 0 (divided _ _ _ n (simp fraction-mul (fraction-eq _ _ _ _ (simp (den-mul, den-is))))) (leZ-yes tt) (leZ-yes tt);
+      high-high = between (pos 1) 2 (pos 12) 0 _ (pos 4) 0 (divided _ _ _ k (simp fraction-mul (fraction-eq _ _ _ _ (simp (den-mul, den-is))))) (leZ-yes tt) (leZ-yes tt);
+    })
 
-permitted-4 : Allowed 4
-permitted-4 = multiply-box 4 3 1 2 (commands .1 .1 .1 .1 .0) permitted-3 permitted-1 (record { low-low = four-thirds; low-high = four-thirds; high-low = four-thirds; high-high = four-thirds })
-  where
-    four-thirds : Lies (pos 12 /1+ 2 *ℚ pos 1 /1+ 2) (exampleBox 4)
-    four-thirds = record { above = simp (fraction-mul, fraction-le, den-mul, den-is) (leZ-yes tt); below = simp (fraction-mul, fraction-le, den-mul, den-is) (leZ-yes tt) }
-
-permitted-5 : Allowed 5
-permitted-5 =
-    quotient-box 5 3 0 (constantOf 1048576) (constantOf 262144) (commands .1 .1 .1 .1 .1 .0) permitted-3 permitted-0
-    (λ h. outside (simp (whole-is, fraction-le, den-is) at (h .above)))
-    (record { low-low = one; low-high = one; high-low = one; high-high = one })
-  where
-    outside : (pos 4 *ℤ pos 1) ≤ℤ (pos 0 *ℤ pos 1) → ⊥
-    outside h = h .le
-
-    is-one : pos 12 /1+ 2 /ℚ pos 4 /1+ 0 ≡ whole (pos 1)
-    is-one = ap (λ z. z /ℚ pos 4 /1+ 0) (fraction-eq (pos 12) 2 (pos 4) 0 (simp den-is)) ∙ inverse-right (pos 4 /1+ 0) nonzero
-
-    one : Lies (pos 12 /1+ 2 /ℚ pos 4 /1+ 0) (exampleBox 5)
-    one = record {
-      above = rw (is-one, whole-is) (simp (fraction-le, den-is) (leZ-yes tt));
-      below = rw (is-one, whole-is) (simp (fraction-le, den-is) (leZ-yes tt));
-    }
-
-permitted-6 : Allowed 6
-permitted-6 =
-    root-box 6 3 (constantOf 2097152) (constantOf 262144) (commands .1 .1 .1 .1 .1 .1) permitted-3
-    (inr (positive, simp (fraction-mul, fraction-le, den-mul, den-is) (leZ-yes tt)))
-    (simp (whole-is, fraction-le, den-is) (leZ-yes tt))
+fits-8 : Fits 8
+fits-8 =
+    root-box 8 6 _ _ refl fits-6 (inl (sym (whole-is (pos 0)))) (simp (whole-is, fraction-le, den-is) (leZ-yes tt))
     (simp (fraction-mul, fraction-le, den-mul, den-is) (leZ-yes tt))
-  where
-    positive : whole (pos 0) <ℚ pos 1 /1+ 0
-    positive h = below (simp (whole-is, fraction-le, den-is) at h)
-      where
-        below : (pos 1 *ℤ pos 1) ≤ℤ (pos 0 *ℤ pos 1) → ⊥
-        below h = h .le
 
--- every box of the example is permitted at 1/3
-pub example-permitted : Allowed 0 × (Allowed 1 × (Allowed 2 × (Allowed 3 × (Allowed 4 × (Allowed 5 × Allowed 6)))))
-example-permitted = (permitted-0, (permitted-1, (permitted-2, (permitted-3, (permitted-4, (permitted-5, permitted-6))))))
+-- every box of the example is permitted
+pub example-permitted : (i : ℕ) → i < 9 → Fits i
+example-permitted = upto-at Fits 9 (((((((((tt, fits-0), fits-1), fits-2), fits-3), fits-4), fits-5), fits-6), fits-7), fits-8)

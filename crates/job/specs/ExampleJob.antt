@@ -1,46 +1,89 @@
--- One job with every command that makes a result, as bytes.
+-- One job with every command that makes a result, as bytes; its commands, and its results as 01 gives them.
 use mathlib.Core.Path.{_≡_, refl}
 use mathlib.Core.List.{List, [], _∷_, _++_}
-use Prim.Native.Nat.{ℕ, _+_, _/_, _%_}
+use Prim.Native.Nat.{ℕ, _*_, _-_, _/_, _%_}
+use lib.IntN.{ℤ, pos}
 use lib.ListN.{replicate, length}
 use Rattle.integer.specs.Rounding.{upℕ, near, floor}
 use Rattle.chebyshev.specs.Coefficients.{weight, addLists, subtractLists, scaleList}
 use Rattle.chebyshev.specs.Product.{addAt, addPair, addRow, addRows, product}
 use Rattle.chebyshev.specs.Sign.{coefficientSum}
-use Rattle.model.specs.Models.{firstRefusal, outcome, good, tooLarge, zeroModel}
+use Rattle.model.specs.Models.{makeModel, firstRefusal, outcome, good, tooLarge, zeroModel}
 use Rattle.model.specs.Operations.{addition, subtraction, multiplication, sumModel, differenceModel, productModel, productList, productLoss, rounded, roundingLoss}
+use Rattle.model.specs.declared.types.Model.{Model}
 use Rattle.certificate.specs.Tests.{tested, quotientOf, rootOf, rootPlaces, quotientContraction, quotientResidual, quotientModel, rootContraction, rootResidual, rootModel, displacement}
 use Rattle.job.specs.Bytes.{signedsAt}
-use Rattle.job.specs.Makers.{operation}
-use Rattle.job.specs.Commands.{makerAt, readingPlaces, readingNumber}
-use Rattle.job.specs.Jobs.{command, run, jobOf, JobOutcome, accepted, refused}
+use Rattle.job.specs.Makers.{load, add, subtract, multiply, quotient, root, operation}
+use Rattle.job.specs.Commands.{Command, result, makerAt, readingPlaces, readingNumber}
+use Rattle.job.specs.JobReading.{readFrom, jobReading, well}
+use Rattle.job.specs.Outcomes.{accepted}
+use Rattle.job.specs.Jobs.{command, run, jobOf}
 
--- a natural number as four bytes, the lowest first
-abbrev word : ℕ → List ℕ
-word n = n % 256 ∷ n / 256 % 256 ∷ n / 65536 % 256 ∷ n / 16777216 % 256 ∷ []
+-- ---- bytes and models from their first coefficients, none of them negative
 
--- the block of a_0 + a_1·T_1
-abbrev block : ℕ → ℕ → ℕ → List ℕ
-block n a b = n ∷ (word a ++ (word b ++ replicate 124 0))
+-- natural numbers as four bytes each, the lowest first
+abbrev pub wordsOf : List ℕ → List ℕ
+wordsOf [] = []
+wordsOf (n ∷ ns) = n % 256 ∷ n / 256 % 256 ∷ n / 65536 % 256 ∷ n / 16777216 % 256 ∷ wordsOf ns
 
--- edition 1; result 0: 4; 1: T_1; 2: 4 + T_1; 3: (4 + T_1) − T_1; 4: result 3 times T_1; 5: result 3 over result 0; 6: the root of
--- result 3; end
+abbrev pub block : ℕ → List ℕ → List ℕ
+block n cs = n ∷ (wordsOf cs ++ replicate (132 - 4 * length cs) 0)
+
+abbrev positives : List ℕ → List ℤ
+positives [] = []
+positives (n ∷ ns) = pos n ∷ positives ns
+
+abbrev pub modelBy : ℕ → List ℕ → ℕ → Model
+modelBy n cs e = makeModel n (positives cs ++ replicate (33 - length cs) (pos 0)) e
+
+-- ---- the job
+
+-- edition 1; the commands below; end
 abbrev pub exampleJob : List ℕ
 exampleJob =
-    (1 ∷ 1 ∷ [])
-    ++ ((0x10 ∷ block 0 4194304 0) ++ word 0
-    ++ ((0x10 ∷ block 1 0 1048576) ++ word 0
-    ++ ((0x11 ∷ 0 ∷ 1 ∷ [])
-    ++ ((0x12 ∷ 2 ∷ 1 ∷ [])
-    ++ ((0x13 ∷ 3 ∷ 1 ∷ 2 ∷ [])
-    ++ ((0x20 ∷ 3 ∷ 0 ∷ block 0 1048576 0) ++ block 0 262144 0
-    ++ ((0x21 ∷ 3 ∷ block 0 2097152 0) ++ block 0 262144 0
-    ++ (0x00 ∷ []))))))))
+    (0x01 ∷ 1 ∷ [])
+    ++ ((0x10 ∷ block 0 (2097152 ∷ [])) ++ wordsOf (16384 ∷ [])
+    ++ ((0x10 ∷ block 1 (0 ∷ 1048576 ∷ [])) ++ wordsOf (16384 ∷ [])
+    ++ ((0x13 ∷ 0 ∷ 0 ∷ 0 ∷ [])
+    ++ ((0x21 ∷ 2 ∷ block 0 (2097152 ∷ [])) ++ block 0 (262144 ∷ [])
+    ++ ((0x11 ∷ 3 ∷ 1 ∷ [])
+    ++ ((0x12 ∷ 4 ∷ 0 ∷ [])
+    ++ ((0x13 ∷ 4 ∷ 4 ∷ 0xFF ∷ [])
+    ++ ((0x20 ∷ 6 ∷ 3 ∷ block 2 (2359296 ∷ 2097152 ∷ 262144 ∷ [])) ++ block 0 (524288 ∷ [])
+    ++ ((0x21 ∷ 6 ∷ block 1 (2097152 ∷ 1048576 ∷ [])) ++ block 0 (262144 ∷ [])
+    ++ (0x00 ∷ []))))))))))
 
-abbrev count : JobOutcome → ℕ
-count (accepted rs) = length rs
-count (refused n k) = 1000 + n
+-- a, about 2; b, about T_1; a·a; its root; a + b; b; (a + b)·(a + b); that over a; its root, a + b
+abbrev pub exampleCommands : List Command
+exampleCommands =
+    result (load (modelBy 0 (2097152 ∷ []) 16384))
+    ∷ result (load (modelBy 1 (0 ∷ 1048576 ∷ []) 16384))
+    ∷ result (multiply 0 0 0)
+    ∷ result (root 2 (modelBy 0 (2097152 ∷ []) 0) (modelBy 0 (262144 ∷ []) 0))
+    ∷ result (add 3 1)
+    ∷ result (subtract 4 0)
+    ∷ result (multiply 4 4 32)
+    ∷ result (quotient 6 3 (modelBy 2 (2359296 ∷ 2097152 ∷ 262144 ∷ []) 0) (modelBy 0 (524288 ∷ []) 0))
+    ∷ result (root 6 (modelBy 1 (2097152 ∷ 1048576 ∷ []) 0) (modelBy 0 (262144 ∷ []) 0))
+    ∷ []
 
-example-count : count (jobOf exampleJob) ≡ 7
+abbrev pub exampleResults : List Model
+exampleResults =
+    modelBy 0 (2097152 ∷ []) 16384
+    ∷ modelBy 1 (0 ∷ 1048576 ∷ []) 16384
+    ∷ modelBy 0 (4194304 ∷ []) 65792
+    ∷ modelBy 0 (2097152 ∷ []) 32896
+    ∷ modelBy 1 (2097152 ∷ 1048576 ∷ []) 49280
+    ∷ modelBy 1 (0 ∷ 1048576 ∷ []) 65664
+    ∷ modelBy 2 (4718592 ∷ 4194304 ∷ 524288 ∷ []) 297997
+    ∷ modelBy 2 (2359296 ∷ 2097152 ∷ 262144 ∷ []) 226569
+    ∷ modelBy 1 (2097152 ∷ 1048576 ∷ []) 298000
+    ∷ []
+
+pub example-read : jobReading exampleJob ≡ well exampleCommands
+unfolding jobReading readFrom readingNumber readingPlaces firstRefusal makerAt signedsAt
+example-read = refl
+
+pub example-run : jobOf exampleJob ≡ accepted exampleResults
 unfolding jobOf run command operation readingNumber readingPlaces makerAt signedsAt tested quotientOf rootOf rootPlaces quotientContraction quotientResidual quotientModel rootContraction rootResidual rootModel displacement coefficientSum addition subtraction multiplication sumModel differenceModel productModel productList productLoss rounded roundingLoss firstRefusal outcome good tooLarge zeroModel weight addLists subtractLists scaleList addAt addPair addRow addRows product upℕ near floor
-example-count = refl
+example-run = refl

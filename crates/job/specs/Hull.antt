@@ -7,7 +7,7 @@ use Rattle.integer.specs.OrderedRing.{le-of-eq, mul-left, le-neg, _⟨+⟩_, by
 use Rattle.integer.specs.Fraction.{ℚ, whole, _+ℚ_, _-ℚ_, _*ℚ_, -ℚ_, reifyℚ, solveℚ, *ℚ-comm}
 use Rattle.integer.specs.FractionOrder.{_≤ℚ_, _<ℚ_, ℚ-ordered, ≤ℚ-trans, ≤ℚ-total, ≤ℚ-decide, ≤ℚ-cancel}
 use Rattle.integer.specs.FractionInverse.{inverse, _/ℚ_, inverse-right}
-use Rattle.job.specs.Boxes.{Box, Lies, ContainsFour}
+use Rattle.job.specs.Requirement.{Box, Lies, ContainsFour}
 
 abbrev zeroℚ : ℚ
 zeroℚ = whole (pos 0)

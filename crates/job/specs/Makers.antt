@@ -42,8 +42,10 @@ rowOf (load m) = of-none (record { places = loadPlaces m; outcome = outcome (loa
 rowOf (add i j) = of-two i j (λ f g. record { places = additionPlaces f g; outcome = addition f g })
 rowOf (subtract i j) = of-two i j (λ f g. record { places = subtractionPlaces f g; outcome = subtraction f g })
 rowOf (multiply i j d) = of-two i j (λ f g. record { places = multiplicationPlaces d f g; outcome = multiplication d f g })
-rowOf (quotient i j h w) = of-two i j (λ f g. record { places = quotientPlaces scratchSize f g h w; outcome = fromTest (quotientOf scratchSize f g h w) })
-rowOf (root i h w) = of-one i (λ f. record { places = rootTestPlaces scratchSize f h w; outcome = fromTest (rootOf scratchSize f h w) })
+rowOf (quotient i j h w) =
+    of-two i j (λ f g. record { places = quotientPlaces scratchSize f g h w; outcome = fromTest (quotientOf scratchSize f g h w) })
+rowOf (root i h w) =
+    of-one i (λ f. record { places = rootTestPlaces scratchSize f h w; outcome = fromTest (rootOf scratchSize f h w) })
 
 -- ---- what follows from a row
 

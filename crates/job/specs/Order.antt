@@ -1,16 +1,28 @@
--- The order of 01's table over a whole job: "A job is checked command by command, each passing through the places below in
--- turn before the next is read."
+-- The order of 01's table "Refused, and where" over a whole job: "A job is checked command by command, each passing through
+-- the places below in turn before the next is read." A list of places is a list of conditions with their numbers.
 use mathlib.Core.Path.{_≡_}
 use mathlib.Core.Bool.{Bool, true, false}
 use mathlib.Core.List.{List, [], _∷_, _++_}
+use mathlib.Core.Logic.{_⊎_}
 use Prim.Native.Nat.{ℕ, _+_}
 use lib.ListN.{length}
 use Rattle.model.specs.RefusalLaws.{Passed}
 use Rattle.model.specs.declared.types.Model.{Model}
-use Rattle.job.specs.Commands.{Command, edition, result, finish, unknown, shapeAt, commandRead, nextAt, isEnd, readingPlaces}
-use Rattle.job.specs.Makers.{operation}
-use Rattle.job.specs.Jobs.{operationPlaces}
-use Rattle.job.specs.Places.{First}
+use Rattle.job.specs.Makers.{operation, makerPlaces}
+use Rattle.job.specs.Commands.{Command, edition, result, finish, unknown}
+use Rattle.job.specs.Commands.{shapeAt, commandRead, nextAt, isEnd, readingPlaces}
+
+-- the first place whose condition holds has number n
+pub data First : List (Bool × ℕ) → ℕ → Type 0 where
+  here : {p : Bool × ℕ} {ps : List (Bool × ℕ)} {n : ℕ} → p .0 ≡ true → p .1 ≡ n → First (p ∷ ps) n
+  later : {p : Bool × ℕ} {ps : List (Bool × ℕ)} {n : ℕ} → p .0 ≡ false → First ps n → First (p ∷ ps) n
+
+-- the places that a command's operation passes through
+abbrev pub operationPlaces : Command → List Model → List (Bool × ℕ)
+operationPlaces edition rs = []
+operationPlaces (result m) rs = makerPlaces m rs
+operationPlaces finish rs = []
+operationPlaces unknown rs = []
 
 -- the results after a command
 abbrev pub resultsAfter : Command → List Model → List Model
@@ -42,3 +54,8 @@ RefusesAt job n k = (rs : List Model) × (at : ℕ) × Reaches job k rs at × Fi
 -- an end is reached with the results rs, and passes all its places
 abbrev pub EndsWith : List ℕ → List Model → Type 0
 EndsWith job rs = (k : ℕ) × (at : ℕ) × Reaches job k rs at × Passed (placesOf job k rs at) × (isLast job k rs at ≡ true)
+
+-- a job over lent areas meets refusal n at command k: in the places of the areas, "refusal 1 goes with command 0", or behind
+-- them in those of its commands
+abbrev pub Meets : List (Bool × ℕ) → List ℕ → ℕ → ℕ → Type 0
+Meets areas job n k = (First areas n × (k ≡ 0)) ⊎ (Passed areas × RefusesAt job n k)

@@ -14,9 +14,10 @@ use Rattle.model.specs.RefusalLaws.{Passed}
 use Rattle.model.specs.declared.types.Model.{Model}
 use Rattle.job.specs.Makers.{operation}
 use Rattle.job.specs.Commands.{makerAt, commandAt, shapeAt, commandRead, nextAt, maxResults, makesResult}
-use Rattle.job.specs.Jobs.{Step, more, over, no, command, JobOutcome, accepted, refused, onward, run, jobOf}
-use Rattle.job.specs.Places.{First, first-or-passed}
-use Rattle.job.specs.Order.{resultsAfter, placesOf, isLast, Reaches, start, next, RefusesAt, EndsWith}
+use Rattle.job.specs.Outcomes.{JobOutcome, accepted, refused}
+use Rattle.job.specs.Jobs.{Step, more, over, command, onward, run, jobOf}
+use Rattle.job.specs.PlaceLaws.{first-or-passed}
+use Rattle.job.specs.Order.{First, resultsAfter, placesOf, isLast, Reaches, start, next, RefusesAt, EndsWith}
 use Rattle.job.specs.CommandLaws.{command-readable, command-refuses, command-ends, command-goes-on}
 use Rattle.job.specs.declared.types.Kind.{Kind}
 use Rattle.job.specs.declared.types.Kind.the-variants.{End, Edition, Result, Unknown}
@@ -56,7 +57,7 @@ run-suc f job k rs at = refl
 
 module _ {job : List ℕ} {k : ℕ} {rs : List Model} {at : ℕ} (r : Reaches job k rs at)
     (left : run (length job + 1 - k) job k rs at ≡ jobOf job) where
-  by-command : (s : Step) → command job k rs at ≡ s → jobOf job ≡ onward (run (length job + 1 - (k + 1)) job) k rs s
+  by-command : (s : Step (List Model)) → command job k rs at ≡ s → jobOf job ≡ onward (run (length job + 1 - (k + 1)) job) k rs s
   by-command s e =
       let b = reaches-bounds r in
       let f : length job + 1 - k ≡ suc (length job + 1 - (k + 1)) = omega (arith, b) in
@@ -72,8 +73,8 @@ reaches-left {job} (next {k} {rs} {at} r f e) =
 
 -- what the whole job gives, by what the command does there
 module _ {job : List ℕ} {k : ℕ} {rs : List Model} {at : ℕ} (r : Reaches job k rs at) where
-  pub stops-there : {n : ℕ} → command job k rs at ≡ no n → jobOf job ≡ refused n k
-  stops-there {n} e = by-command r (reaches-left r) (no n) e
+  pub stops-there : {n : ℕ} → command job k rs at ≡ Step.refused n → jobOf job ≡ refused n k
+  stops-there {n} e = by-command r (reaches-left r) (Step.refused n) e
 
   pub ends-there : command job k rs at ≡ over → jobOf job ≡ accepted rs
   ends-there e = by-command r (reaches-left r) over e
@@ -95,7 +96,7 @@ module _ {job : List ℕ} {k : ℕ} {rs : List Model} {at : ℕ} (r : Reaches jo
 -- ---- every outcome is one of the two
 
 module _ (job : List ℕ) where
-  abbrev Meant : JobOutcome → Type 0
+  abbrev Meant : JobOutcome (List Model) → Type 0
   Meant (refused n k) = RefusesAt job n k
   Meant (accepted rs) = EndsWith job rs
 
@@ -130,7 +131,7 @@ module _ (job : List ℕ) where
   pub accepted-unless-refused : ((rs : List Model) × (jobOf job ≡ accepted rs)) ↔ ((n k : ℕ) → RefusesAt job n k → ⊥)
   accepted-unless-refused = (λ a n k m. let z : _≡_ {A = ℕ} 0 1 = cc (a .1, refuses m) in omega arith, by (jobOf job) refl)
     where
-      by : (o : JobOutcome) → jobOf job ≡ o → ((n k : ℕ) → RefusesAt job n k → ⊥)
+      by : (o : JobOutcome (List Model)) → jobOf job ≡ o → ((n k : ℕ) → RefusesAt job n k → ⊥)
           → (rs : List Model) × (jobOf job ≡ accepted rs)
       by (accepted rs) e h = (rs, e)
       by (refused n k) e h = absurd (h n k (refused-exactly n k .0 e))

@@ -13,10 +13,10 @@ use Rattle.model.specs.declared.types.Model.{Model}
 use Rattle.job.specs.Bytes.{byteAt}
 use Rattle.job.specs.Makers.{Maker, namesBad, operation}
 use Rattle.job.specs.Commands.{maxResults, operandsOf, layoutOf, makerAt, commandAt, badNames, makesResult}
-use Rattle.job.specs.Jobs.{Step, more, over, no}
+use Rattle.job.specs.Jobs.{Step, more, over, refused}
 use Rattle.job.specs.Work.{workSize, workOf}
-use Rattle.job.specs.declared.types.Done.{Done}
-use Rattle.job.specs.declared.types.Done.the-variants.{More, Over, Refused}
+use Rattle.job.specs.declared.types.Step.{Step as CodeStep}
+use Rattle.job.specs.declared.types.Step.the-variants.{More, Over, Refused}
 use Rattle.job.specs.declared.types.Kind.{Kind}
 use Rattle.job.specs.declared.types.Operation.{Operation}
 
@@ -31,35 +31,31 @@ pub record Holds (w : List ℤ) (count : ℕ) (rs : List Model) (t : List ℤ) :
   pub count-is : count ≡ length rs
   pub sized : Sized rs
 
--- a step as the code sees it: with the count of the results
-pub data Seen : Type 0 where
-  onward : ℕ → ℕ → Seen
-  ended : Seen
-  stopped : ℕ → Seen
+-- the code's step, with the count of the results
+abbrev pub stepOf : CodeStep → Step ℕ
+stepOf (More next count) = more count next
+stepOf Over = over
+stepOf (Refused v) = refused (numberOf v)
 
-abbrev pub seenOf : Done → Seen
-seenOf (More next count) = onward next count
-seenOf Over = ended
-seenOf (Refused v) = stopped (numberOf v)
-
-abbrev pub seenBy : Step → Seen
-seenBy (more rs next) = onward next (length rs)
-seenBy over = ended
-seenBy (no n) = stopped n
+-- with the count of the results in their place
+abbrev pub countedStep : Step (List Model) → Step ℕ
+countedStep (more rs next) = more (length rs) next
+countedStep over = over
+countedStep (refused n) = refused n
 
 -- the results after a step
-abbrev pub resultsBy : List Model → Step → List Model
+abbrev pub resultsBy : List Model → Step (List Model) → List Model
 resultsBy rs (more rs′ next) = rs′
 resultsBy rs over = rs
-resultsBy rs (no n) = rs
+resultsBy rs (refused n) = rs
 
 -- the code answers r and leaves w, where the definition's step is s and the results before it were rs
-pub record Stepped (r : Done) (w : List ℤ) (rs : List Model) (t : List ℤ) (s : Step) : Type 0 where
-  pub answer : seenOf r ≡ seenBy s
+pub record Stepped (r : CodeStep) (w : List ℤ) (rs : List Model) (t : List ℤ) (s : Step (List Model)) : Type 0 where
+  pub answer : stepOf r ≡ countedStep s
   pub holds : Holds w (length (resultsBy rs s)) (resultsBy rs s) t
 
 -- whatever results the area holds before, the code does the step that f gives for them
-abbrev pub StepsBy : Done → List ℤ → List ℤ → ℕ → (List Model → Step) → Type 0
+abbrev pub StepsBy : CodeStep → List ℤ → List ℤ → ℕ → (List Model → Step (List Model)) → Type 0
 StepsBy r w w′ count f = (rs : List Model) (t : List ℤ) → Holds w count rs t → Stepped r w′ rs t (f rs)
 
 -- ---- the operation of a command

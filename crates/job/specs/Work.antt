@@ -1,19 +1,17 @@
 -- The work area: "Each result is written into its own 35 numbers of the work area (degree, coefficients, radius; 1,120 signed
 -- 32-bit numbers)."
-use mathlib.Core.Bool.{cond, _&&_, Bool}
+use mathlib.Core.Bool.{Bool, not, cond, _&&_}
 use mathlib.Core.List.{List, [], _∷_, _++_}
-use Prim.Native.Nat.{ℕ, _+_, _*_, _-_}
+use Prim.Native.Nat.{ℕ, zero, suc, _+_, _*_, _-_}
 use lib.Dec.{leb}
 use lib.IntN.{ℤ}
 use lib.ListN.{length, take, drop}
 use Rattle.integer.specs.Clearing.{zeros}
-use Rattle.model.specs.Models.{numberOf}
 use Rattle.model.specs.Areas.{modelSize, words, areaModel}
 use Rattle.certificate.specs.Tests.{scratchSize}
 use Rattle.model.specs.declared.types.Model.{Model}
-use Rattle.job.specs.Jobs.{JobOutcome, accepted, refused, jobOf}
-use Rattle.job.specs.declared.types.Report.{Report}
-use Rattle.job.specs.declared.types.Report.the-variants.{Accepted, Refused}
+use Rattle.job.specs.Outcomes.{JobOutcome, accepted, refused}
+use Rattle.job.specs.Jobs.{jobOf}
 
 -- the numbers of the whole area
 abbrev pub workSize : ℕ
@@ -22,6 +20,11 @@ workSize = 1120
 -- the model in stretch i of a work area
 abbrev pub stretch : List ℤ → ℕ → Model
 stretch w i = areaModel (take modelSize (drop (modelSize * i) w))
+
+-- the models in the first n stretches
+unfoldable pub modelsIn : List ℤ → ℕ → List Model
+modelsIn w zero = []
+modelsIn w (suc n) = modelsIn w n ++ (stretch w n ∷ [])
 
 -- the area with a model written into stretch i
 abbrev pub storedAt : List ℤ → ℕ → Model → List ℤ
@@ -37,15 +40,23 @@ workOf rs = stretches rs ++ zeros (workSize - modelSize * length rs)
 
 -- ---- the entry
 
--- the lent areas are long enough, "work area before scratch"
+-- "lent areas: 1, too short": the place of an area of which `size` numbers are asked and `len` are there
+abbrev pub areaPlace : ℕ → ℕ → Bool × ℕ
+areaPlace size len = (not (leb size len), 1)
+
+-- "work area before scratch"
+abbrev pub areaPlaces : List ℤ → List ℤ → List (Bool × ℕ)
+areaPlaces w s = areaPlace workSize (length w) ∷ areaPlace scratchSize (length s) ∷ []
+
+-- the lent areas are long enough
 abbrev pub areasFit : List ℤ → List ℤ → Bool
 areasFit w s = leb workSize (length w) && leb scratchSize (length s)
 
 -- "too short; neither is touched"; "refusal 1 goes with command 0"
-unfoldable pub checkOf : List ℕ → List ℤ → List ℤ → JobOutcome
+unfoldable pub checkOf : List ℕ → List ℤ → List ℤ → JobOutcome (List Model)
 checkOf job w s = cond (areasFit w s) (jobOf job) (refused 1 0)
 
-abbrev pub resultsOf : JobOutcome → List Model
+abbrev pub resultsOf : JobOutcome (List Model) → List Model
 resultsOf (accepted rs) = rs
 resultsOf (refused n k) = []
 
@@ -57,17 +68,3 @@ workAfter job w s = cond (areasFit w s) (workOf (resultsOf (jobOf job)) ++ drop 
 -- the scratch after a job: its 65 numbers are zero unless an area was too short
 unfoldable pub scratchAfterJob : List ℤ → List ℤ → List ℤ
 scratchAfterJob w s = cond (areasFit w s) (zeros scratchSize ++ drop scratchSize s) s
-
--- "The answer is the count, or the refusal with its command, counted from 0"; the numbers not in use are zero
-pub record Answer : Type 0 where
-  pub number : ℕ
-  pub command : ℕ
-  pub count : ℕ
-
-abbrev pub answerOf : Report → Answer
-answerOf (Accepted n) = record { number = 0; command = 0; count = n }
-answerOf (Refused v k) = record { number = numberOf v; command = k; count = 0 }
-
-abbrev pub answered : JobOutcome → Answer
-answered (accepted rs) = record { number = 0; command = 0; count = length rs }
-answered (refused n k) = record { number = n; command = k; count = 0 }

@@ -5,11 +5,12 @@ ghost use Prim.Native.Nat.{_+_, _≤_};
 ghost use lib.Dec.{leb, ltb};
 ghost use lib.ListN.{length};
 ghost use Rattle.model.specs.Models.{maxDegree};
-ghost use Rattle.job.specs.Commands.{maxResults, keptByte, badKind, badValues, valueBytes, badBytes, nameBytes, makesResult, isEnd, readOutcome, readOutcomeOf};
+ghost use Rattle.job.specs.Commands.{maxResults, keptByte, badKind, badValues, valueBytes, badBytes, nameBytes};
+ghost use Rattle.job.specs.Commands.{makesResult, isEnd, commandReading, commandReadingOf};
 use crate::decode::shape_of;
+use crate::types::CommandReading;
 use crate::types::Kind;
 use crate::types::Names;
-use crate::types::Read;
 use crate::types::Values;
 use model::types::Model;
 use model::types::Verdict;
@@ -101,34 +102,34 @@ fn is_too_long(kind: Kind, next: usize, len: usize) -> bool
 }
 
 // Command k, whose byte stands at a position, with so many results before it.
-pub(crate) fn read_command(job: &[u8], k: usize, count: usize, at: usize) -> Read
-    ensures { λ r. ⌜ readOutcomeOf r ≡ readOutcome (now (job .entry)) k count at ⌝ }
+pub(crate) fn read_command(job: &[u8], k: usize, count: usize, at: usize) -> CommandReading
+    ensures { λ r. ⌜ commandReadingOf r ≡ commandReading (now (job .entry)) k count at ⌝ }
 {
     if job.len() <= at {
-        return Read::Refused(Verdict::JobEnds);
+        return CommandReading::Refused(Verdict::JobEnds);
     }
     let shape = shape_of(job[at]);
     let kind = shape.kind;
     if is_bad_kind(k, kind) {
-        return Read::Refused(Verdict::BadValue);
+        return CommandReading::Refused(Verdict::BadValue);
     }
     if job.len() - at <= shape.width {
-        return Read::Refused(Verdict::JobEnds);
+        return CommandReading::Refused(Verdict::JobEnds);
     }
     let values = shape.values;
     if has_bad_values(values, job, at) {
-        return Read::Refused(Verdict::BadValue);
+        return CommandReading::Refused(Verdict::BadValue);
     }
     let names = shape.names;
     if has_bad_names(names, job, at, count) {
-        return Read::Refused(Verdict::NotAResult);
+        return CommandReading::Refused(Verdict::NotAResult);
     }
     if is_full(kind, count) {
-        return Read::Refused(Verdict::TooManyResults);
+        return CommandReading::Refused(Verdict::TooManyResults);
     }
     let next = at + 1 + shape.width;
     if is_too_long(kind, next, job.len()) {
-        return Read::Refused(Verdict::BytesAfterEnd);
+        return CommandReading::Refused(Verdict::BytesAfterEnd);
     }
-    Read::Command(kind, next)
+    CommandReading::Command(kind, next)
 }

@@ -10,17 +10,17 @@ ghost use Rattle.job.specs.Work.{workSize};
 ghost use Rattle.job.specs.Steps.{StepsBy, Performable, Clear};
 use crate::operations::operate;
 use crate::reader::read_next;
-use crate::types::Done;
+use crate::types::CommandReading;
 use crate::types::Kind;
-use crate::types::Read;
+use crate::types::Step;
 use crate::work::store;
 use model::types::Answer;
 use model::types::Verdict;
 
 // The operation's answer becomes the next result.
-fn add_result(work: &mut [i32], count: usize, next: usize, a: Answer) -> Done
+fn add_result(work: &mut [i32], count: usize, next: usize, a: Answer) -> Step
     requires { ⌜ (workSize ≤ length (now work)) × ((count < maxResults) × Storable (a .model)) ⌝ }
-    ensures { λ (r : Done). ⌜ StepsBy r (now (work .entry)) (now (work .exit)) count (λ rs. resulting rs next (outcomeOf a)) ⌝ }
+    ensures { λ r. ⌜ StepsBy r (now (work .entry)) (now (work .exit)) count (λ rs. resulting rs next (outcomeOf a)) ⌝ }
 {
     let verdict = a.verdict;
     match verdict {
@@ -28,9 +28,9 @@ fn add_result(work: &mut [i32], count: usize, next: usize, a: Answer) -> Done
             let m = a.model;
             store(work, count, m);
             let results = count + 1;
-            Done::More(next, results)
+            Step::More(next, results)
         }
-        _ => Done::Refused(verdict),
+        _ => Step::Refused(verdict),
     }
 }
 
@@ -43,19 +43,20 @@ fn perform(
     at: usize,
     work: &mut [i32],
     scratch: &mut [i64],
-) -> Done
+) -> Step
     requires { ⌜ Performable kind (now job) count at (now work) × Clear (now scratch) ⌝ }
-    ensures { λ (r : Done). ⌜ StepsBy r (now (work .entry)) (now (work .exit)) count (λ rs. performed (commandAt kind (now (job .entry)) at) rs next) ⌝ }
+    ensures { λ r. ⌜ StepsBy r (now (work .entry)) (now (work .exit)) count
+        (λ rs. performed (commandAt kind (now (job .entry)) at) rs next) ⌝ }
     ensures { λ _. ⌜ now (scratch .exit) ≡ now (scratch .entry) ⌝ }
 {
     match kind {
-        Kind::End => Done::Over,
-        Kind::Edition => Done::More(next, count),
+        Kind::End => Step::Over,
+        Kind::Edition => Step::More(next, count),
         Kind::Result(op) => {
             let a = operate(op, job, at, work, scratch);
             add_result(work, count, next, a)
         }
-        Kind::Unknown => Done::Refused(Verdict::BadValue),
+        Kind::Unknown => Step::Refused(Verdict::BadValue),
     }
 }
 
@@ -67,14 +68,14 @@ pub(crate) fn step(
     at: usize,
     work: &mut [i32],
     scratch: &mut [i64],
-) -> Done
+) -> Step
     requires { ⌜ (workSize ≤ length (now work)) × ((count ≤ maxResults) × Clear (now scratch)) ⌝ }
-    ensures { λ (r : Done). ⌜ StepsBy r (now (work .entry)) (now (work .exit)) count (λ rs. command (now (job .entry)) k rs at) ⌝ }
+    ensures { λ r. ⌜ StepsBy r (now (work .entry)) (now (work .exit)) count (λ rs. command (now (job .entry)) k rs at) ⌝ }
     ensures { λ _. ⌜ now (scratch .exit) ≡ now (scratch .entry) ⌝ }
 {
     let read = read_next(job, k, count, at);
     match read {
-        Read::Refused(v) => Done::Refused(v),
-        Read::Command(kind, next) => perform(kind, next, job, count, at, work, scratch),
+        CommandReading::Refused(v) => Step::Refused(v),
+        CommandReading::Command(kind, next) => perform(kind, next, job, count, at, work, scratch),
     }
 }

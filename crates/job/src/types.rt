@@ -42,20 +42,20 @@ pub struct Shape {
 }
 
 // What reading a command answers: its kind and the next position, or a refusal.
-pub enum Read {
+pub enum CommandReading {
     Command(Kind, usize),
     Refused(Verdict),
 }
 
 // What one command does: the next position and the count of results then, the end of the job, or a refusal.
-pub enum Done {
+pub enum Step {
     More(usize, usize),
     Over,
     Refused(Verdict),
 }
 
 // Accepted with the count of results, or refused with the verdict and the command's number, counted from 0.
-pub enum Report {
+pub enum JobOutcome {
     Accepted(usize),
     Refused(Verdict, usize),
 }

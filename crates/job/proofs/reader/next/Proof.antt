@@ -44,13 +44,13 @@ use denote.Triple.Table.{entered, cited}
 use denote.Triple.Walked.{says, Stays, stay-none, walkOf, goes-none, Walks, ends-at, walked, walk-meets}
 use denote.Exit.{yes}
 use denote.Triple.Clauses.{ensured, lasts}
-use Rattle.job.specs.Commands.{ReadOutcome, readOutcome, readOutcomeOf}
+use Rattle.job.specs.Commands.{CommandReading, commandReading, commandReadingOf}
 use Rattle.job.specs.declared.reader.Reader.{Reader}
-use Rattle.job.specs.declared.types.Read.{Read}
+use Rattle.job.specs.declared.types.CommandReading.{CommandReading as CodeReading}
 use Rattle.job.proofs.reader.Reader as T
 use Rattle.job.proofs.reader.Reader.Laws as T′
-use Rattle.job.proofs.types.Read as S
-use Rattle.job.proofs.types.Read.Laws as S′
+use Rattle.job.proofs.types.CommandReading as S
+use Rattle.job.proofs.types.CommandReading.Laws as S′
 use Rattle.job.proofs.reading.read_command as command
 use Rattle.job.proofs.reading.read_command.Symbol as command-def
 use Rattle.job.proofs.reading.read_command.Symbol.{name as #reading·read-command}
@@ -81,8 +81,8 @@ module _ {M : Type 1} (𝓤 : URA M) (H : Heap 𝓤) (A : Atoms 𝓤) (W : Given
   abbrev v : Val
   v = sliceVal (reader .job .ptr) (length (reader .job .now))
 
-  abbrev found : ReadOutcome
-  found = readOutcome (now (reader .job)) k count (reader .at)
+  abbrev found : CommandReading
+  found = commandReading (now (reader .job)) k count (reader .at)
 
   -- the machine values of the parameters
   abbrev vals : Vals next.signature (κ, tt)
@@ -129,10 +129,10 @@ module _ {M : Type 1} (𝓤 : URA M) (H : Heap 𝓤) (A : Atoms 𝓤) (W : Given
       move ! (2 ∷ 0 ∷ []) $ use2 W (raw (ReadCommand 𝓤 H A mem run .pre to)) asked $ frame ! $ done !)
 
   -- of the callee's `ensured`, the clause alone: it has no `&mut`, so what is said of last values is dropped
-  said : (r : Read) → ent 𝓤 (ensured 𝓤 H A command.ended (command.clauses 𝓤 H A mem run) (κ, tt) args tt r) (fact 𝓤 (readOutcomeOf r ≡ found))
-  said r = exE 𝓤 _ (λ ws. snd∗ 𝓤 (sem 𝓤 H A (lasts command.ended (κ, tt) args ws)) (fact 𝓤 (readOutcomeOf r ≡ found)))
+  said : (r : CodeReading) → ent 𝓤 (ensured 𝓤 H A command.ended (command.clauses 𝓤 H A mem run) (κ, tt) args tt r) (fact 𝓤 (commandReadingOf r ≡ found))
+  said r = exE 𝓤 _ (λ ws. snd∗ 𝓤 (sem 𝓤 H A (lasts command.ended (κ, tt) args ws)) (fact 𝓤 (commandReadingOf r ≡ found)))
 
-  exits : (r : Read) (u : Val) → readOutcomeOf r ≡ found → ent 𝓤 (⋆ 𝓤 H A (‵ (S.the-row .own r (u ∷ [])) ∷ (‵ (flft κ q) ⊛ ‵ ftrue) ∷ ‵ Own ∷ [])) (Post u)
+  exits : (r : CodeReading) (u : Val) → commandReadingOf r ≡ found → ent 𝓤 (⋆ 𝓤 H A (‵ (S.the-row .own r (u ∷ [])) ∷ (‵ (flft κ q) ⊛ ‵ ftrue) ∷ ‵ Own ∷ [])) (Post u)
   exits r u e =
       qed W (‵ (S.the-row .own r (u ∷ [])) ∷ (‵ (flft κ q) ⊛ ‵ ftrue) ∷ ‵ Own ∷ []) ∵
       suffices ! _ (ends-at 𝓤 H A next.ended stayed (next.clauses 𝓤 H A mem run) W (((κ, tt), (q, tt), tt, (reader, (k, (count, tt))), vals), tt) u r (tt, (tt, (tt, tt))) (tt, (tt, (tt, tt)))) $ says ! e $
@@ -148,8 +148,8 @@ module _ {M : Type 1} (𝓤 : URA M) (H : Heap 𝓤) (A : Atoms 𝓤) (W : Given
         assigns ! (of-opd ! (load ! (from ! (fld ! refl (stop !))) (look-in ! 8 (sub ! 1 refl (whole !))))) (from ! (stop !)) (init ! 0 refl (tt, wt .1 .1 .0)) $
         move ! (12 ∷ []) $ use1 W (raw (ReadCommand 𝓤 H A mem run .pre to) ⊛ ‵ Own) (apart (wt .1 .1 .0 .fits)) $ split ! $
         calls-at ! fm (ReadCommand 𝓤 H A mem run) known to (and-then ! (load ! (from ! (stop !)) (look ! 4 refl)) (and-then ! (load ! (from ! (stop !)) (look ! 8 refl)) (and-then ! (load ! (from ! (stop !)) (look ! 6 refl)) (and-then ! (load ! (from ! (stop !)) (look ! 2 refl)) (no-more !))))) (λ u.
-        use1 W (later (some (λ (r : Read). ((‵ (flft κ q) ⊛ ‵ ftrue) ⊛ ‵ (S.the-row .own r (u ∷ []))) ⊛ raw (ensured 𝓤 H A command.ended (command.clauses 𝓤 H A mem run) (κ, tt) args tt r)))) (id⊢ 𝓤 _) $ await ! tt $ pick ! (λ r.
-        split ! $ move ! (1 ∷ []) $ use1 W (raw (fact 𝓤 (readOutcomeOf r ≡ found))) (said r) $ heard ! (readOutcomeOf r ≡ found) (λ e. split ! $ move ! (1 ∷ []) $
+        use1 W (later (some (λ (r : CodeReading). ((‵ (flft κ q) ⊛ ‵ ftrue) ⊛ ‵ (S.the-row .own r (u ∷ []))) ⊛ raw (ensured 𝓤 H A command.ended (command.clauses 𝓤 H A mem run) (κ, tt) args tt r)))) (id⊢ 𝓤 _) $ await ! tt $ pick ! (λ r.
+        split ! $ move ! (1 ∷ []) $ use1 W (raw (fact 𝓤 (commandReadingOf r ≡ found))) (said r) $ heard ! (commandReadingOf r ≡ found) (λ e. split ! $ move ! (1 ∷ []) $
         -- [the result; the token; what the struct owns; _5; …; _4; …; _3; …; _2; …; _1; …; room for _0; …]
         peeks ! S.the-row (Is S.the-row) (shows 𝓤 H A S.the-row) r (u ∷ []) (λ is.
         land ! (from ! (stop !)) (init ! 13 refl (EL.lawful S.the-type S′.the-laws 𝓤 H A W tt .typed r _ is .0)) $

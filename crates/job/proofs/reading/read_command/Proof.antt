@@ -8,7 +8,7 @@ use native.Mathlib.Omega.{arith}
 use lib.ListN.{length, drop}
 use denote.Ref.{now}
 use Rattle.model.specs.Models.{firstRefusal}
-use Rattle.job.specs.Commands.{nameBytes, valueBytes, shapeAt, readOutcome, readingNumber, readingPlaces}
+use Rattle.job.specs.Commands.{nameBytes, valueBytes, shapeAt, commandReading, readingNumber, readingPlaces}
 use Rattle.job.specs.declared.types.Kind.{Kind}
 use Rattle.job.specs.declared.types.Shape.{Shape}
 use Rattle.job.proofs.KindLaws.{agrees}
@@ -36,7 +36,7 @@ module _ (a : tie.After-shape-of) where
 
   -- the first n places are passed: what is read is what those behind say
   abbrev Left : ℕ → Type 0
-  Left n = readOutcome job k count at ≡ outcomeWith job k count at s (firstRefusal (drop n (placesWith job k count at s)))
+  Left n = commandReading job k count at ≡ outcomeWith job k count at s (firstRefusal (drop n (placesWith job k count at s)))
 
 -- ---- the tests that failed
 
@@ -90,7 +90,7 @@ left6 c =
 -- ---- the needs
 
 returns : tie.Need-returns
-unfolding readOutcome readingNumber readingPlaces firstRefusal
+unfolding commandReading readingNumber readingPlaces firstRefusal
 returns c = simp (le-leb _ _ (c .if1 .taken))
 
 returns-2 : tie.Need-returns-2

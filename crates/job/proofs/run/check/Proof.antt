@@ -41,7 +41,7 @@ returns-3 c =
     ran-leaves (now (g .job)) (now (g .work)) (now (g .scratch)) (e .before .before .before .if1 .left)
     (e .before .before .if2 .left)
     (e .clear-work .last .0) (r .run .last .1 .0) (r .run .last .1 .1 .0) (r .run .result) (e .clear-work .ensures)
-    (record { answer = r .run .ensures .0; work-is = r .run .ensures .1 .0; vouched = r .run .ensures .1 .1 .1 })
+    (record { answer = r .run .ensures .0; work-is = r .run .ensures .1 .0; claim = r .run .ensures .1 .1 .1 })
     (r .run .ensures .1 .1 .0 ∙ d .clear-scratch .ensures)
 
 pub check-spec : {M : Type 1} → statement M

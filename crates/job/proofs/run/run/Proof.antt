@@ -7,10 +7,11 @@ use native.Mathlib.Omega.{arith}
 use lib.IntN.{ℤ}
 use lib.ListN.{length, drop}
 use denote.Ref.{now}
+use Rattle.model.specs.declared.types.Model.{Model}
 use Rattle.job.specs.Jobs.{Step, command}
 use Rattle.job.specs.Work.{workSize}
 use Rattle.job.specs.Steps.{Stepped, Clear}
-use Rattle.job.specs.declared.types.Done.{Done}
+use Rattle.job.specs.declared.types.Step.{Step as CodeStep}
 use Rattle.job.proofs.Loop.{Going, going-begins, going-again, going-ends, going-stops}
 use Rattle.job.proofs.run.run.Statement.{statement}
 use Rattle.job.proofs.run.run.Tie as tie
@@ -48,10 +49,10 @@ module _ (c : tie.After-scratch Inv-loop μ-loop) where
   abbrev going : Going job (now (begun .args .work)) (turn .before .before .before .loop .work) at k count
   going = turn .before .before .before .loop .inv .0
 
-  abbrev stepped : Step
+  abbrev stepped : Step (List Model)
   stepped = command job k (going .rs) at
 
-  abbrev Does : Done → Type 0
+  abbrev Does : CodeStep → Type 0
   Does r = Stepped r work (going .rs) (drop workSize (now (begun .args .work))) stepped
 
   does : Does (turn .step .result)
@@ -93,7 +94,7 @@ returns : tie.Need-returns Inv-loop μ-loop
 returns c =
     let s = c .before .before in
     let r = going-ends (going s) (work s) (stepped s) refl (subst (Does s) (c .enum-told .given .1) (does s)) in
-    (r .answer, (r .work-is, (unchanged s, r .vouched)))
+    (r .answer, (r .work-is, (unchanged s, r .claim)))
 
 clear-work-requires : tie.Need-clear-work-requires Inv-loop μ-loop
 clear-work-requires c κs =
@@ -107,7 +108,7 @@ returns-2 c =
     let r =
     going-stops (going s) (work s) (stepped s) (d .done2 .given .0 .0) (c .before .clear-work .last .0) refl
     (subst (Does s) (d .done2 .given .1) (does s)) (c .before .clear-work .ensures) in
-    (r .answer, (r .work-is, (unchanged s, r .vouched)))
+    (r .answer, (r .work-is, (unchanged s, r .claim)))
 
 pub run-spec : {M : Type 1} → statement M
 run-spec =

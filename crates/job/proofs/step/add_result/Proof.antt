@@ -1,16 +1,17 @@
 -- `step::add_result` meets its contract.
 use mathlib.Core.Path.{_≡_, refl, ap, subst⁻¹}
 use mathlib.Core.List.{List, [], _∷_, _++_}
-use Prim.Native.Nat.{_+_}
+use Prim.Native.Nat.{ℕ, _+_}
 use native.Mathlib.Omega.{arith}
 use lib.IntN.{ℤ}
 use lib.ListN.{length, length-append}
 use denote.Ref.{now}
 use Rattle.model.specs.Models.{numberOf, outcomeOf}
 use Rattle.job.specs.CommandLaws.{resulting-refuses, resulting-takes}
-use Rattle.job.specs.Steps.{Holds, onward, Stepped}
-use Rattle.job.specs.declared.types.Done.the-variants.{More, Refused}
-use Rattle.job.proofs.Results.{counted, stored-holds}
+use Rattle.job.specs.Jobs.{more}
+use Rattle.job.specs.Steps.{Holds, Stepped}
+use Rattle.job.specs.declared.types.Step.the-variants.{More, Refused}
+use Rattle.job.proofs.Results.{holds-all, stored-holds}
 use Rattle.job.proofs.StepLaws.{refusal-positive}
 use borrow.Author.Needs.{needs}
 use Rattle.job.proofs.step.add_result.Statement.{statement}
@@ -38,7 +39,7 @@ returns c = λ rs t h.
     subst⁻¹ (Stepped (More (a .next) (a .count + 1)) (c .before .store .last .0) rs t)
     (resulting-takes rs (a .next) (outcomeOf (a .a)) z)
     (record {
-      answer = ap (onward (a .next)) (omega (arith, h .count-is));
+      answer = ap (λ (n : ℕ). more n (a .next)) (omega (arith, h .count-is));
       holds =
           subst⁻¹ (λ (w : List ℤ). Holds w (length (rs ++ (m ∷ []))) (rs ++ (m ∷ [])) t) (c .before .store .ensures)
           (stored-holds h m (s .pre .1 .0) (search needs));
@@ -50,7 +51,7 @@ returns-2 c = λ rs t h.
     let v = a .a .verdict in
     subst⁻¹ (Stepped (Refused v) (now (a .work)) rs t)
     (resulting-refuses rs (a .next) (numberOf v) (outcomeOf (a .a)) refl (refusal-positive v (c .match .keys2)))
-    (record { answer = refl; holds = counted h })
+    (record { answer = refl; holds = holds-all h })
 
 pub add-result-spec : {M : Type 1} → statement M
 add-result-spec =

@@ -1,24 +1,25 @@
 -- `step::perform` meets its contract.
 use mathlib.Core.Path.{_≡_, refl, ap, sym, subst⁻¹}
 use mathlib.Core.List.{List}
+use Prim.Native.Nat.{ℕ}
 use borrow.Author.Tests.{leb-false}
 use lib.IntN.{ℤ}
 use denote.Ref.{now}
 use Rattle.job.specs.Commands.{maxResults, makerAt, commandAt}
-use Rattle.job.specs.Jobs.{resulting, performed}
-use Rattle.job.specs.Steps.{onward, Stepped, StepsBy}
-use Rattle.job.specs.declared.types.Done.{Done}
-use Rattle.job.specs.declared.types.Done.the-variants.{More}
+use Rattle.job.specs.Jobs.{more, resulting, performed}
+use Rattle.job.specs.Steps.{Stepped, StepsBy}
+use Rattle.job.specs.declared.types.Step.{Step}
+use Rattle.job.specs.declared.types.Step.the-variants.{More}
 use Rattle.job.specs.declared.types.Kind.{Kind}
 use Rattle.job.specs.declared.types.Kind.the-variants.{End, Edition, Result, Unknown}
-use Rattle.job.proofs.Results.{counted}
+use Rattle.job.proofs.Results.{holds-all}
 use Rattle.job.proofs.StepLaws.{names-below}
 use borrow.Author.Needs.{needs}
 use Rattle.job.proofs.step.perform.Statement.{statement}
 use Rattle.job.proofs.step.perform.Tie as tie
 
 -- the step of the command, once its kind is known
-known : (c : tie.Start) (r : Done) (work : List ℤ) (kind : Kind) → c .args .kind ≡ kind
+known : (c : tie.Start) (r : Step) (work : List ℤ) (kind : Kind) → c .args .kind ≡ kind
     → StepsBy r (now (c .args .work)) work (c .args .count) (λ rs. performed (commandAt kind (now (c .args .job)) (c .args .at)) rs (c .args .next))
     → StepsBy r (now (c .args .work)) work (c .args .count) (λ rs. performed (commandAt (c .args .kind) (now (c .args .job)) (c .args .at)) rs (c .args .next))
 known c r work kind e f = rw e f
@@ -51,14 +52,14 @@ add-result-requires c κs =
 returns : tie.Need-returns
 returns c =
     let s = c .before .before .before in
-    (known s _ (now (s .args .work)) End (c .enum-told .given .1) (λ rs t h. record { answer = refl; holds = counted h }), refl)
+    (known s _ (now (s .args .work)) End (c .enum-told .given .1) (λ rs t h. record { answer = refl; holds = holds-all h }), refl)
 
 returns-2 : tie.Need-returns-2
 returns-2 c =
     let s = c .before .before .before in
     let g = s .args in (
       known s (More (g .next) (g .count)) (now (g .work)) Edition (c .enum-told2 .given .1)
-          (λ rs t h. record { answer = ap (onward (g .next)) (h .count-is); holds = counted h }),
+          (λ rs t h. record { answer = ap (λ (n : ℕ). more n (g .next)) (h .count-is); holds = holds-all h }),
       refl,
     )
 
@@ -82,7 +83,7 @@ returns-3 c =
 returns-4 : tie.Need-returns-4
 returns-4 c =
     let s = c .before .before .before in
-    (known s _ (now (s .args .work)) Unknown (c .enum-told3 .given .1) (λ rs t h. record { answer = refl; holds = counted h }), refl)
+    (known s _ (now (s .args .work)) Unknown (c .enum-told3 .given .1) (λ rs t h. record { answer = refl; holds = holds-all h }), refl)
 
 pub perform-spec : {M : Type 1} → statement M
 perform-spec =

@@ -9,39 +9,31 @@ use lib.ListN.{length, getD}
 use Rattle.job.specs.Commands.{Command, edition, result, finish, unknown, readingNumber, commandRead, nextAt}
 
 -- read to its end, with the commands of its results in the order of their numbers; or refused with a number and a command
-pub data Reading : Type 0 where
-  well : List Command → Reading
-  ill : ℕ → ℕ → Reading
+pub data JobReading : Type 0 where
+  well : List Command → JobReading
+  ill : ℕ → ℕ → JobReading
 
 -- what command k, which was read, leaves to read
-abbrev pub readOn : ℕ → (List Command → Reading) → List Command → Command → Reading
+abbrev pub readOn : ℕ → (List Command → JobReading) → List Command → Command → JobReading
 readOn k next cs edition = next cs
 readOn k next cs (result m) = next (cs ++ (result m ∷ []))
 readOn k next cs finish = well cs
 readOn k next cs unknown = ill 9 k
 
 -- from command k at a position on, the commands of the results before it being cs
-unfoldable pub readFrom : ℕ → List ℕ → ℕ → List Command → ℕ → Reading
+unfoldable pub readFrom : ℕ → List ℕ → ℕ → List Command → ℕ → JobReading
 readFrom zero job k cs at = ill 10 k
 readFrom (suc f) job k cs at =
     cond (eqb (readingNumber job k (length cs) at) 0)
     (readOn k (λ cs′. readFrom f job (k + 1) cs′ (nextAt job k (length cs) at)) cs (commandRead job k (length cs) at))
     (ill (readingNumber job k (length cs) at) k)
 
-unfoldable pub readingOf : List ℕ → Reading
-readingOf job = readFrom (length job + 1) job 0 [] 0
+unfoldable pub jobReading : List ℕ → JobReading
+jobReading job = readFrom (length job + 1) job 0 [] 0
 
 -- 01's term "reads well"
 abbrev pub ReadsWell : List ℕ → Type 0
-ReadsWell job = (cs : List Command) × (readingOf job ≡ well cs)
-
-abbrev pub commandsRead : Reading → List Command
-commandsRead (well cs) = cs
-commandsRead (ill n k) = []
-
--- the commands of a job's results, result i being made by command i of this list
-abbrev pub commandsOf : List ℕ → List Command
-commandsOf job = commandsRead (readingOf job)
+ReadsWell job = (cs : List Command) × (jobReading job ≡ well cs)
 
 -- the command that makes result i
 abbrev pub commandOf : List Command → ℕ → Command

@@ -1,5 +1,4 @@
--- The places of 01's table "Refused, and where", as a list of conditions with their numbers in the table's order: the first
--- that holds, and what `firstRefusal` has to do with it.
+-- Lists of places: the first that holds, and what `firstRefusal` has to do with it.
 use mathlib.Core.Path.{_≡_, refl}
 use mathlib.Core.Bool.{Bool, true, false}
 use mathlib.Core.List.{List, [], _∷_, _++_}
@@ -7,11 +6,7 @@ use mathlib.Core.Logic.{_⊎_, inl, inr}
 use Prim.Native.Nat.{ℕ, _<_}
 use Rattle.model.specs.Models.{firstRefusal}
 use Rattle.model.specs.RefusalLaws.{Passed, Numbered}
-
--- the first place whose condition holds has number n
-pub data First : List (Bool × ℕ) → ℕ → Type 0 where
-  here : {p : Bool × ℕ} {ps : List (Bool × ℕ)} {n : ℕ} → p .0 ≡ true → p .1 ≡ n → First (p ∷ ps) n
-  later : {p : Bool × ℕ} {ps : List (Bool × ℕ)} {n : ℕ} → p .0 ≡ false → First ps n → First (p ∷ ps) n
+use Rattle.job.specs.Order.{First, here, later}
 
 pub first-is : {ps : List (Bool × ℕ)} {n : ℕ} → First ps n → firstRefusal ps ≡ n
 unfolding firstRefusal
@@ -51,3 +46,7 @@ first-parts (p ∷ ps) qs {n} (later t f) = by (first-parts ps qs f)
     by : First ps n ⊎ (Passed ps × First qs n) → First (p ∷ ps) n ⊎ (Passed (p ∷ ps) × First qs n)
     by (inl g) = inl (later t g)
     by (inr g) = inr ((t, g .0), g .1)
+
+pub passed-both : (ps qs : List (Bool × ℕ)) → Passed ps → Passed qs → Passed (ps ++ qs)
+passed-both [] qs f g = g
+passed-both (p ∷ ps) qs f g = (f .0, passed-both ps qs (f .1) g)

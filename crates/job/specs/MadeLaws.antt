@@ -1,26 +1,21 @@
--- "each of its results is exactly the loaded model, or what the operation or test of its command gives for the results, d and
--- blocks it names": the commands of the results beside the results.
-use mathlib.Core.Path.{_≡_, refl, ap, ap₂, sym}
+-- Results made one after the other: each is what its command gives for all of them.
+use mathlib.Core.Path.{_≡_, refl, ap, ap₂, sym, subst}
 use mathlib.Core.Bool.{Bool, true, false}
 use mathlib.Core.List.{List, [], _∷_, _++_}
 use Prim.Native.Nat.{ℕ, _<_}
 use native.Mathlib.Omega.{arith}
+use native.Mathlib.Decide.{decLt}
 use borrow.Author.Tests.{ltb-true, ltb-false, leb-false}
 use lib.Dec.{ltb}
-use lib.ListN.{length, take, length-append, List·getD-append}
+use lib.ListN.{length, take, length-append, List·getD-append, List·getD-eq-default}
 use lib.Seq.{getD-take, getD-at, take-at, take-append-le}
 use Rattle.model.specs.Models.{zeroModel}
 use Rattle.model.specs.declared.types.Model.{Model}
 use Rattle.job.specs.Makers.{Maker, Given, Row, of-none, of-one, of-two, rowOf, badIn, resultAt, givenIn, namesBad, operation}
 use Rattle.job.specs.Commands.{Command, edition, result, finish, unknown}
-use Rattle.job.specs.Reading.{commandOf}
+use Rattle.job.specs.JobReading.{commandOf}
+use Rattle.job.specs.Requirement.{Made, nothing, one-more}
 use Rattle.job.specs.CommandLaws.{both-below}
-
--- the results rs are made by the commands cs, one after the other, each from those before it
-pub data Made : List Command → List Model → Type 0 where
-  nothing : Made [] []
-  one-more : {cs : List Command} {rs : List Model} → Made cs rs → (m : Maker) → namesBad m (length rs) ≡ false
-      → operation m rs .number ≡ 0 → Made (cs ++ (result m ∷ [])) (rs ++ (operation m rs .model ∷ []))
 
 pub made-length : {cs : List Command} {rs : List Model} → Made cs rs → length cs ≡ length rs
 made-length nothing = refl
@@ -56,7 +51,7 @@ module _ (cs : List Command) (rs : List Model) (c : Command) (x : Model) (n : le
   last : i ≡ length rs → MadeBy c rs (length rs) x → Added
   last e b = rw (getD-at cs c [] finish i (omega arith), getD-at rs x [] zeroModel i (sym e), take-at rs (x ∷ []) i (sym e), e) b
 
-made-at : {cs : List Command} {rs : List Model} → Made cs rs → (i : ℕ) → i < length rs
+pub made-at : {cs : List Command} {rs : List Model} → Made cs rs → (i : ℕ) → i < length rs
     → MadeBy (commandOf cs i) (take i rs) i (resultAt rs i)
 made-at nothing i lt = absurd (omega arith)
 made-at (one-more {cs} {rs} d m h₁ h₂) i lt = by (ltb i (length rs)) refl (λ h. made-at d i h)
@@ -101,3 +96,32 @@ module _ (i : ℕ) (rs : List Model) where
 pub made-from-all : {cs : List Command} {rs : List Model} → Made cs rs → (i : ℕ) → i < length rs
     → MadeBy (commandOf cs i) rs i (resultAt rs i)
 made-from-all {cs} {rs} d i h = from-all i rs (commandOf cs i) (resultAt rs i) (made-at d i h)
+
+-- ---- by the maker of a result
+
+-- a command that makes a result is among those of the list
+command-listed : (cs : List Command) (i : ℕ) (m : Maker) → commandOf cs i ≡ result m → i < length cs
+command-listed cs i m e = pick (decLt i (length cs))
+  where
+    pick : Dec (i < length cs) → i < length cs
+    pick (yes h) = h
+    pick (no h) =
+        let d : commandOf cs i ≡ finish = List·getD-eq-default cs finish (omega arith) in
+        let z : _≡_ {A = ℕ} 0 1 = cc in
+        absurd (omega arith)
+
+pub made-maker : {cs : List Command} {rs : List Model} → Made cs rs → (i : ℕ) (m : Maker) → commandOf cs i ≡ result m
+    → MadeFrom m rs i (resultAt rs i)
+made-maker {cs} {rs} d i m e =
+    subst (λ (c : Command). MadeBy c rs i (resultAt rs i)) e
+    (made-from-all d i (omega (arith, made-length d, command-listed cs i m e)))
+
+-- each of the results has its maker
+pub made-by-maker : {cs : List Command} {rs : List Model} → Made cs rs → (i : ℕ) → i < length rs → (m : Maker) × (commandOf cs i ≡ result m)
+made-by-maker {cs} {rs} d i h = by (commandOf cs i) refl (made-from-all d i h)
+  where
+    by : (c : Command) → commandOf cs i ≡ c → MadeBy c rs i (resultAt rs i) → (m : Maker) × (commandOf cs i ≡ result m)
+    by edition e b = absurd b
+    by (result m) e b = (m, e)
+    by finish e b = absurd b
+    by unknown e b = absurd b
