@@ -8,7 +8,7 @@ use Rattle.chebyshev.specs.Coefficients.{weight, addLists, subtractLists, scale
 use Rattle.chebyshev.specs.Product.{addAt, addPair, addRow, addRows, product}
 use Rattle.chebyshev.specs.Sign.{coefficientSum}
 use Rattle.model.specs.Models.{good, tooLarge, makeModel, constantModel, zeroModel}
-use Rattle.model.specs.Outcomes.{accepted, refused, outcome}
+use Rattle.model.specs.Outcomes.{accepted, refused, passing}
 use Rattle.model.specs.declared.types.Model.{Model}
 use Rattle.model.specs.Operations.{productList}
 use Rattle.certificate.specs.Tests.{makeCertificate, zeroCertificate, byDiscriminant}
@@ -28,5 +28,5 @@ pub benchmarks :
     ≡ accepted (makeCertificate (makeModel 0 (pos 2097152 ∷ replicate 32 (pos 0)) 1048576) 0 2097152 524288))
     × (rootOf byDiscriminant 65 (constantModel (pos 2097151)) h w ≡ refused 8 zeroCertificate)
     × (rootOf byDiscriminant 65 (constantModel (pos 1048576)) h w ≡ refused 8 zeroCertificate)
-unfolding quotientOf rootOf rootPlaces quotientContraction quotientResidual quotientModel rootContraction rootResidual rootModel displacement coefficientSum productList outcome good tooLarge constantModel zeroModel weight addLists subtractLists scaleList addAt addPair addRow addRows product upℕ
+unfolding quotientOf rootOf rootPlaces quotientContraction quotientResidual quotientModel rootContraction rootResidual rootModel displacement coefficientSum productList passing good tooLarge constantModel zeroModel weight addLists subtractLists scaleList addAt addPair addRow addRows product upℕ
 benchmarks = (refl, refl, refl, refl)

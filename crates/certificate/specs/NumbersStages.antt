@@ -10,7 +10,7 @@ use Rattle.integer.specs.Rounding.{upℕ}
 use Rattle.chebyshev.specs.Coefficients.{weight}
 use Rattle.chebyshev.specs.Sign.{coefficientSum}
 use Rattle.model.specs.Models.{scale, maxRadius, good}
-use Rattle.model.specs.Outcomes.{accepted, refused, outcome}
+use Rattle.model.specs.Outcomes.{accepted, refused, passing}
 use Rattle.model.specs.declared.types.Model.{Model}
 use Rattle.certificate.specs.Tests.{scratchSize, rootPlaces, rootContraction, rootResidual, displacement}
 use Rattle.certificate.specs.InnerContracts.{RootReady, makeReach, zeroReach, rootReach}
@@ -18,7 +18,7 @@ use Rattle.certificate.specs.Stages.{bad-model}
 
 module _ (len : ℕ) (f h w : Model) where
   pub numbers-short : len < scratchSize → rootReach len f h w ≡ refused 1 zeroReach
-  unfolding rootReach rootPlaces outcome
+  unfolding rootReach rootPlaces passing
   numbers-short e = rw (lt-ltb len scratchSize e)
 
   -- a scratch that is long enough plays no further part
@@ -27,28 +27,28 @@ module _ (len : ℕ) (f h w : Model) where
   numbers-room room = rw (le-ltb len scratchSize room)
 
 pub numbers-bad : (f h w : Model) → (good f && (good h && good w)) ≡ false → rootReach scratchSize f h w ≡ refused 2 zeroReach
-unfolding rootReach rootPlaces outcome
+unfolding rootReach rootPlaces passing
 numbers-bad f h w e = bad-model true (good f) (good h) (good w) (refused 2 zeroReach) _ e
 
 -- where all are good: from the helper's sign on, where m is 01's m, n its N, and so on
 module _ {part : List ℤ} {f h w : Model} (r : RootReady part f h w) where
   pub numbers-helper : leZ (coefficientSum (w .coefficients)) (pos 0) ≡ true → rootReach scratchSize f h w ≡ refused 7 zeroReach
-  unfolding rootReach rootPlaces outcome
+  unfolding rootReach rootPlaces passing
   numbers-helper e = rw (r .good-f, r .good-h, r .good-w, e)
 
   module _ (positive : leZ (coefficientSum (w .coefficients)) (pos 0) ≡ false) (m : ℕ) (is-m : m ≡ rootContraction h w) where
     pub numbers-not-contracting : scale ≤ m → rootReach scratchSize f h w ≡ refused 5 zeroReach
-    unfolding rootReach rootPlaces outcome
+    unfolding rootReach rootPlaces passing
     numbers-not-contracting e = rw (← is-m, r .good-f, r .good-h, r .good-w, positive, le-leb scale m e)
 
     module _ (contracting : m < scale) (n : ℕ) (is-n : n ≡ rootResidual f h) where
       pub numbers-large-residual : maxRadius < n → rootReach scratchSize f h w ≡ refused 6 zeroReach
-      unfolding rootReach rootPlaces outcome
+      unfolding rootReach rootPlaces passing
       numbers-large-residual e =
           rw (← is-m, ← is-n, r .good-f, r .good-h, r .good-w, positive, lt-leb scale m contracting, lt-ltb maxRadius n e)
 
       pub numbers-reached : n ≤ maxRadius → (M b : ℕ) → M ≡ weight (w .coefficients) → b ≡ upℕ (M * n) scale
           → rootReach scratchSize f h w ≡ accepted (makeReach M m n b)
-      unfolding rootReach rootPlaces outcome displacement
+      unfolding rootReach rootPlaces passing displacement
       numbers-reached small M b is-M is-b =
           rw (is-b, is-M, ← is-m, ← is-n, r .good-f, r .good-h, r .good-w, positive, lt-leb scale m contracting, le-ltb maxRadius n small)

@@ -6,7 +6,7 @@ use borrow.Author.Tests.{lt-ltb, le-ltb}
 use Rattle.integer.specs.Rounding.{upℕ}
 use Rattle.integer.specs.RoundingLaws.{upℕ-least}
 use Rattle.model.specs.Models.{scale, maxRadius}
-use Rattle.model.specs.Outcomes.{outcome}
+use Rattle.model.specs.Outcomes.{passing}
 use Rattle.model.specs.declared.types.Model.{Model}
 use Rattle.certificate.specs.Tests.{withRadius, rootModel}
 use Rattle.certificate.specs.InnerContracts.{RootLast, refusedTest, passedTest, rootEnd}
@@ -16,7 +16,7 @@ use Rattle.certificate.specs.Discriminant.{discriminant-quotient, discri
 
 module _ {h : Model} {M m b : ℕ} (r : RootLast h M m b) where
   pub root-end-refused : (n : ℕ) → (scale - m) * (scale - m) / (8 * M) < b → rootEnd h M m n b ≡ refusedTest 8
-  unfolding outcome
+  unfolding passing
   root-end-refused n e = rw (discriminant-test b M m (r .positive) ∙ lt-ltb _ b e)
 
   module _ (enough : b ≤ (scale - m) * (scale - m) / (8 * M)) (e : ℕ) (is-e : e ≡ upℕ (2 * b * scale) (scale - m)) where
@@ -30,6 +30,6 @@ module _ {h : Model} {M m b : ℕ} (r : RootLast h M m b) where
         (upℕ-least (2 * b * scale) (scale - m) (2 ^ 27) gap (numerator-bound (scale - m) b M gap (r .square) discriminant))
 
     pub root-end-passed : (n : ℕ) → rootEnd h M m n b ≡ passedTest (withRadius h e) m n b
-    unfolding outcome rootModel
+    unfolding passing rootModel
     root-end-passed n =
         rw (← is-e, le-ltb ((scale - m) * (scale - m)) (8 * b * M) discriminant, large-radius h e (r .good-h), le-ltb maxRadius e (omega (arith, root-end-radius)))

@@ -4,9 +4,9 @@ ghost use Prim.Native.Nat.{_+_, _≤_, _<_};
 ghost use lib.ListN.{length};
 ghost use Rattle.model.specs.Models.{candidateModel};
 ghost use Rattle.job.specs.Bytes.{unsignedAt, signed as signedOf, signedsAt, blockAt};
+use model::types::COEFFICIENTS;
 use model::types::Candidate;
 use model::types::Model;
-use model::types::COEFFICIENTS;
 
 fn widen(b: u8) -> u32
     ensures { λ r. ⌜ (r ≡ b) × (r < 256) ⌝ }

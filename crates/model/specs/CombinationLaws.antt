@@ -11,7 +11,7 @@ use Rattle.chebyshev.specs.CoefficientLaws.{opposite-scale}
 use Rattle.chebyshev.specs.Weight.{weight-add, weight-scale}
 use Rattle.model.specs.InnerContracts.{combination, combinedModel, unlessLarge}
 use Rattle.model.specs.Models.{good}
-use Rattle.model.specs.Outcomes.{outcome}
+use Rattle.model.specs.Outcomes.{passing}
 use Rattle.model.specs.Operations.{sumModel, differenceModel, addition, subtraction}
 use Rattle.model.specs.declared.types.Model.{Model}
 
@@ -20,7 +20,7 @@ combined-weight s a b e = omega (arith, weight-add a (scaleList ℤ-ring s b), w
 
 -- of two good models only the result is tested
 pub combination-of-good : (s : ℤ) (a b : Model) → good a ≡ true → good b ≡ true → unlessLarge (combinedModel s a b) ≡ combination s a b
-unfolding combination unlessLarge outcome
+unfolding combination unlessLarge passing
 combination-of-good s a b p q = rw (p, q)
 
 scale-one : (b : List ℤ) → scaleList ℤ-ring (pos 1) b ≡ b

@@ -11,7 +11,7 @@ use borrow.Author.Tests.{le-ltb}
 use Rattle.integer.specs.Parts.{abs-add, abs-mul}
 use Rattle.chebyshev.specs.Coefficients.{weight}
 use Rattle.model.specs.Models.{scale, good}
-use Rattle.model.specs.Outcomes.{accepted, outcome}
+use Rattle.model.specs.Outcomes.{accepted, passing}
 use Rattle.model.specs.Evaluation.{pointTerm, pointSum, pointError, lowBound, highBound, evaluation}
 use Rattle.model.specs.EvaluationError.{term-range}
 use Rattle.model.specs.declared.types.Model.{Model}
@@ -50,5 +50,5 @@ error-size k m (c ∷ a) l = go (m * (m - 1)) (natAbs c) (k * (k - 1)) (pointErr
 -- ---- a point that is accepted
 
 pub evaluation-accepted : (a : Model) (p : ℤ) → good a ≡ true → natAbs p ≤ scale → evaluation a p ≡ accepted (record { low = lowBound a p; high = highBound a p })
-unfolding evaluation outcome
+unfolding evaluation passing
 evaluation-accepted a p e h = rw (e, le-ltb scale (natAbs p) h)

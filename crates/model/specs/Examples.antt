@@ -8,7 +8,7 @@ use Rattle.integer.specs.Rounding.{floor, up, upℕ, near}
 use Rattle.chebyshev.specs.Coefficients.{weight, addLists, subtractLists}
 use Rattle.chebyshev.specs.Product.{addAt, addPair, addRow, addRows, product}
 use Rattle.model.specs.Models.{coefficientCount, good, tooLarge, makeModel, constantModel, zeroModel}
-use Rattle.model.specs.Outcomes.{accepted, outcome}
+use Rattle.model.specs.Outcomes.{accepted, passing}
 use Rattle.model.specs.Operations.{multiplication, productModel, productList, productLoss, rounded, roundingLoss}
 use Rattle.model.specs.Integral.{integration, integralModel, integralList, halved, numerators, doubleFirst, alternating}
 use Rattle.model.specs.Evaluation.{evaluation, lowBound, highBound, pointTerm, pointSum, pointError}
@@ -33,5 +33,5 @@ pub benchmarks :
     × (multiplication 32 (constantModel (negsuc 0)) (constantModel (pos 524288)) ≡ accepted (makeModel 0 (padded []) 1))
     × (integration (constantModel (pos 1048576)) ≡ accepted (makeModel 1 (padded (pos 1048576 ∷ pos 1048576 ∷ [])) 1))
     × (evaluation quadratic (pos 524288) ≡ accepted (record { low = negsuc 524288; high = negsuc 524286 }))
-unfolding multiplication productModel productList productLoss rounded roundingLoss integration integralModel integralList halved numerators doubleFirst alternating evaluation lowBound highBound pointTerm pointSum pointError outcome good tooLarge constantModel zeroModel weight addLists subtractLists addAt addPair addRow addRows product floor up upℕ near
+unfolding multiplication productModel productList productLoss rounded roundingLoss integration integralModel integralList halved numerators doubleFirst alternating evaluation lowBound highBound pointTerm pointSum pointError passing good tooLarge constantModel zeroModel weight addLists subtractLists addAt addPair addRow addRows product floor up upℕ near
 benchmarks = (refl, refl, refl, refl, refl, refl)

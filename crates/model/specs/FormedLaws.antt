@@ -9,13 +9,13 @@ use borrow.Author.Tests.{ltb-false}
 use Rattle.chebyshev.specs.Coefficients.{weight}
 use Rattle.model.specs.InnerContracts.{formedOutcome, unlessLarge}
 use Rattle.model.specs.Models.{maxWeight, tooLarge}
-use Rattle.model.specs.Outcomes.{outcome}
+use Rattle.model.specs.Outcomes.{passing}
 use Rattle.model.specs.declared.types.Model.{Model}
 
 -- the definition's result m need not fit the machine where it is refused
 pub formed-is : (m : Model) (cs : List ℤ) → (weight (m .coefficients) ≤ maxWeight → cs ≡ m .coefficients)
     → formedOutcome (m .degree) cs (weight (m .coefficients)) (m .radius) ≡ unlessLarge m
-unfolding formedOutcome unlessLarge outcome tooLarge
+unfolding formedOutcome unlessLarge passing tooLarge
 formed-is m cs h = go (ltb maxWeight (weight (m .coefficients))) refl
   where
     go : (t : Bool) → ltb maxWeight (weight (m .coefficients)) ≡ t

@@ -17,7 +17,7 @@ use Rattle.chebyshev.specs.CoefficientLaws.{length-subtract, getD-subtract}
 use Rattle.chebyshev.specs.Weight.{weight-subtract, weight-drop, weight-append-zeros}
 use Rattle.model.specs.InnerContracts.{formedOutcome, roundedIntegral, roundedTail, unlessLarge}
 use Rattle.model.specs.Models.{maxDegree, coefficientCount, terms, good, tooLarge, zeroModel}
-use Rattle.model.specs.Outcomes.{refused, outcome}
+use Rattle.model.specs.Outcomes.{refused, passing}
 use Rattle.model.specs.FormedLaws.{formed-is}
 use Rattle.model.specs.Integral.{doubleFirst, numerators, halved, alternating, integralList, integralModel, integration}
 use Rattle.model.specs.declared.types.Model.{Model}
@@ -98,11 +98,11 @@ weight-integral ds = omega (arith, weight-append-zeros (roundedTail ds) (coeffic
 -- from what code has of the result: its coefficients cs and its weight w
 pub integration-formed : (a : Model) (cs : List ℤ) (w : ℕ) → good a ≡ true → cs ≡ integralModel a .coefficients → w ≡ weight (integralModel a .coefficients)
     → formedOutcome (a .degree + 1) cs w (2 * a .radius + a .degree + 1) ≡ integration a
-unfolding integration integralModel unlessLarge outcome
+unfolding integration integralModel unlessLarge passing
 integration-formed a cs w e f g =
     ap (λ (v : ℕ). formedOutcome (a .degree + 1) cs v (2 * a .radius + a .degree + 1)) g ∙ formed-is (integralModel a) cs (λ _. f) ∙ rw e
 
 -- "degree 32 gives 3"
 pub integration-degree : (a : Model) → good a ≡ true → maxDegree ≤ a .degree → refused 3 zeroModel ≡ integration a
-unfolding integration integralModel tooLarge outcome
+unfolding integration integralModel tooLarge passing
 integration-degree a e h = rw (e, lt-ltb maxDegree (a .degree + 1) (omega arith)) (simp or-true)

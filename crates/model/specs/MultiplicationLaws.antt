@@ -10,7 +10,7 @@ use Rattle.chebyshev.specs.Coefficients.{weight}
 use Rattle.chebyshev.specs.Weight.{weight-append-zeros}
 use Rattle.model.specs.InnerContracts.{RoundedFrom, formedOutcome, unlessLarge}
 use Rattle.model.specs.Models.{scale, coefficientCount, maxDegree, good}
-use Rattle.model.specs.Outcomes.{outcome}
+use Rattle.model.specs.Outcomes.{passing}
 use Rattle.model.specs.Operations.{keptDegree, productDegree, productList, productLoss, productModel, rounded, multiplication}
 use Rattle.model.specs.FormedLaws.{formed-is}
 use Rattle.model.specs.declared.types.Model.{Model}
@@ -38,5 +38,5 @@ product-formed d a b r f =
 -- of two good models and a kept degree within its limit only the result is tested
 pub multiplication-of-good : (d : ℕ) (a b : Model) → good a ≡ true → good b ≡ true → keptDegree d ≤ maxDegree
     → unlessLarge (productModel (keptDegree d) a b) ≡ multiplication d a b
-unfolding multiplication unlessLarge outcome productModel
+unfolding multiplication unlessLarge passing productModel
 multiplication-of-good d a b p q h = rw (p, q, le-leb (keptDegree d) maxDegree h, kept-is (keptDegree d) h)

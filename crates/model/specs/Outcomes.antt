@@ -28,11 +28,15 @@ abbrev pub values : {A : Type 0} → Outcome A → A
 values (accepted a) = a
 values (refused n a) = a
 
--- the places of the table that an operation passes through, in their order: a condition and its number. The first condition
--- that holds refuses; z is zero in place of the values a.
-unfoldable pub outcome : {A : Type 0} → List (Bool × ℕ) → A → A → Outcome A
-outcome [] a z = accepted a
-outcome (p ∷ ps) a z = cond (p .0) (refused (p .1) z) (outcome ps a z)
+-- The places of the table that are passed through, in their order: a condition and its number. The first condition that holds
+-- refuses with its number; where none does, a is what comes of it.
+unfoldable pub passing : {A : Type 0} → List (Bool × ℕ) → A → (ℕ → A) → A
+passing [] a refusing = a
+passing (p ∷ ps) a refusing = cond (p .0) (refusing (p .1)) (passing ps a refusing)
+
+-- the outcome of an operation that passes through places; z is zero in place of the values a
+abbrev pub outcome : {A : Type 0} → List (Bool × ℕ) → A → A → Outcome A
+outcome ps a z = passing ps (accepted a) (λ n. refused n z)
 
 -- ---- what the code's answers mean
 

@@ -7,7 +7,7 @@ use Prim.Native.Nat.{ℕ}
 use native.Mathlib.Omega.{arith}
 use borrow.Author.Tests.{not-false}
 use Rattle.model.specs.Models.{good, zeroModel, badPlace}
-use Rattle.model.specs.Outcomes.{Outcome, accepted, refused, number, values, outcome}
+use Rattle.model.specs.Outcomes.{Outcome, accepted, refused, number, values, outcome, passing}
 use Rattle.model.specs.Operations.{sumModel, differenceModel, productModel, addition, subtraction, multiplication}
 use Rattle.model.specs.declared.types.Model.{Model}
 
@@ -17,22 +17,49 @@ Passed [] = Unit {0}
 Passed (p ∷ ps) = (p .0 ≡ false) × Passed ps
 
 module _ {A : Type 0} where
+  -- places that are passed do not count
+  pub passing-behind : (ps qs : List (Bool × ℕ)) (a : A) (r : ℕ → A) → Passed ps → passing (ps ++ qs) a r ≡ passing qs a r
+  unfolding passing
+  passing-behind [] qs a r h = refl
+  passing-behind (p ∷ ps) qs a r h = rw (h .0) (passing-behind ps qs a r (h .1))
+
+  pub passing-passed : (ps : List (Bool × ℕ)) (a : A) (r : ℕ → A) → Passed ps → passing ps a r ≡ a
+  unfolding passing
+  passing-passed [] a r h = refl
+  passing-passed (p ∷ ps) a r h = rw (h .0) (passing-passed ps a r (h .1))
+
+  -- what no refusal gives tells that all were passed
+  pub passing-unrefused : (ps : List (Bool × ℕ)) (a b : A) (r : ℕ → A) → ((n : ℕ) → ¬ (r n ≡ b)) → passing ps a r ≡ b → Passed ps × (b ≡ a)
+  unfolding passing
+  passing-unrefused [] a b r never e = (tt, sym e)
+  passing-unrefused (p ∷ ps) a b r never e = pick (p .0) (passing-unrefused ps a b r never) e
+    where
+      pick : (t : Bool) → (passing ps a r ≡ b → Passed ps × (b ≡ a))
+          → cond t (r (p .1)) (passing ps a r) ≡ b → ((t ≡ false) × Passed ps) × (b ≡ a)
+      pick true rest e = absurd (never (p .1) e)
+      pick false rest e = let q = rest e in ((refl, q .0), q .1)
+
+-- ---- the same of outcomes
+
+module _ {A : Type 0} where
   pub refused-not-accepted : {n : ℕ} {a b : A} → refused n a ≡ accepted b → ⊥
   refused-not-accepted e = let z : _≡_ {A = ℕ} 0 1 = cc e in absurd (omega arith)
 
-  pub accepted-same : {a b : A} → accepted a ≡ accepted b → a ≡ b
-  accepted-same e = ap values e
-
-  -- places that are passed do not count
   pub outcome-behind : (ps qs : List (Bool × ℕ)) (a z : A) → Passed ps → outcome (ps ++ qs) a z ≡ outcome qs a z
-  unfolding outcome
-  outcome-behind [] qs a z h = refl
-  outcome-behind (p ∷ ps) qs a z h = rw (h .0) (outcome-behind ps qs a z (h .1))
+  outcome-behind ps qs a z h = passing-behind ps qs (accepted a) (λ n. refused n z) h
+
+  pub outcome-passed : (ps : List (Bool × ℕ)) (a z : A) → Passed ps → outcome ps a z ≡ accepted a
+  outcome-passed ps a z h = passing-passed ps (accepted a) (λ n. refused n z) h
+
+  pub outcome-accepted : (ps : List (Bool × ℕ)) (a z : A) {b : A} → outcome ps a z ≡ accepted b → Passed ps × (b ≡ a)
+  outcome-accepted ps a z {b} e =
+      let (passed, same) = passing-unrefused ps (accepted a) (accepted b) (λ n. refused n z) (λ n h. refused-not-accepted h) e in
+      (passed, ap values same)
 
   -- a refusal stays the first, whatever is behind and whatever the values are
   pub outcome-refused : {B : Type 0} (ps qs : List (Bool × ℕ)) (a z : A) (b y : B) {k : ℕ} {c : A}
       → outcome ps a z ≡ refused k c → outcome (ps ++ qs) b y ≡ refused k y
-  unfolding outcome
+  unfolding passing
   outcome-refused [] qs a z b y e = absurd (refused-not-accepted (sym e))
   outcome-refused (p ∷ ps) qs a z b y {k} {c} e = pick (p .0) (outcome-refused ps qs a z b y) e
     where
@@ -40,21 +67,6 @@ module _ {A : Type 0} where
           → cond t (refused (p .1) z) (outcome ps a z) ≡ refused k c → cond t (refused (p .1) y) (outcome (ps ++ qs) b y) ≡ refused k y
       pick true rest e = ap (λ (n : ℕ). refused n y) (ap number e)
       pick false rest e = rest e
-
-  pub outcome-passed : (ps : List (Bool × ℕ)) (a z : A) → Passed ps → outcome ps a z ≡ accepted a
-  unfolding outcome
-  outcome-passed [] a z h = refl
-  outcome-passed (p ∷ ps) a z h = rw (h .0) (outcome-passed ps a z (h .1))
-
-  pub outcome-accepted : (ps : List (Bool × ℕ)) (a z : A) {b : A} → outcome ps a z ≡ accepted b → Passed ps × (b ≡ a)
-  unfolding outcome
-  outcome-accepted [] a z e = (tt, ap values (sym e))
-  outcome-accepted (p ∷ ps) a z {b} e = pick (p .0) (outcome-accepted ps a z) e
-    where
-      pick : (t : Bool) → (outcome ps a z ≡ accepted b → Passed ps × (b ≡ a))
-          → cond t (refused (p .1) z) (outcome ps a z) ≡ accepted b → ((t ≡ false) × Passed ps) × (b ≡ a)
-      pick true rest e = absurd (refused-not-accepted e)
-      pick false rest e = let r = rest e in ((refl, r .0), r .1)
 
 -- ---- places of two parts
 
@@ -78,7 +90,7 @@ Without n (p ∷ ps) = (p .1 ≢ n) × Without n ps
 -- a last place whose condition fails wherever those before it do never refuses
 pub last-unused : {A : Type 0} (ps : List (Bool × ℕ)) (c : Bool) (n : ℕ) (a z : A) → Without n ps → 0 ≢ n → (Passed ps → c ≡ false)
     → number (outcome (ps ++ ((c, n) ∷ [])) a z) ≢ n
-unfolding outcome
+unfolding passing
 last-unused [] c n a z others k unused = rw (unused tt) k
 last-unused (p ∷ ps) c n a z others k unused =
     pick (p .0) refl (λ e. last-unused ps c n a z (others .1) k (λ q. unused (e, q)))

@@ -8,7 +8,7 @@ use borrow.Author.Tests.{ltb-false}
 use lib.Dec.{ltb}
 use Rattle.chebyshev.specs.Coefficients.{weight}
 use Rattle.model.specs.Models.{maxDegree, maxWeight, maxRadius, tooLarge, zeroModel}
-use Rattle.model.specs.Outcomes.{refused, values, outcome}
+use Rattle.model.specs.Outcomes.{refused, values, outcome, passing}
 use Rattle.model.specs.Areas.{Storable}
 use Rattle.model.specs.Operations.{addition, subtraction, multiplication}
 use Rattle.model.specs.Integral.{integration}
@@ -32,7 +32,7 @@ zero-storable = omega arith
 
 -- what holds of the zero values, and of the operation's own if its places are passed, holds of the values that are answered
 pub outcome-values : {A : Type 0} (P : A → Type 0) (ps : List (Bool × ℕ)) (a z : A) → (Passed ps → P a) → P z → P (values (outcome ps a z))
-unfolding outcome
+unfolding passing
 outcome-values P [] a z own zero = own tt
 outcome-values P (p ∷ ps) a z own zero = pick (p .0) own (λ h. outcome-values P ps a z h zero)
   where

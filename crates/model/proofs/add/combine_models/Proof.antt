@@ -10,7 +10,7 @@ use mir.Facts.{toZ-ofZ}
 use Rattle.chebyshev.specs.Coefficients.{weight}
 use Rattle.model.specs.InnerContracts.{combination, combinedModel, formedOutcome}
 use Rattle.model.specs.Models.{good}
-use Rattle.model.specs.Outcomes.{outcome}
+use Rattle.model.specs.Outcomes.{passing}
 use Rattle.model.specs.ModelLaws.{good-is}
 use Rattle.model.specs.FormedLaws.{formed-is}
 use Rattle.model.specs.CombinationLaws.{combination-of-good}
@@ -19,7 +19,7 @@ use Rattle.model.proofs.add.combine_models.Statement.{statement}
 use Rattle.model.proofs.add.combine_models.Tie as tie
 
 returns : tie.Need-returns
-unfolding combination outcome
+unfolding combination passing
 returns c =
     let g = c .before .before .is-good in
     rw (c .refused .ensures, ← (g .ensures), not-true (g .result) (c .before .if1 .taken))
@@ -38,7 +38,7 @@ module _ (c : tie.Else1) where
   good-a = sym (c .before .is-good .ensures) ∙ not-false (c .before .is-good .result) (c .if1 .left)
 
 returns-2 : tie.Need-returns-2
-unfolding combination outcome
+unfolding combination passing
 returns-2 c =
     let g = c .before .before .is-good2 in
     rw (c .refused2 .ensures, good-a (c .before .before .before), ← (g .ensures), not-true (g .result) (c .before .if2 .taken))

@@ -13,7 +13,7 @@ use mir.Facts.{toZ-ofZ}
 use Rattle.integer.specs.Machine.{abs-fits, fits-widens, signed-needs}
 use Rattle.integer.specs.Rounding.{floor, up}
 use Rattle.model.specs.Models.{scale, good}
-use Rattle.model.specs.Outcomes.{accepted, outcome}
+use Rattle.model.specs.Outcomes.{accepted, passing}
 use Rattle.model.specs.ModelLaws.{Good, good-is}
 use Rattle.model.specs.Evaluation.{evaluation}
 use Rattle.model.specs.EvaluationLaws.{evaluation-accepted}
@@ -118,11 +118,11 @@ returns u =
     (λ i. accepted (record { low = low-is i; high = high-is i }))
 
 returns-2 : tie.Need-returns-2
-unfolding evaluation outcome
+unfolding evaluation passing
 returns-2 c = rw (passed (c .before .before), lt-ltb scale (natAbs (p (c .before .before))) (omega (arith, point-is (c .before))))
 
 returns-3 : tie.Need-returns-3
-unfolding evaluation outcome
+unfolding evaluation passing
 returns-3 c = rw (sym (c .before .is-good .ensures) ∙ c .if1 .left)
 
 pub evaluate-spec : {M : Type 1} → statement M

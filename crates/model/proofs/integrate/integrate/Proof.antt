@@ -13,7 +13,7 @@ use Rattle.integer.specs.Machine.{abs-fits}
 use Rattle.chebyshev.specs.Coefficients.{weight}
 use Rattle.chebyshev.specs.Weight.{weight-at}
 use Rattle.model.specs.Models.{good}
-use Rattle.model.specs.Outcomes.{outcome}
+use Rattle.model.specs.Outcomes.{passing}
 use Rattle.model.specs.ModelLaws.{Good, good-is}
 use Rattle.model.specs.Integral.{integralModel, integration}
 use Rattle.model.specs.IntegralLaws.{integral-doubled, weight-doubled, integration-formed, integration-degree}
@@ -76,7 +76,7 @@ returns-2 : tie.Need-returns-2
 returns-2 c = c .refused .ensures ∙ integration-degree (a (c .before .before .before)) (passed (c .before .before .before)) (omega arith)
 
 returns-3 : tie.Need-returns-3
-unfolding integration outcome
+unfolding integration passing
 returns-3 c = c .refused2 .ensures ∙ rw (sym (c .before .before .is-good .ensures) ∙ c .before .if1 .left)
 
 pub integrate-spec : {M : Type 1} → statement M

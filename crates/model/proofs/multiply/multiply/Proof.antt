@@ -8,7 +8,7 @@ use Prim.Native.Nat.{ℕ, _≤_}
 use native.Mathlib.Omega.{arith}
 use Rattle.model.specs.InnerContracts.{unlessLarge}
 use Rattle.model.specs.Models.{maxDegree, good}
-use Rattle.model.specs.Outcomes.{outcome}
+use Rattle.model.specs.Outcomes.{passing}
 use Rattle.model.specs.Operations.{keptDegree, productModel, multiplication}
 use Rattle.model.specs.MultiplicationLaws.{multiplication-of-good}
 use Rattle.model.specs.declared.types.Model.{Model}
@@ -16,7 +16,7 @@ use Rattle.model.proofs.multiply.multiply.Statement.{statement}
 use Rattle.model.proofs.multiply.multiply.Tie as tie
 
 returns : tie.Need-returns
-unfolding multiplication outcome
+unfolding multiplication passing
 returns c =
     let m = c .before .before .before .measure in
     rw (c .refused .ensures, ← (m .ensures .0), not-true (m .result .good) (c .before .if1 .taken))
@@ -35,7 +35,7 @@ module _ (c : tie.Else1) where
   good-a = let m = c .before .before .measure in sym (m .ensures .0) ∙ not-false (m .result .good) (c .if1 .left)
 
 returns-2 : tie.Need-returns-2
-unfolding multiplication outcome
+unfolding multiplication passing
 returns-2 c =
     let m = c .before .before .before .measure2 in
     rw (c .refused2 .ensures, good-a (c .before .before .before .before), ← (m .ensures .0), not-true (m .result .good) (c .before .if2 .taken))
@@ -54,7 +54,7 @@ degree-is j =
     ⊎-elim (λ w. rw (eq-eqb d 255 (w .0 .taken)) (w .1)) (λ w. rw (ne-eqb d 255 (w .0 .left)) (w .1)) (j .if3 .came)
 
 returns-3 : tie.Need-returns-3
-unfolding multiplication outcome
+unfolding multiplication passing
 returns-3 c =
     let j = c .before .before in
     let d = keptDegree (s (e (j .before)) .args .kept) in

@@ -4,19 +4,19 @@ use borrow.Author.Tests.{lt-ltb, le-ltb}
 use mathlib.Core.Path.{_∙_}
 use native.Mathlib.Omega.{arith}
 use Rattle.model.specs.Models.{maxRadius, candidateModel}
-use Rattle.model.specs.Outcomes.{outcome}
+use Rattle.model.specs.Outcomes.{passing}
 use Rattle.certificate.specs.Stages.{large-radius}
 use Rattle.certificate.proofs.types.TestOutcome.formed.Statement.{statement}
 use Rattle.certificate.proofs.types.TestOutcome.formed.Tie as tie
 
 returns : tie.Need-returns
-unfolding outcome
+unfolding passing
 returns c =
     let a = c .before .before .args in
     rw (large-radius (candidateModel (a .h)) (a .radius) (c .before .before .pre), le-ltb maxRadius (a .radius) (omega arith)) (c .accepted .ensures)
 
 returns-2 : tie.Need-returns-2
-unfolding outcome
+unfolding passing
 returns-2 c =
     let a = c .before .before .args in
     rw (large-radius (candidateModel (a .h)) (a .radius) (c .before .before .pre), lt-ltb maxRadius (a .radius) (omega arith)) (c .refused .ensures)

@@ -8,12 +8,12 @@ use native.Mathlib.Omega.{arith}
 use lib.Dec.{ltb}
 use Rattle.model.specs.InnerContracts.{formedOutcome}
 use Rattle.model.specs.Models.{maxDegree, maxWeight, maxRadius}
-use Rattle.model.specs.Outcomes.{accepted, outcome}
+use Rattle.model.specs.Outcomes.{accepted, passing}
 use Rattle.model.proofs.types.ModelOutcome.formed.Statement.{statement}
 use Rattle.model.proofs.types.ModelOutcome.formed.Tie as tie
 
 returns : tie.Need-returns
-unfolding formedOutcome outcome
+unfolding formedOutcome passing
 returns c =
     let a = c .before .before .before .before .args in
     rw (le-ltb maxWeight (a .weight) (omega arith), le-ltb maxRadius (a .radius) (omega arith), le-ltb maxDegree (a .degree) (omega arith))
@@ -29,7 +29,7 @@ large c =
     (c .if1 .came)
 
 returns-2 : tie.Need-returns-2
-unfolding formedOutcome outcome
+unfolding formedOutcome passing
 returns-2 c = rw (c .refused .ensures, large (c .before))
 
 pub formed-spec : {M : Type 1} → statement M
