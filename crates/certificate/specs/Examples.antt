@@ -21,12 +21,15 @@ abbrev w : Model
 w = constantModel (pos 262144)
 
 -- a quotient; a root whose discriminant is 0; one less under the root; S under the root
-pub benchmarks :
+abbrev pub Benchmarks : Type 0
+Benchmarks =
     (quotientOf 65 (constantModel (pos 1048576)) (constantModel (pos 3145728)) (constantModel (pos 349525)) (constantModel (pos 349525))
     ≡ accepted (makeCertificate (makeModel 0 (pos 349525 ∷ replicate 32 (pos 0)) 2) 1 1 1))
     × (rootOf byDiscriminant 65 (constantModel (pos 2097152)) h w
     ≡ accepted (makeCertificate (makeModel 0 (pos 2097152 ∷ replicate 32 (pos 0)) 1048576) 0 2097152 524288))
     × (rootOf byDiscriminant 65 (constantModel (pos 2097151)) h w ≡ refused 8 zeroCertificate)
     × (rootOf byDiscriminant 65 (constantModel (pos 1048576)) h w ≡ refused 8 zeroCertificate)
+
+pub benchmarks : Benchmarks
 unfolding quotientOf rootOf rootPlaces quotientContraction quotientResidual quotientModel rootContraction rootResidual rootModel displacement coefficientSum productList passing good tooLarge constantModel zeroModel weight addLists subtractLists scaleList addAt addPair addRow addRows product upℕ
 benchmarks = (refl, refl, refl, refl)

@@ -5,11 +5,11 @@ use mathlib.Core.Bool.{true, false}
 use Prim.Native.Nat.{ℕ, _≤_, _<_}
 use borrow.Author.Tests.{ltb-false, leb-false, not-false, le-ltb, lt-leb}
 use Rattle.model.specs.Models.{scale, maxRadius, good, tooLarge}
-use Rattle.model.specs.Outcomes.{accepted}
-use Rattle.model.specs.PlaceLaws.{Passed, outcome-passed, outcome-accepted, not-of-true}
+use Rattle.model.specs.Outcomes.{accepted, Passed}
+use Rattle.model.specs.PlaceLaws.{outcome-passed, outcome-accepted, not-of-true}
 use Rattle.model.specs.declared.types.Model.{Model}
 use Rattle.certificate.specs.Tests.{scratchSize, quotientPlaces, quotientOf, quotientModel, quotientContraction, quotientResidual, displacement}
-use Rattle.certificate.specs.Tests.{Certificate, makeCertificate, zeroCertificate}
+use Rattle.certificate.specs.Tests.{Certificate, zeroCertificate, quotientCertificate}
 
 -- b and the result of the test
 abbrev pub quotientDisplacement : Model → Model → Model → Model → ℕ
@@ -17,10 +17,6 @@ quotientDisplacement f g h w = displacement w (quotientResidual f g h)
 
 abbrev pub quotientResult : Model → Model → Model → Model → Model
 quotientResult f g h w = quotientModel h (quotientContraction g w) (quotientDisplacement f g h w)
-
-abbrev pub quotientCertificate : Model → Model → Model → Model → Certificate
-quotientCertificate f g h w =
-    makeCertificate (quotientResult f g h w) (quotientContraction g w) (quotientResidual f g h) (quotientDisplacement f g h w)
 
 pub record QuotientConditions (len : ℕ) (f g h w : Model) : Type 0 where
   pub scratch : scratchSize ≤ len

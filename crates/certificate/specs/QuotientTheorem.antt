@@ -9,11 +9,11 @@ use Rattle.model.specs.Models.{scale, maxRadius, good, makeModel}
 use Rattle.model.specs.Outcomes.{accepted}
 use Rattle.model.specs.declared.types.Model.{Model}
 use Rattle.certificate.specs.Tests.{scratchSize, quotientOf, quotientContraction, quotientResidual, quotientModel, displacement}
-use Rattle.certificate.specs.Tests.{Certificate, makeCertificate}
+use Rattle.certificate.specs.Tests.{Certificate, makeCertificate, quotientCertificate}
 use Rattle.certificate.specs.TwoSums.{quotientM, quotientN, quotientB, quotientRadius}
 use Rattle.certificate.specs.TwoSumsLaws.{productList-good}
 use Rattle.certificate.specs.Stages.{large-radius}
-use Rattle.certificate.specs.QuotientConditions.{QuotientConditions, quotientResult, quotientCertificate, quotient-passes, quotient-result}
+use Rattle.certificate.specs.QuotientConditions.{QuotientConditions, quotientResult, quotient-passes, quotient-result}
 
 contraction-is : (g w : Model) → good g ≡ true → good w ≡ true → quotientContraction g w ≡ quotientM g w
 unfolding quotientM quotientContraction

@@ -13,8 +13,8 @@ use Rattle.integer.specs.Machine.{le-false}
 use Rattle.chebyshev.specs.Coefficients.{weight}
 use Rattle.chebyshev.specs.Sign.{coefficientSum}
 use Rattle.model.specs.Models.{scale, maxRadius, good, tooLarge}
-use Rattle.model.specs.Outcomes.{accepted}
-use Rattle.model.specs.PlaceLaws.{Passed, outcome-passed, outcome-accepted, not-of-true, passed-append}
+use Rattle.model.specs.Outcomes.{accepted, Passed}
+use Rattle.model.specs.PlaceLaws.{outcome-passed, outcome-accepted, not-of-true, passed-append}
 use Rattle.model.specs.declared.types.Model.{Model}
 use Rattle.certificate.specs.Tests.{scratchSize, rootPlaces, rootLastPlaces, rootModel, rootContraction, rootResidual, displacement}
 use Rattle.certificate.specs.Tests.{Certificate, zeroCertificate, byDiscriminant, rootTestPlaces, rootCertificate, rootOf}

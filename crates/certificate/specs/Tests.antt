@@ -106,12 +106,15 @@ quotientPlaces len f g h w =
     (ltb len scratchSize, 1) ∷ badPlace f ∷ badPlace g ∷ badPlace h ∷ badPlace w
     ∷ (testPlaces m n ++ (largePlace (quotientModel h m (displacement w n)) ∷ []))
 
-unfoldable pub quotientOf : ℕ → Model → Model → Model → Model → Outcome Certificate
-quotientOf len f g h w =
+abbrev pub quotientCertificate : Model → Model → Model → Model → Certificate
+quotientCertificate f g h w =
     let m = quotientContraction g w in
     let n = quotientResidual f g h in
     let b = displacement w n in
-    outcome (quotientPlaces len f g h w) (makeCertificate (quotientModel h m b) m n b) zeroCertificate
+    makeCertificate (quotientModel h m b) m n b
+
+unfoldable pub quotientOf : ℕ → Model → Model → Model → Model → Outcome Certificate
+quotientOf len f g h w = outcome (quotientPlaces len f g h w) (quotientCertificate f g h w) zeroCertificate
 
 -- Root of f, through N: the places that every root command shares; "root: helper", 7, "Σ w_k ≤ 0"
 unfoldable pub rootPlaces : ℕ → Model → Model → Model → List (Bool × ℕ)

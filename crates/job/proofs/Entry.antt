@@ -8,7 +8,7 @@ use borrow.Author.Tests.{le-leb, lt-leb}
 use lib.IntN.{ℤ}
 use lib.ListN.{length, drop}
 use lib.Seq.{drop-at}
-use Rattle.model.specs.declared.types.Verdict.the-variants.{ShortArea}
+use Rattle.model.specs.declared.types.Refusal.the-variants.{ShortArea}
 use Rattle.certificate.specs.Tests.{scratchSize}
 use Rattle.certificate.specs.Stages.{scratch-cleared}
 use Rattle.integer.specs.Clearing.{zeros, length-zeros}

@@ -6,10 +6,10 @@ use Prim.Native.Nat.{ℕ, _+_, _≤_, _<_}
 use native.Mathlib.Omega.{arith}
 use lib.IntN.{ℤ}
 use lib.ListN.{length, drop}
-use Rattle.model.specs.Models.{numberOf}
+use Rattle.model.specs.Outcomes.{numberOf}
 use Rattle.integer.specs.Clearing.{zeros}
 use Rattle.model.specs.declared.types.Model.{Model}
-use Rattle.model.specs.declared.types.Verdict.{Verdict}
+use Rattle.model.specs.declared.types.Refusal.{Refusal}
 use Rattle.job.specs.Commands.{maxResults}
 use Rattle.job.specs.Outcomes.{accepted, refused, jobOutcomeOf, counted}
 use Rattle.job.specs.Jobs.{Step, more, over, command, jobOf}
@@ -96,7 +96,7 @@ module _ {job : List ℕ} {begun work : List ℤ} {at k count : ℕ} (g : Going 
   going-ends (Step.refused n) e d = let z : _≡_ {A = ℕ} 0 1 = cc (d .answer) in absurd (omega arith)
 
   -- after a refusal the area is cleared
-  pub going-stops : (s : Step (List Model)) (v : Verdict) (work″ : List ℤ) → command job k (g .rs) at ≡ s
+  pub going-stops : (s : Step (List Model)) (v : Refusal) (work″ : List ℤ) → command job k (g .rs) at ≡ s
       → Stepped (Stopped v) work′ (g .rs) t s → work″ ≡ zeros workSize ++ drop workSize work′ → Ran job begun (Refused v k) work″
   unfolding workOf stretches
   going-stops (Step.refused n) v work″ e d c =

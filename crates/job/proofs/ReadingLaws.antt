@@ -1,12 +1,12 @@
 -- Reading a command, with its shape at hand.
 use mathlib.Core.Path.{_≡_}
-use mathlib.Core.Bool.{Bool, cond, _&&_}
+use mathlib.Core.Bool.{Bool, _&&_}
 use mathlib.Core.List.{List, [], _∷_}
 use Prim.Native.Nat.{ℕ, _+_}
-use lib.Dec.{eqb, leb, ltb}
+use lib.Dec.{leb, ltb}
 use lib.ListN.{length}
-use Rattle.model.specs.Models.{firstRefusal}
-use Rattle.job.specs.Commands.{shapeAt, maxResults, badKind, badValues, badBytes, makesResult, isEnd, readingPlaces, readingNumber, CommandReading, found, commandReading}
+use Rattle.model.specs.Outcomes.{passing}
+use Rattle.job.specs.Commands.{shapeAt, maxResults, badKind, badValues, badBytes, makesResult, isEnd, readingPlaces, CommandReading, found, commandReading}
 use Rattle.job.specs.declared.types.Shape.{Shape}
 use Rattle.job.proofs.KindLaws.{agrees}
 
@@ -25,9 +25,10 @@ module _ (job : List ℕ) (k count at : ℕ) (s : Shape) where
       ∷ (isEnd (s .kind) && ltb next (length job), 11)
       ∷ []
 
-  abbrev pub outcomeWith : ℕ → CommandReading
-  outcomeWith n = cond (eqb n 0) (found (s .kind) next) (CommandReading.refused n)
+  -- what comes of the places from one of them on
+  abbrev pub readingWith : List (Bool × ℕ) → CommandReading
+  readingWith ps = passing ps (found (s .kind) next) CommandReading.refused
 
-  pub read-with : s ≡ shapeAt job k count at → commandReading job k count at ≡ outcomeWith (firstRefusal placesWith)
-  unfolding commandReading readingNumber readingPlaces
+  pub read-with : s ≡ shapeAt job k count at → commandReading job k count at ≡ readingWith placesWith
+  unfolding commandReading readingPlaces
   read-with e = rw (e, agrees (shapeAt job k count at .kind) .named job at count)

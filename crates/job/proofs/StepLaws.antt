@@ -1,25 +1,22 @@
 -- From the reading of a command to its performance.
 use mathlib.Core.Path.{_≡_, refl, ap, sym, subst, _∙_}
-use mathlib.Core.Bool.{Bool, true, false}
-use mathlib.Core.List.{List, [], _∷_}
-use Prim.Native.Nat.{ℕ, _≤_, _<_}
+use mathlib.Core.Bool.{Bool, false}
+use mathlib.Core.List.{List}
+use mathlib.Core.Logic.{_⊎_, inl, inr}
+use Prim.Native.Nat.{ℕ, _≤_}
 use native.Mathlib.Omega.{arith}
-use borrow.Author.Tests.{leb-false, lt-leb, eqb-true}
-use lib.Dec.{eqb}
+use borrow.Author.Tests.{leb-false, lt-leb}
 use lib.IntN.{ℤ}
 use lib.ListN.{length}
-use denote.Enum.Declared.{tagOf}
-use types.Run.{OneOf, miss}
-use Rattle.model.specs.Models.{numberOf}
-use Rattle.model.specs.RefusalLaws.{first-refusal-zero}
+use Rattle.model.specs.Outcomes.{passing, Passed}
+use Rattle.model.specs.PlaceLaws.{passing-passed, passing-unrefused}
 use Rattle.model.specs.declared.types.Model.{Model}
-use Rattle.model.specs.declared.types.Verdict.{Verdict}
-use Rattle.model.specs.declared.types.Verdict.the-variants.{Accepted, ShortArea, BadModel, LargeResult, PointOutside, NotContracting, LargeResidual, HelperNotPositive, NegativeDiscriminant, BadValue, JobEnds, BytesAfterEnd, NotAResult, TooManyResults}
-use Rattle.model.proofs.types.Verdict.{the-type}
 use Rattle.job.specs.Makers.{Maker, Row, of-none, of-one, of-two, rowOf, badIn, namesBad}
-use Rattle.job.specs.Commands.{maxResults, shapeAt, nextAt, commandAt, readingPlaces, readingNumber, CommandReading, found, commandReading}
+use Rattle.job.specs.Commands.{maxResults, shapeAt, nextAt, commandAt, readingPlaces, CommandReading, found, commandReading}
 use Rattle.job.specs.Jobs.{refused, performed, command}
-use Rattle.job.specs.CommandLaws.{both-below, Readable, readable, reading-numbered}
+use Rattle.job.specs.Order.{First}
+use Rattle.job.specs.PlaceLaws.{passing-first, first-or-passed}
+use Rattle.job.specs.CommandLaws.{both-below, Readable, readable}
 use Rattle.job.specs.Work.{workSize}
 use Rattle.job.specs.Steps.{Performable}
 use Rattle.job.specs.declared.types.Kind.{Kind}
@@ -33,11 +30,14 @@ ByReading job k rs at (CommandReading.refused n) = command job k rs at ≡ refus
 
 by-reading : (job : List ℕ) (k : ℕ) (rs : List Model) (at : ℕ) → ByReading job k rs at (commandReading job k (length rs) at)
 unfolding command commandReading
-by-reading job k rs at = by (eqb (readingNumber job k (length rs) at) 0) refl
+by-reading job k rs at = by (first-or-passed places)
   where
-    by : (t : Bool) → eqb (readingNumber job k (length rs) at) 0 ≡ t → ByReading job k rs at (commandReading job k (length rs) at)
-    by true e = simp e refl
-    by false e = simp e refl
+    places : List (Bool × ℕ)
+    places = readingPlaces job k (length rs) at
+
+    by : ((n : ℕ) × First places n) ⊎ Passed places → ByReading job k rs at (commandReading job k (length rs) at)
+    by (inl f) = rw (passing-first (found _ _) CommandReading.refused (f .1)) (passing-first _ refused (f .1))
+    by (inr f) = rw (passing-passed places (found _ _) CommandReading.refused f) (passing-passed places _ refused f)
 
 module _ (job : List ℕ) (k count : ℕ) (rs : List Model) (at : ℕ) (e : count ≡ length rs) (o : CommandReading)
     (h : commandReading job k count at ≡ o) where
@@ -54,30 +54,21 @@ read-performs job k count rs at kind next e h = read-is job k count rs at e (fou
 
 module _ (job : List ℕ) (k count at : ℕ) (kind : Kind) (next : ℕ) (work : List ℤ)
     (h : commandReading job k count at ≡ found kind next) where
-  abbrev reading : ℕ
-  reading = readingNumber job k count at
+  abbrev places : List (Bool × ℕ)
+  places = readingPlaces job k count at
 
-  found-none : reading ≡ 0
+  refused-not-found : (n : ℕ) → ¬ (CommandReading.refused n ≡ found kind next)
+  refused-not-found n e = let z : _≡_ {A = ℕ} 0 1 = cc e in absurd (omega arith)
+
+  found-passed : Passed places × (found kind next ≡ found (shapeAt job k count at .kind) (nextAt job k count at))
   unfolding commandReading
-  found-none = by (eqb reading 0) refl
-    where
-      by : (t : Bool) → eqb reading 0 ≡ t → reading ≡ 0
-      by true e = eqb-true reading 0 e
-      by false e =
-          let z : _≡_ {A = CommandReading} (CommandReading.refused reading) (found kind next) = simp e at h in
-          let y : _≡_ {A = ℕ} 0 1 = cc z in
-          absurd (omega arith)
+  found-passed = passing-unrefused places _ (found kind next) CommandReading.refused refused-not-found h
 
   kind-is : shapeAt job k count at .kind ≡ kind
-  unfolding commandReading
-  kind-is =
-      let z : found (shapeAt job k count at .kind) (nextAt job k count at) ≡ found kind next = simp found-none at h in
-      cc z
+  kind-is = cc (found-passed .1)
 
   found-readable : Readable job k count at
-  unfolding readingNumber
-  found-readable =
-      readable job k count at (first-refusal-zero (readingPlaces job k count at) (reading-numbered job k count at) .0 found-none)
+  found-readable = readable job k count at (found-passed .0)
 
   pub found-performable : count ≤ maxResults → workSize ≤ length work → Performable kind job count at work
   found-performable few long =
@@ -101,23 +92,3 @@ module _ (count : ℕ) (few : count ≤ maxResults) where
 
   pub names-below : (m : Maker) → namesBad m count ≡ false → namesBad m maxResults ≡ false
   names-below m h = row-below (rowOf m) h
-
--- a verdict that refuses has a number
-abbrev refusals : List ℕ
-refusals = 1 ∷ 2 ∷ 3 ∷ 4 ∷ 5 ∷ 6 ∷ 7 ∷ 8 ∷ 9 ∷ 10 ∷ 11 ∷ 12 ∷ 13 ∷ []
-
-pub refusal-positive : (v : Verdict) → OneOf refusals (tagOf the-type v) → 0 < numberOf v
-refusal-positive Accepted h = absurd (miss refusals 0 tt h)
-refusal-positive ShortArea h = omega arith
-refusal-positive BadModel h = omega arith
-refusal-positive LargeResult h = omega arith
-refusal-positive PointOutside h = omega arith
-refusal-positive NotContracting h = omega arith
-refusal-positive LargeResidual h = omega arith
-refusal-positive HelperNotPositive h = omega arith
-refusal-positive NegativeDiscriminant h = omega arith
-refusal-positive BadValue h = omega arith
-refusal-positive JobEnds h = omega arith
-refusal-positive BytesAfterEnd h = omega arith
-refusal-positive NotAResult h = omega arith
-refusal-positive TooManyResults h = omega arith

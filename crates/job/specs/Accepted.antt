@@ -5,15 +5,16 @@ use mathlib.Core.List.{List, [], _∷_, _++_}
 use Prim.Native.Nat.{ℕ, suc, _+_, _-_}
 use native.Mathlib.Omega.{arith}
 use lib.ListN.{length}
-use Rattle.model.specs.RefusalLaws.{Passed, first-refusal-zero}
+use Rattle.model.specs.Outcomes.{Passed}
+use Rattle.model.specs.PlaceLaws.{passing-passed}
 use Rattle.model.specs.declared.types.Model.{Model}
-use Rattle.job.specs.Commands.{Command, edition, result, finish, unknown, commandAt, shapeAt, commandRead, nextAt, badKind, badNames, isEnd, readingPlaces, readingNumber}
+use Rattle.job.specs.Commands.{Command, edition, result, finish, unknown, commandAt, shapeAt, commandRead, nextAt, badKind, badNames, isEnd, readingPlaces}
 use Rattle.job.specs.Outcomes.{accepted}
 use Rattle.job.specs.Jobs.{jobOf}
 use Rattle.job.specs.JobReading.{JobReading, well, readOn, readFrom, jobReading, ReadsWell}
 use Rattle.job.specs.PlaceLaws.{passed-front}
 use Rattle.job.specs.Order.{operationPlaces, resultsAfter, placesOf, isLast, Reaches, start, next}
-use Rattle.job.specs.CommandLaws.{isEnd-is, reading-numbered, operation-passed, command-readable, command-passed}
+use Rattle.job.specs.CommandLaws.{isEnd-is, operation-passed, command-readable, command-passed}
 use Rattle.job.specs.OrderLaws.{reaches-bounds, accepted-exactly}
 use Rattle.job.specs.Requirement.{Made, nothing, one-more}
 use Rattle.job.specs.MadeLaws.{made-length}
@@ -62,17 +63,16 @@ module _ {job : List ℕ} {k : ℕ} {rs : List Model} {at : ℕ} (r : Reaches jo
   abbrev reading : List (Bool × ℕ)
   reading = readingPlaces job k (length rs) at
 
-  no-refusal : readingNumber job k (length (h .cs)) at ≡ 0
-  unfolding placesOf readingNumber
-  no-refusal = rw (made-length (h .made))
-      (first-refusal-zero reading (reading-numbered job k (length rs) at) .1 (passed-front reading (operationPlaces c rs) f))
+  reading-passed : Passed (readingPlaces job k (length (h .cs)) at)
+  unfolding placesOf
+  reading-passed = rw (made-length (h .made)) (passed-front reading (operationPlaces c rs) f)
 
   by-reading : readOn k onward (h .cs) c ≡ jobReading job
   unfolding readFrom
   by-reading =
       let b = reaches-bounds r in
       let e : length job + 1 - k ≡ suc (length job + 1 - (k + 1)) = omega (arith, b) in
-      sym (ap (λ (f : ℕ). readFrom f job k (h .cs) at) e ∙ rw no-refusal) ∙ h .left
+      sym (ap (λ (f : ℕ). readFrom f job k (h .cs) at) e ∙ passing-passed (readingPlaces job k (length (h .cs)) at) _ _ reading-passed) ∙ h .left
 
   reached-next : isLast job k rs at ≡ false → Reached job (k + 1) (resultsAfter c rs) (nextAt job k (length rs) at)
   reached-next e = record {

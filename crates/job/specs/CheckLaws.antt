@@ -8,7 +8,7 @@ use native.Mathlib.Omega.{arith}
 use lib.Dec.{leb}
 use lib.IntN.{ℤ}
 use lib.ListN.{length}
-use Rattle.model.specs.RefusalLaws.{Passed}
+use Rattle.model.specs.Outcomes.{Passed}
 use Rattle.certificate.specs.Tests.{scratchSize}
 use Rattle.model.specs.declared.types.Model.{Model}
 use Rattle.job.specs.Outcomes.{JobOutcome, accepted, refused}

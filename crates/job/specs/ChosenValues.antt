@@ -23,7 +23,7 @@ value-named choice v w i (add j k) n s = let b = both-below i j k n in ap₂ _+�
 value-named choice v w i (subtract j k) n s = let b = both-below i j k n in ap₂ _-ℚ_ (s j (b .0)) (s k (b .1))
 value-named choice v w i (multiply j k d) n s = let b = both-below i j k n in ap₂ _*ℚ_ (s j (b .0)) (s k (b .1))
 value-named choice v w i (quotient j k h h′) n s = let b = both-below i j k n in ap₂ _/ℚ_ (s j (b .0)) (s k (b .1))
-value-named choice v w i (root j h h′) n s = refl
+value-named choice v w i (root rule j h h′) n s = refl
 
 -- the results that a command names stand before its own
 module _ (commands : List Command) (named : (i : ℕ) (m : Maker) → commandOf commands i ≡ result m → namesBad m i ≡ false) (choice : ℕ → ℚ) where

@@ -1,48 +1,33 @@
 -- One command: what its places say of what it does.
-use mathlib.Core.Path.{_≡_, refl, ap, _∙_}
+use mathlib.Core.Path.{_≡_, refl, sym, ap, _∙_}
 use mathlib.Core.Bool.{Bool, true, false, true≢false, false≢true, _&&_, _||_}
 use mathlib.Core.List.{List, [], _∷_, _++_}
 use mathlib.Core.Logic.{_⊎_, inl, inr}
 use Prim.Native.Nat.{ℕ, _≤_, _<_}
 use native.Mathlib.Omega.{arith}
-use borrow.Author.Tests.{leb-false, ltb-false, ne-eqb}
+use borrow.Author.Tests.{leb-false, ltb-false}
 use lib.Dec.{leb}
 use lib.ListN.{length}
-use Rattle.model.specs.Models.{firstRefusal, Outcome, outcome}
-use Rattle.model.specs.Operations.{addition, subtraction, multiplication}
-use Rattle.model.specs.RefusalLaws.{Passed, Numbered, first-refusal-zero}
-use Rattle.certificate.specs.Tests.{tested, quotientOf, rootPlaces, rootOf}
+use Rattle.model.specs.Outcomes.{Outcome, accepted, values, passing, Passed}
+use Rattle.model.specs.PlaceLaws.{passing-passed, outcome-passed}
+use Rattle.certificate.specs.Tests.{zeroCertificate}
 use Rattle.model.specs.declared.types.Model.{Model}
-use Rattle.job.specs.Makers.{Maker, load, add, subtract, multiply, quotient, root, operation, makerPlaces}
-use Rattle.job.specs.Commands.{Command, edition, result, finish, unknown, makerAt, commandAt, shapeAt, commandRead, nextAt, maxResults, badKind, badValues, badNames, makesResult, isEnd, readingPlaces, readingNumber}
+use Rattle.job.specs.Makers.{Maker, rowOf, givenIn, operation, makerPlaces}
+use Rattle.job.specs.Commands.{Command, edition, result, finish, unknown, makerAt, commandAt, shapeAt, commandRead, nextAt, maxResults, badKind, badValues, badNames, makesResult, isEnd, readingPlaces}
 use Rattle.job.specs.Jobs.{more, over, refused, resulting, performed, command}
-use Rattle.job.specs.PlaceLaws.{first-is, first-positive, passed-front, passed-back, first-parts}
+use Rattle.job.specs.PlaceLaws.{passing-first, passed-front, passed-back, first-parts}
 use Rattle.job.specs.Order.{First, operationPlaces, resultsAfter, placesOf, isLast}
 use Rattle.job.specs.declared.types.Kind.{Kind}
 use Rattle.job.specs.declared.types.Kind.the-variants.{End, Edition, Result, Unknown}
 
 -- ---- the places of the makers
 
--- a maker's number is that of the first of its places that holds, and no place has the number 0
-record Lawful (m : Maker) (rs : List Model) : Type 0 where
-  number-is : operation m rs .number ≡ firstRefusal (makerPlaces m rs)
-  numbered : Numbered (makerPlaces m rs)
-
-lawful : (m : Maker) (rs : List Model) → Lawful m rs
-unfolding operation makerPlaces outcome addition subtraction multiplication quotientOf rootOf tested rootPlaces
-lawful (load m) rs = record { number-is = refl; numbered = omega arith }
-lawful (add i j) rs = record { number-is = refl; numbered = omega arith }
-lawful (subtract i j) rs = record { number-is = refl; numbered = omega arith }
-lawful (multiply i j d) rs = record { number-is = refl; numbered = omega arith }
-lawful (quotient i j h w) rs = record { number-is = refl; numbered = omega arith }
-lawful (root i h w) rs = record { number-is = refl; numbered = omega arith }
-
-pub operation-passed : (m : Maker) (rs : List Model) → Passed (makerPlaces m rs) → operation m rs .number ≡ 0
-operation-passed m rs f = lawful m rs .number-is ∙ first-refusal-zero (makerPlaces m rs) (lawful m rs .numbered) .1 f
-
-pub reading-numbered : (job : List ℕ) (k count at : ℕ) → Numbered (readingPlaces job k count at)
-unfolding readingPlaces
-reading-numbered job k count at = omega arith
+-- a maker whose places are all passed gives its certificate
+pub operation-passed : (m : Maker) (rs : List Model) → Passed (makerPlaces m rs)
+    → operation m rs ≡ accepted (values (operation m rs))
+unfolding operation
+operation-passed m rs f =
+    let e = outcome-passed (makerPlaces m rs) (givenIn (rowOf m) rs .certificate) zeroCertificate f in e ∙ ap accepted (ap values (sym e))
 
 -- ---- reading without a refusal
 
@@ -81,23 +66,16 @@ isEnd-is Edition e = absurd (false≢true e)
 isEnd-is (Result o) e = absurd (false≢true e)
 isEnd-is Unknown e = absurd (false≢true e)
 
-pub resulting-refuses : (rs : List Model) (next n : ℕ) (o : Outcome) → o .number ≡ n → 0 < n → resulting rs next o ≡ refused n
-resulting-refuses rs next n o e h = rw e (simp (ne-eqb n 0 (omega arith)))
-
-pub resulting-takes : (rs : List Model) (next : ℕ) (o : Outcome) → o .number ≡ 0
-    → resulting rs next o ≡ more (rs ++ (o .model ∷ [])) next
-resulting-takes rs next o e = rw e
-
 -- a place of the operation that holds: a refusal
 module _ (rs : List Model) (next n : ℕ) where
   nowhere : First [] n → ⊥
-  unfolding firstRefusal
-  nowhere f = omega (arith, first-positive tt f, first-is f)
+  unfolding passing
+  nowhere f = let z : _≡_ {A = ℕ} 0 1 = passing-first 0 (λ m. 1) f in omega arith
 
   performed-refuses : (c : Command) → First (operationPlaces c rs) n → performed c rs next ≡ refused n
+  unfolding operation
   performed-refuses edition f = absurd (nowhere f)
-  performed-refuses (result m) f =
-      resulting-refuses rs next n (operation m rs) (lawful m rs .number-is ∙ first-is f) (first-positive (lawful m rs .numbered) f)
+  performed-refuses (result m) f = rw (passing-first (accepted (givenIn (rowOf m) rs .certificate)) (λ n. Outcome.refused n zeroCertificate) f)
   performed-refuses finish f = absurd (nowhere f)
   performed-refuses unknown f = absurd (nowhere f)
 
@@ -108,7 +86,7 @@ performed-takes : (job : List ℕ) (k at : ℕ) (rs : List Model) (next : ℕ) (
 performed-takes job k at rs next End e b f = absurd (true≢false e)
 performed-takes job k at rs next Edition e b f = refl
 performed-takes job k at rs next (Result o) e b f =
-    resulting-takes rs next (operation (makerAt o job at) rs) (operation-passed (makerAt o job at) rs f)
+    ap (resulting rs next) (operation-passed (makerAt o job at) rs f)
 performed-takes job k at rs next Unknown e b f = absurd (true≢false b)
 
 -- ---- command k at a position, after the results rs
@@ -124,21 +102,19 @@ module _ (job : List ℕ) (k : ℕ) (rs : List Model) (at : ℕ) where
   reading = readingPlaces job k (length rs) at
 
   reads : Passed reading → command job k rs at ≡ performed c rs (nextAt job k (length rs) at)
-  unfolding command readingNumber
-  reads f = rw (first-refusal-zero reading (reading-numbered job k (length rs) at) .1 f)
+  unfolding command
+  reads f = passing-passed reading _ _ f
 
   pub command-readable : Passed (placesOf job k rs at) → Readable job k (length rs) at
   unfolding placesOf
   command-readable f = readable job k (length rs) at (passed-front reading (operationPlaces c rs) f)
 
   pub command-refuses : {n : ℕ} → First (placesOf job k rs at) n → command job k rs at ≡ refused n
-  unfolding placesOf command readingNumber
+  unfolding placesOf command
   command-refuses {n} f = by (first-parts reading (operationPlaces c rs) f)
     where
       by : First reading n ⊎ (Passed reading × First (operationPlaces c rs) n) → command job k rs at ≡ refused n
-      by (inl g) =
-          let h : 0 < n = first-positive (reading-numbered job k (length rs) at) g in
-          rw (first-is g) (simp (ne-eqb n 0 (omega arith)))
+      by (inl g) = passing-first _ _ g
       by (inr g) = reads (g .0) ∙ performed-refuses rs (nextAt job k (length rs) at) n c (g .1)
 
   pub command-ends : Passed (placesOf job k rs at) → isLast job k rs at ≡ true → command job k rs at ≡ over

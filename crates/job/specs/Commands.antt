@@ -4,7 +4,9 @@ use mathlib.Core.List.{List, [], _∷_}
 use Prim.Native.Nat.{ℕ, _+_}
 use lib.Dec.{leb, ltb, eqb}
 use lib.ListN.{length}
-use Rattle.model.specs.Models.{maxDegree, numberOf, firstRefusal}
+use Rattle.model.specs.Models.{maxDegree}
+use Rattle.model.specs.Outcomes.{passing, numberOf}
+use Rattle.certificate.specs.Tests.{byDiscriminant}
 use Rattle.job.specs.Bytes.{byteAt, unsignedAt, blockAt}
 use Rattle.job.specs.Makers.{Maker, load, add, subtract, multiply, quotient, root, namesBad}
 use Rattle.job.specs.declared.types.Operation.{Operation}
@@ -86,7 +88,7 @@ makerAt Add job at = add (byteAt job (at + 1)) (byteAt job (at + 2))
 makerAt Subtract job at = subtract (byteAt job (at + 1)) (byteAt job (at + 2))
 makerAt Multiply job at = multiply (byteAt job (at + 1)) (byteAt job (at + 2)) (keptByte (byteAt job (at + 3)))
 makerAt Quotient job at = quotient (byteAt job (at + 1)) (byteAt job (at + 2)) (blockAt job (at + 3) 0) (blockAt job (at + 136) 0)
-makerAt Root job at = root (byteAt job (at + 1)) (blockAt job (at + 2) 0) (blockAt job (at + 135) 0)
+makerAt Root job at = root byDiscriminant (byteAt job (at + 1)) (blockAt job (at + 2) 0) (blockAt job (at + 135) 0)
 
 -- the command of a kind whose byte stands at a position
 abbrev pub commandAt : Kind → List ℕ → ℕ → Command
@@ -172,10 +174,6 @@ module _ (job : List ℕ) (k count at : ℕ) where
       ∷ (isEnd (shapeAt .kind) && ltb nextAt (length job), 11)
       ∷ []
 
-  -- the number of the refusal that reading meets, 0 for none
-  unfoldable pub readingNumber : ℕ
-  readingNumber = firstRefusal readingPlaces
-
 -- what reading answers: the kind of the command and the next position, or a refusal
 pub data CommandReading : Type 0 where
   found : Kind → ℕ → CommandReading
@@ -187,6 +185,4 @@ commandReadingOf (Refused v) = refused (numberOf v)
 
 unfoldable pub commandReading : List ℕ → ℕ → ℕ → ℕ → CommandReading
 commandReading job k count at =
-    cond (eqb (readingNumber job k count at) 0)
-    (found (shapeAt job k count at .kind) (nextAt job k count at))
-    (refused (readingNumber job k count at))
+    passing (readingPlaces job k count at) (found (shapeAt job k count at .kind) (nextAt job k count at)) refused

@@ -10,6 +10,7 @@ use Rattle.integer.specs.OrderedRing.{le-refl, le-of-eq}
 use Rattle.integer.specs.Fraction.{ℚ, whole, _*ℚ_}
 use Rattle.integer.specs.FractionOrder.{_≤ℚ_, _<ℚ_, ℚ-ordered, ≤ℚ-antisym, ≤ℚ-decide}
 use Rattle.model.specs.Values.{Allows, OnInterval}
+use Rattle.certificate.specs.Tests.{RootRule}
 use Rattle.model.specs.declared.types.Model.{Model}
 use Rattle.job.specs.Makers.{quotient, root}
 use Rattle.job.specs.Commands.{Command, result}
@@ -42,8 +43,8 @@ exact-permitted (quotient-value i j k h w e p q n s) =
     let l = lies-point (sym s) in
     quotient-box i j k h w e (exact-permitted p) (exact-permitted q) (λ z. n (sym (point-is z)))
     (record { low-low = l; low-high = l; high-low = l; high-high = l })
-exact-permitted {v = v} (root-value i j h w e p n s) =
-    root-box i j h w e (exact-permitted p) (low (≤ℚ-decide (v i) (whole (pos 0)))) n (le-of-eq ℚ-ordered (sym s))
+exact-permitted {v = v} (root-value i j rule h w e p n s) =
+    root-box i j rule h w e (exact-permitted p) (low (≤ℚ-decide (v i) (whole (pos 0)))) n (le-of-eq ℚ-ordered (sym s))
   where
     low : (v i ≤ℚ whole (pos 0)) ⊎ ¬ (v i ≤ℚ whole (pos 0))
         → (v i ≡ whole (pos 0)) ⊎ ((whole (pos 0) <ℚ v i) × ((v i *ℚ v i) ≤ℚ v j))
@@ -73,10 +74,10 @@ module _ {areas : List (Bool × ℕ)} {job : List ℕ} {answer : JobOutcome ℕ}
     exact-divisor {v} {i} {j} {k} {h} {w} hi hk f p = vouchedFor .vouched i hi x on .divisor j k h w f (v k) (exact-allowed hk p)
 
     -- what the model under a root allows is not negative
-    pub exact-radicand : (u : ℚ) {i j : ℕ} {h w : Model} → i < count → commandOf cs i ≡ result (root j h w)
+    pub exact-radicand : (u : ℚ) {i j : ℕ} {rule : RootRule} {h w : Model} → i < count → commandOf cs i ≡ result (root rule j h w)
         → Allows (stretch work j) x u → whole (pos 0) ≤ℚ u
-    exact-radicand u {i} {j} {h} {w} hi f a = pick (≤ℚ-decide (whole (pos 0)) u)
+    exact-radicand u {i} {j} {rule} {h} {w} hi f a = pick (≤ℚ-decide (whole (pos 0)) u)
       where
         pick : (whole (pos 0) ≤ℚ u) ⊎ ¬ (whole (pos 0) ≤ℚ u) → whole (pos 0) ≤ℚ u
         pick (inl p) = p
-        pick (inr p) = absurd (vouchedFor .vouched i hi x on .radicand j h w f u a p)
+        pick (inr p) = absurd (vouchedFor .vouched i hi x on .radicand j rule h w f u a p)

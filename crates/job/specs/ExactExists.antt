@@ -69,10 +69,10 @@ module _ {areas : List (Bool × ℕ)} {job : List ℕ} {answer : JobOutcome ℕ}
         let q = r k (b .1) (inr refl) in
         quotient-value i j k d w f (r j (b .0) (inl refl)) q (exact-divisor claim e x on h (omega (arith, b)) f q)
         (follows i h (quotient j k d w) f)
-    by-maker i h c (root j d w) f r =
-        let s = follows i h (root j d w) f in
-        root-value i j d w f (r j (leb-false i j (named i (root j d w) f)) refl) (rw s (absℚ-nonneg (choice i)))
-        (rw s (square-abs (choice i)) ∙ sym (c i (root j d w) (itself i) f))
+    by-maker i h c (root rule j d w) f r =
+        let s = follows i h (root rule j d w) f in
+        root-value i j rule d w f (r j (leb-false i j (named i (root rule j d w) f)) refl) (rw s (absℚ-nonneg (choice i)))
+        (rw s (square-abs (choice i)) ∙ sym (c i (root rule j d w) (itself i) f))
 
     found : (n i : ℕ) → i < n → i < count → Chosen commands x choice v i → Found i
     found zero i lt h c = absurd (omega arith)

@@ -9,6 +9,7 @@ use Rattle.integer.specs.Fraction.{ℚ, whole, _+ℚ_, _-ℚ_, _*ℚ_}
 use Rattle.integer.specs.FractionOrder.{_≤ℚ_, ∣_∣ℚ}
 use Rattle.integer.specs.FractionInverse.{_/ℚ_}
 use Rattle.model.specs.Values.{Allows}
+use Rattle.certificate.specs.Tests.{RootRule}
 use Rattle.model.specs.declared.types.Model.{Model}
 use Rattle.job.specs.Makers.{Maker, load, add, subtract, multiply, quotient, root, Row, of-none, of-one, of-two, rowOf}
 use Rattle.job.specs.Commands.{Command, result}
@@ -25,7 +26,7 @@ pub data Exact (cs : List Command) (x : ℚ) (v : ℕ → ℚ) : ℕ → Type 0 
       → v i ≡ v j *ℚ v k → Exact cs x v i
   quotient-value : (i j k : ℕ) (h w : Model) → commandOf cs i ≡ result (quotient j k h w) → Exact cs x v j → Exact cs x v k
       → ¬ (v k ≡ whole (pos 0)) → v i ≡ v j /ℚ v k → Exact cs x v i
-  root-value : (i j : ℕ) (h w : Model) → commandOf cs i ≡ result (root j h w) → Exact cs x v j
+  root-value : (i j : ℕ) (rule : RootRule) (h w : Model) → commandOf cs i ≡ result (root rule j h w) → Exact cs x v j
       → whole (pos 0) ≤ℚ v i → v i *ℚ v i ≡ v j → Exact cs x v i
 
 -- ---- values by a choice: `choice i` is the value taken for a load, and for a root a fraction whose square is under it
@@ -37,7 +38,7 @@ valueBy choice v i (add j k) = v j +ℚ v k
 valueBy choice v i (subtract j k) = v j -ℚ v k
 valueBy choice v i (multiply j k d) = v j *ℚ v k
 valueBy choice v i (quotient j k h w) = v j /ℚ v k
-valueBy choice v i (root j h w) = ∣ choice i ∣ℚ
+valueBy choice v i (root rule j h w) = ∣ choice i ∣ℚ
 
 -- the first n values are those of their commands
 abbrev pub Follows : List Command → (ℕ → ℚ) → ℕ → (ℕ → ℚ) → Type 0
@@ -50,7 +51,7 @@ Suits x choice v i (add j k) = Unit {0}
 Suits x choice v i (subtract j k) = Unit {0}
 Suits x choice v i (multiply j k d) = Unit {0}
 Suits x choice v i (quotient j k h w) = Unit {0}
-Suits x choice v i (root j h w) = v j ≡ choice i *ℚ choice i
+Suits x choice v i (root rule j h w) = v j ≡ choice i *ℚ choice i
 
 -- a row names result j
 abbrev pub Names : Row → ℕ → Type 0

@@ -65,7 +65,7 @@ positive h = below (simp (whole-is, fraction-le, den-is) at h)
 
 fits-3 : Fits 3
 fits-3 =
-    root-box 3 2 _ _ refl fits-2 (inr (positive, simp (fraction-mul, fraction-le, den-mul, den-is) (leZ-yes tt)))
+    root-box 3 2 _ _ _ refl fits-2 (inr (positive, simp (fraction-mul, fraction-le, den-mul, den-is) (leZ-yes tt)))
     (simp (whole-is, fraction-le, den-is) (leZ-yes tt)) (simp (fraction-mul, fraction-le, den-mul, den-is) (leZ-yes tt))
 
 fits-4 : Fits 4
@@ -100,7 +100,7 @@ fits-7 =
 
 fits-8 : Fits 8
 fits-8 =
-    root-box 8 6 _ _ refl fits-6 (inl (sym (whole-is (pos 0)))) (simp (whole-is, fraction-le, den-is) (leZ-yes tt))
+    root-box 8 6 _ _ _ refl fits-6 (inl (sym (whole-is (pos 0)))) (simp (whole-is, fraction-le, den-is) (leZ-yes tt))
     (simp (fraction-mul, fraction-le, den-mul, den-is) (leZ-yes tt))
 
 -- every box of the example is permitted

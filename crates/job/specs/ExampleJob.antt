@@ -8,13 +8,14 @@ use Rattle.integer.specs.Rounding.{upℕ, near, floor}
 use Rattle.chebyshev.specs.Coefficients.{weight, addLists, subtractLists, scaleList}
 use Rattle.chebyshev.specs.Product.{addAt, addPair, addRow, addRows, product}
 use Rattle.chebyshev.specs.Sign.{coefficientSum}
-use Rattle.model.specs.Models.{makeModel, firstRefusal, outcome, good, tooLarge, zeroModel}
-use Rattle.model.specs.Operations.{addition, subtraction, multiplication, sumModel, differenceModel, productModel, productList, productLoss, rounded, roundingLoss}
+use Rattle.model.specs.Models.{makeModel, good, tooLarge, zeroModel}
+use Rattle.model.specs.Outcomes.{passing}
+use Rattle.model.specs.Operations.{sumModel, differenceModel, productModel, productList, productLoss, rounded, roundingLoss}
 use Rattle.model.specs.declared.types.Model.{Model}
-use Rattle.certificate.specs.Tests.{tested, quotientOf, rootOf, rootPlaces, quotientContraction, quotientResidual, quotientModel, rootContraction, rootResidual, rootModel, displacement}
+use Rattle.certificate.specs.Tests.{byDiscriminant, rootPlaces, quotientContraction, quotientResidual, quotientModel, rootContraction, rootResidual, rootModel, displacement}
 use Rattle.job.specs.Bytes.{signedsAt}
-use Rattle.job.specs.Makers.{load, add, subtract, multiply, quotient, root, operation}
-use Rattle.job.specs.Commands.{Command, result, makerAt, readingPlaces, readingNumber}
+use Rattle.job.specs.Makers.{load, add, subtract, multiply, quotient, root, makerPlaces, operation}
+use Rattle.job.specs.Commands.{Command, result, makerAt, readingPlaces}
 use Rattle.job.specs.JobReading.{readFrom, jobReading, well}
 use Rattle.job.specs.Outcomes.{accepted}
 use Rattle.job.specs.Jobs.{command, run, jobOf}
@@ -59,12 +60,12 @@ exampleCommands =
     result (load (modelBy 0 (2097152 ∷ []) 16384))
     ∷ result (load (modelBy 1 (0 ∷ 1048576 ∷ []) 16384))
     ∷ result (multiply 0 0 0)
-    ∷ result (root 2 (modelBy 0 (2097152 ∷ []) 0) (modelBy 0 (262144 ∷ []) 0))
+    ∷ result (root byDiscriminant 2 (modelBy 0 (2097152 ∷ []) 0) (modelBy 0 (262144 ∷ []) 0))
     ∷ result (add 3 1)
     ∷ result (subtract 4 0)
     ∷ result (multiply 4 4 32)
     ∷ result (quotient 6 3 (modelBy 2 (2359296 ∷ 2097152 ∷ 262144 ∷ []) 0) (modelBy 0 (524288 ∷ []) 0))
-    ∷ result (root 6 (modelBy 1 (2097152 ∷ 1048576 ∷ []) 0) (modelBy 0 (262144 ∷ []) 0))
+    ∷ result (root byDiscriminant 6 (modelBy 1 (2097152 ∷ 1048576 ∷ []) 0) (modelBy 0 (262144 ∷ []) 0))
     ∷ []
 
 abbrev pub exampleResults : List Model
@@ -81,9 +82,9 @@ exampleResults =
     ∷ []
 
 pub example-read : jobReading exampleJob ≡ well exampleCommands
-unfolding jobReading readFrom readingNumber readingPlaces firstRefusal makerAt signedsAt
+unfolding jobReading readFrom readingPlaces passing makerAt signedsAt
 example-read = refl
 
 pub example-run : jobOf exampleJob ≡ accepted exampleResults
-unfolding jobOf run command operation readingNumber readingPlaces makerAt signedsAt tested quotientOf rootOf rootPlaces quotientContraction quotientResidual quotientModel rootContraction rootResidual rootModel displacement coefficientSum addition subtraction multiplication sumModel differenceModel productModel productList productLoss rounded roundingLoss firstRefusal outcome good tooLarge zeroModel weight addLists subtractLists scaleList addAt addPair addRow addRows product upℕ near floor
+unfolding jobOf run command operation makerPlaces readingPlaces makerAt signedsAt rootPlaces quotientContraction quotientResidual quotientModel rootContraction rootResidual rootModel displacement coefficientSum sumModel differenceModel productModel productList productLoss rounded roundingLoss good tooLarge zeroModel weight addLists subtractLists scaleList addAt addPair addRow addRows product upℕ near floor passing
 example-run = refl

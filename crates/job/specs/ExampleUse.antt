@@ -11,7 +11,7 @@ use lib.ListN.{length}
 use lib.Signed.{leZ-yes}
 use Rattle.integer.specs.Fraction.{whole-is, den-is}
 use Rattle.integer.specs.FractionOrder.{fraction-le, fraction-neg}
-use Rattle.model.specs.RefusalLaws.{Passed}
+use Rattle.model.specs.Outcomes.{Passed}
 use Rattle.model.specs.Values.{Allows, OnInterval}
 use Rattle.job.specs.Outcomes.{JobOutcome, accepted}
 use Rattle.job.specs.Order.{First, here, later, Meets}

@@ -107,7 +107,7 @@ exact-2 : Found 2
 exact-2 = multiply-value 2 0 0 0 refl exact-0 exact-0 (simp fraction-mul (fraction-eq _ _ _ _ (simp (den-mul, den-is))))
 
 exact-3 : Found 3
-exact-3 = root-value 3 2 _ _ refl exact-2 (simp (whole-is, fraction-le, den-is) (leZ-yes tt)) (simp fraction-mul (fraction-eq _ _ _ _ (simp (den-mul, den-is))))
+exact-3 = root-value 3 2 _ _ _ refl exact-2 (simp (whole-is, fraction-le, den-is) (leZ-yes tt)) (simp fraction-mul (fraction-eq _ _ _ _ (simp (den-mul, den-is))))
 
 exact-4 : Found 4
 exact-4 = add-value 4 3 1 refl exact-3 exact-1 (simp fraction-add (fraction-eq _ _ _ _ (simp (den-mul, den-is))))
@@ -124,7 +124,7 @@ exact-7 =
     quotient-value 7 6 3 _ _ refl exact-6 exact-3 n (divided _ _ _ n (simp fraction-mul (fraction-eq _ _ _ _ (simp (den-mul, den-is)))))
 
 exact-8 : Found 8
-exact-8 = root-value 8 6 _ _ refl exact-6 (simp (whole-is, fraction-le, den-is) (leZ-yes tt)) (simp fraction-mul (fraction-eq _ _ _ _ (simp (den-mul, den-is))))
+exact-8 = root-value 8 6 _ _ _ refl exact-6 (simp (whole-is, fraction-le, den-is) (leZ-yes tt)) (simp fraction-mul (fraction-eq _ _ _ _ (simp (den-mul, den-is))))
 
 -- every value of the example is exact
 pub example-exact : (i : ℕ) → i < 9 → Found i

@@ -1,12 +1,11 @@
 -- Reading a whole job, on its bytes alone: "A job reads well if none of its commands meets a refusal numbered 9 to 13, with
 -- models, tests and results unchecked."
 use mathlib.Core.Path.{_≡_}
-use mathlib.Core.Bool.{cond}
 use mathlib.Core.List.{List, [], _∷_, _++_}
 use Prim.Native.Nat.{ℕ, zero, suc, _+_}
-use lib.Dec.{eqb}
 use lib.ListN.{length, getD}
-use Rattle.job.specs.Commands.{Command, edition, result, finish, unknown, readingNumber, commandRead, nextAt}
+use Rattle.model.specs.Outcomes.{passing}
+use Rattle.job.specs.Commands.{Command, edition, result, finish, unknown, readingPlaces, commandRead, nextAt}
 
 -- read to its end, with the commands of its results in the order of their numbers; or refused with a number and a command
 pub data JobReading : Type 0 where
@@ -24,9 +23,9 @@ readOn k next cs unknown = ill 9 k
 unfoldable pub readFrom : ℕ → List ℕ → ℕ → List Command → ℕ → JobReading
 readFrom zero job k cs at = ill 10 k
 readFrom (suc f) job k cs at =
-    cond (eqb (readingNumber job k (length cs) at) 0)
+    passing (readingPlaces job k (length cs) at)
     (readOn k (λ cs′. readFrom f job (k + 1) cs′ (nextAt job k (length cs) at)) cs (commandRead job k (length cs) at))
-    (ill (readingNumber job k (length cs) at) k)
+    (λ n. ill n k)
 
 unfoldable pub jobReading : List ℕ → JobReading
 jobReading job = readFrom (length job + 1) job 0 [] 0

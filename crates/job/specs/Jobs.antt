@@ -1,13 +1,12 @@
 -- The meaning of a command and of a whole job, computed command by command.
-use mathlib.Core.Bool.{cond}
 use mathlib.Core.List.{List, [], _∷_, _++_}
 use Prim.Native.Nat.{ℕ, zero, suc, _+_}
-use lib.Dec.{eqb}
 use lib.ListN.{length}
-use Rattle.model.specs.Models.{Outcome}
+use Rattle.model.specs.Outcomes.{Outcome, passing}
+use Rattle.certificate.specs.Tests.{Certificate}
 use Rattle.model.specs.declared.types.Model.{Model}
 use Rattle.job.specs.Makers.{operation}
-use Rattle.job.specs.Commands.{Command, edition, result, finish, unknown, readingNumber, commandRead, nextAt}
+use Rattle.job.specs.Commands.{Command, edition, result, finish, unknown, readingPlaces, commandRead, nextAt}
 use Rattle.job.specs.Outcomes.{JobOutcome, accepted}
 
 -- what a command does: the results then, or their count, and the next position; the end of the job; a refusal
@@ -17,8 +16,9 @@ pub data Step (A : Type 0) : Type 0 where
   refused : ℕ → Step A
 
 -- the operation's answer becomes the next result
-abbrev pub resulting : List Model → ℕ → Outcome → Step (List Model)
-resulting rs next o = cond (eqb (o .number) 0) (more (rs ++ (o .model ∷ [])) next) (refused (o .number))
+abbrev pub resulting : List Model → ℕ → Outcome Certificate → Step (List Model)
+resulting rs next (Outcome.accepted c) = more (rs ++ (c .model ∷ [])) next
+resulting rs next (Outcome.refused n c) = refused n
 
 -- an unknown command is no end: reading refuses it, and so does this
 abbrev pub performed : Command → List Model → ℕ → Step (List Model)
@@ -30,9 +30,9 @@ performed unknown rs next = refused 9
 -- command k at a position, after the results rs: its reading, then its operation
 unfoldable pub command : List ℕ → ℕ → List Model → ℕ → Step (List Model)
 command job k rs at =
-    cond (eqb (readingNumber job k (length rs) at) 0)
+    passing (readingPlaces job k (length rs) at)
     (performed (commandRead job k (length rs) at) rs (nextAt job k (length rs) at))
-    (refused (readingNumber job k (length rs) at))
+    refused
 
 abbrev pub onward : (ℕ → List Model → ℕ → JobOutcome (List Model)) → ℕ → List Model → Step (List Model) → JobOutcome (List Model)
 onward next k rs (more rs′ at) = next (k + 1) rs′ at

@@ -1,5 +1,6 @@
 pub mod Bytes
 pub mod Makers
+pub mod MakerLaws
 pub mod Commands
 pub mod Outcomes
 pub mod Jobs

@@ -1,5 +1,5 @@
 -- Results made one after the other: each is what its command gives for all of them.
-use mathlib.Core.Path.{_≡_, refl, ap, ap₂, sym, subst}
+use mathlib.Core.Path.{_≡_, refl, ap, ap₂, sym, subst, _∙_}
 use mathlib.Core.Bool.{Bool, true, false}
 use mathlib.Core.List.{List, [], _∷_, _++_}
 use Prim.Native.Nat.{ℕ, _<_}
@@ -10,8 +10,10 @@ use lib.Dec.{ltb}
 use lib.ListN.{length, take, length-append, List·getD-append, List·getD-eq-default}
 use lib.Seq.{getD-take, getD-at, take-at, take-append-le}
 use Rattle.model.specs.Models.{zeroModel}
+use Rattle.model.specs.Outcomes.{accepted, outcome}
+use Rattle.certificate.specs.Tests.{Certificate, zeroCertificate}
 use Rattle.model.specs.declared.types.Model.{Model}
-use Rattle.job.specs.Makers.{Maker, Given, Row, of-none, of-one, of-two, rowOf, badIn, resultAt, givenIn, namesBad, operation}
+use Rattle.job.specs.Makers.{Maker, Given, Row, of-none, of-one, of-two, rowOf, badIn, resultAt, givenIn, namesBad, makerPlaces, operation}
 use Rattle.job.specs.Commands.{Command, edition, result, finish, unknown}
 use Rattle.job.specs.JobReading.{commandOf}
 use Rattle.job.specs.Requirement.{Made, nothing, one-more}
@@ -19,16 +21,17 @@ use Rattle.job.specs.CommandLaws.{both-below}
 
 pub made-length : {cs : List Command} {rs : List Model} → Made cs rs → length cs ≡ length rs
 made-length nothing = refl
-made-length (one-more {cs} {rs} d m h₁ h₂) =
-    omega (arith, made-length d, length-append cs (result m ∷ []), length-append rs (operation m rs .model ∷ []))
+made-length (one-more {cs} {rs} {c} d m h₁ h₂) =
+    omega (arith, made-length d, length-append cs (result m ∷ []), length-append rs (c .model ∷ []))
 
 -- ---- one result
 
 -- result i is r: its maker names results before it, and gives r for the results `before`
 pub record MadeFrom (m : Maker) (before : List Model) (i : ℕ) (r : Model) : Type 0 where
   pub names : namesBad m i ≡ false
-  pub succeeds : operation m before .number ≡ 0
-  pub gives : r ≡ operation m before .model
+  pub certificate : Certificate
+  pub succeeds : operation m before ≡ accepted certificate
+  pub gives : r ≡ certificate .model
 
 -- result i is r, by its command
 abbrev pub MadeBy : Command → List Model → ℕ → Model → Type 0
@@ -54,20 +57,17 @@ module _ (cs : List Command) (rs : List Model) (c : Command) (x : Model) (n : le
 pub made-at : {cs : List Command} {rs : List Model} → Made cs rs → (i : ℕ) → i < length rs
     → MadeBy (commandOf cs i) (take i rs) i (resultAt rs i)
 made-at nothing i lt = absurd (omega arith)
-made-at (one-more {cs} {rs} d m h₁ h₂) i lt = by (ltb i (length rs)) refl (λ h. made-at d i h)
+made-at (one-more {cs} {rs} {c} d m h₁ h₂) i lt = by (ltb i (length rs)) refl (λ h. made-at d i h)
   where
-    c : Command
-    c = result m
-
     x : Model
-    x = operation m rs .model
+    x = c .model
 
     by : (t : Bool) → ltb i (length rs) ≡ t → (i < length rs → MadeBy (commandOf cs i) (take i rs) i (resultAt rs i))
-        → MadeBy (commandOf (cs ++ (c ∷ [])) i) (take i (rs ++ (x ∷ []))) i (resultAt (rs ++ (x ∷ [])) i)
-    by true e b = let h = ltb-true i (length rs) e in earlier cs rs c x (made-length d) i h (b h)
+        → MadeBy (commandOf (cs ++ (result m ∷ [])) i) (take i (rs ++ (x ∷ []))) i (resultAt (rs ++ (x ∷ [])) i)
+    by true e b = let h = ltb-true i (length rs) e in earlier cs rs (result m) x (made-length d) i h (b h)
     by false e b =
-        last cs rs c x (made-length d) i (omega (arith, ltb-false i (length rs) e, length-append rs (x ∷ [])))
-        (record { names = h₁; succeeds = h₂; gives = refl })
+        last cs rs (result m) x (made-length d) i (omega (arith, ltb-false i (length rs) e, length-append rs (x ∷ [])))
+        (record { names = h₁; certificate = c; succeeds = h₂; gives = refl })
 
 -- ---- an operation depends on the results that its row names alone
 
@@ -81,14 +81,13 @@ module _ (i : ℕ) (rs : List Model) where
   row-named (of-two j k g) h = let b = both-below i j k h in ap₂ g (same-result j (b .0)) (same-result k (b .1))
 
   operation-named : (m : Maker) → namesBad m i ≡ false → operation m (take i rs) ≡ operation m rs
-  unfolding operation
-  operation-named m h = ap (λ (g : Given). g .outcome) (row-named (rowOf m) h)
+  unfolding operation makerPlaces
+  operation-named m h = ap (λ (g : Given). outcome (g .places) (g .certificate) zeroCertificate) (row-named (rowOf m) h)
 
   from-all : (c : Command) (r : Model) → MadeBy c (take i rs) i r → MadeBy c rs i r
   from-all edition r b = b
   from-all (result m) r b =
-      let e = operation-named m (b .names) in
-      record { names = b .names; succeeds = rw e at (b .succeeds); gives = rw e at (b .gives) }
+      record { names = b .names; certificate = b .certificate; succeeds = sym (operation-named m (b .names)) ∙ b .succeeds; gives = b .gives }
   from-all finish r b = b
   from-all unknown r b = b
 

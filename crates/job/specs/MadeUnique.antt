@@ -6,6 +6,8 @@ use native.Mathlib.Omega.{arith}
 use lib.ListN.{length, take}
 use lib.Seq.{take-suc, take-length}
 use Rattle.model.specs.Models.{zeroModel}
+use Rattle.model.specs.Outcomes.{Outcome, values}
+use Rattle.certificate.specs.Tests.{Certificate}
 use Rattle.model.specs.declared.types.Model.{Model}
 use Rattle.job.specs.Makers.{resultAt}
 use Rattle.job.specs.Commands.{Command, edition, result, finish, unknown}
@@ -15,7 +17,8 @@ use Rattle.job.specs.MadeLaws.{MadeBy, made-at, made-length}
 
 made-same : (c : Command) (before : List Model) (i : ℕ) {r r′ : Model} → MadeBy c before i r → MadeBy c before i r′ → r ≡ r′
 made-same edition before i b b′ = absurd b
-made-same (result m) before i b b′ = b .gives ∙ sym (b′ .gives)
+made-same (result m) before i b b′ =
+    b .gives ∙ ap (λ (o : Outcome Certificate). values o .model) (sym (b .succeeds) ∙ b′ .succeeds) ∙ sym (b′ .gives)
 made-same finish before i b b′ = absurd b
 made-same unknown before i b b′ = absurd b
 

@@ -9,8 +9,7 @@ use native.Mathlib.Omega.{arith}
 use borrow.Author.Tests.{leb-false}
 use lib.Dec.{leb}
 use lib.ListN.{length, length-append}
-use Rattle.model.specs.Models.{firstRefusal}
-use Rattle.model.specs.RefusalLaws.{Passed}
+use Rattle.model.specs.Outcomes.{values, Passed}
 use Rattle.model.specs.declared.types.Model.{Model}
 use Rattle.job.specs.Makers.{operation}
 use Rattle.job.specs.Commands.{makerAt, commandAt, shapeAt, commandRead, nextAt, maxResults, makesResult}
@@ -29,7 +28,7 @@ few-results : (kind : Kind) (job : List ℕ) (at : ℕ) (rs : List Model) → le
 few-results End job at rs h e = h
 few-results Edition job at rs h e = h
 few-results (Result o) job at rs h e =
-    omega (arith, leb-false maxResults (length rs) e, length-append rs (operation (makerAt o job at) rs .model ∷ []))
+    omega (arith, leb-false maxResults (length rs) e, length-append rs (values (operation (makerAt o job at) rs) .model ∷ []))
 few-results Unknown job at rs h e = h
 
 pub record InBounds (job : List ℕ) (k : ℕ) (rs : List Model) (at : ℕ) : Type 0 where
@@ -83,9 +82,9 @@ module _ {job : List ℕ} {k : ℕ} {rs : List Model} {at : ℕ} (r : Reaches jo
   pub moves-on : {rs′ : List Model} {at′ : ℕ} → command job k rs at ≡ more rs′ at′ → (at < at′) × Reaches job (k + 1) rs′ at′
   moves-on {rs′} {at′} h = by (first-or-passed (placesOf job k rs at)) (isLast job k rs at) refl
     where
-      by : First (placesOf job k rs at) (firstRefusal (placesOf job k rs at)) ⊎ Passed (placesOf job k rs at)
+      by : ((n : ℕ) × First (placesOf job k rs at) n) ⊎ Passed (placesOf job k rs at)
           → (t : Bool) → isLast job k rs at ≡ t → (at < at′) × Reaches job (k + 1) rs′ at′
-      by (inl g) t e = let z : _≡_ {A = ℕ} 0 1 = cc (h, command-refuses job k rs at g) in absurd (omega arith)
+      by (inl g) t e = let z : _≡_ {A = ℕ} 0 1 = cc (h, command-refuses job k rs at (g .1)) in absurd (omega arith)
       by (inr g) true e = let z : _≡_ {A = ℕ} 0 1 = cc (h, command-ends job k rs at g e) in absurd (omega arith)
       by (inr g) false e =
           let o = command-goes-on job k rs at g e in
@@ -108,9 +107,9 @@ module _ (job : List ℕ) where
       refl
     where
       by : ((rs′ : List Model) (at′ : ℕ) → Reaches job (k + 1) rs′ at′ → Meant (jobOf job))
-          → First (placesOf job k rs at) (firstRefusal (placesOf job k rs at)) ⊎ Passed (placesOf job k rs at)
+          → ((n : ℕ) × First (placesOf job k rs at) n) ⊎ Passed (placesOf job k rs at)
           → (t : Bool) → isLast job k rs at ≡ t → Meant (jobOf job)
-      by on (inl g) t e = subst Meant (sym (stops-there r (command-refuses job k rs at g))) (rs, at, r, g)
+      by on (inl g) t e = subst Meant (sym (stops-there r (command-refuses job k rs at (g .1)))) (rs, at, r, g .1)
       by on (inr g) true e = subst Meant (sym (ends-there r (command-ends job k rs at g e))) (k, at, r, g, e)
       by on (inr g) false e = on _ _ (next r g e)
 

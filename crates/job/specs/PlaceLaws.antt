@@ -1,31 +1,26 @@
--- Lists of places: the first that holds, and what `firstRefusal` has to do with it.
+-- Lists of places: the first that holds, and what comes of passing through them.
 use mathlib.Core.Path.{_≡_, refl}
 use mathlib.Core.Bool.{Bool, true, false}
 use mathlib.Core.List.{List, [], _∷_, _++_}
 use mathlib.Core.Logic.{_⊎_, inl, inr}
-use Prim.Native.Nat.{ℕ, _<_}
-use Rattle.model.specs.Models.{firstRefusal}
-use Rattle.model.specs.RefusalLaws.{Passed, Numbered}
+use Prim.Native.Nat.{ℕ}
+use Rattle.model.specs.Outcomes.{passing, Passed}
 use Rattle.job.specs.Order.{First, here, later}
 
-pub first-is : {ps : List (Bool × ℕ)} {n : ℕ} → First ps n → firstRefusal ps ≡ n
-unfolding firstRefusal
-first-is (here t e) = rw t e
-first-is (later t f) = rw t (first-is f)
-
-pub first-positive : {ps : List (Bool × ℕ)} {n : ℕ} → Numbered ps → First ps n → 0 < n
-first-positive h (here t e) = rw (← e) (h .0)
-first-positive h (later t f) = first-positive (h .1) f
+-- the first place that holds refuses
+pub passing-first : {A : Type 0} {ps : List (Bool × ℕ)} {n : ℕ} (a : A) (r : ℕ → A) → First ps n → passing ps a r ≡ r n
+unfolding passing
+passing-first a r (here t e) = rw (t, e)
+passing-first a r (later t f) = rw t (passing-first a r f)
 
 -- a place holds, or all are passed
-pub first-or-passed : (ps : List (Bool × ℕ)) → First ps (firstRefusal ps) ⊎ Passed ps
-unfolding firstRefusal
+pub first-or-passed : (ps : List (Bool × ℕ)) → ((n : ℕ) × First ps n) ⊎ Passed ps
 first-or-passed [] = inr tt
 first-or-passed (p ∷ ps) = by (p .0) refl (first-or-passed ps)
   where
-    by : (t : Bool) → p .0 ≡ t → First ps (firstRefusal ps) ⊎ Passed ps → First (p ∷ ps) (firstRefusal (p ∷ ps)) ⊎ Passed (p ∷ ps)
-    by true e r = let q : p .1 ≡ firstRefusal (p ∷ ps) = rw e in inl (here e q)
-    by false e (inl f) = let g : First ps (firstRefusal (p ∷ ps)) = rw e f in inl (later e g)
+    by : (t : Bool) → p .0 ≡ t → ((n : ℕ) × First ps n) ⊎ Passed ps → ((n : ℕ) × First (p ∷ ps) n) ⊎ Passed (p ∷ ps)
+    by true e r = inl (p .1, here e refl)
+    by false e (inl f) = inl (f .0, later e (f .1))
     by false e (inr f) = inr (e, f)
 
 -- ---- places of two parts

@@ -3,7 +3,7 @@
 --   the commands in the bytes, signed numbers among them: Bytes, Commands, JobReading
 --   what each command gives: Makers; model's Models, Operations; certificate's Tests; chebyshev's Coefficients, Product, Sign;
 --     integer's Rounding, Integer
---   what refusals there are, and their order: `Meets` of Order, `areaPlaces` of Work, `Passed` of model's RefusalLaws
+--   what refusals there are, and their order: `Meets` of Order, `areaPlaces` of Work, `Passed` of model's Outcomes
 --   what the code's answer means: `jobOutcomeOf` of Outcomes
 --   where the models stand in the work area: `stretch`, `modelsIn` of Work; model's Areas
 --   what a model allows, "from -1 to 1": model's Values; chebyshev's Allows, Coefficients, Kinds
@@ -19,6 +19,8 @@ use Rattle.integer.specs.Fraction.{ℚ, whole, _+ℚ_, _-ℚ_, _*ℚ_}
 use Rattle.integer.specs.FractionOrder.{_≤ℚ_, _<ℚ_}
 use Rattle.integer.specs.FractionInverse.{_/ℚ_}
 use Rattle.model.specs.Values.{Allows, OnInterval}
+use Rattle.model.specs.Outcomes.{Outcome}
+use Rattle.certificate.specs.Tests.{Certificate, RootRule}
 use Rattle.model.specs.declared.types.Model.{Model}
 use Rattle.job.specs.Makers.{Maker, load, add, subtract, multiply, quotient, root, namesBad, operation}
 use Rattle.job.specs.Commands.{Command, result}
@@ -31,8 +33,8 @@ use Rattle.job.specs.Work.{stretch, modelsIn}
 -- blocks it names": the results rs are made by the commands cs, one after the other, each from those before it
 pub data Made : List Command → List Model → Type 0 where
   nothing : Made [] []
-  one-more : {cs : List Command} {rs : List Model} → Made cs rs → (m : Maker) → namesBad m (length rs) ≡ false
-      → operation m rs .number ≡ 0 → Made (cs ++ (result m ∷ [])) (rs ++ (operation m rs .model ∷ []))
+  one-more : {cs : List Command} {rs : List Model} {c : Certificate} → Made cs rs → (m : Maker) → namesBad m (length rs) ≡ false
+      → operation m rs ≡ Outcome.accepted c → Made (cs ++ (result m ∷ [])) (rs ++ (c .model ∷ []))
 
 -- "A box is two fractions, low ≤ high."
 pub record Box : Type 0 where
@@ -79,7 +81,7 @@ pub data Permitted (cs : List Command) (x : ℚ) (box : ℕ → Box) : ℕ → T
       → ContainsFour _/ℚ_ (box j) (box k) (box i)
       → Permitted cs x box i
   -- "Root: low = 0 or low > 0 with low² ≤ the old low, and high ≥ 0 with high² ≥ the old high."
-  root-box : (i j : ℕ) (h w : Model) → commandOf cs i ≡ result (root j h w) → Permitted cs x box j
+  root-box : (i j : ℕ) (rule : RootRule) (h w : Model) → commandOf cs i ≡ result (root rule j h w) → Permitted cs x box j
       → (box i .low ≡ whole (pos 0)) ⊎ ((whole (pos 0) <ℚ box i .low) × ((box i .low *ℚ box i .low) ≤ℚ box j .low))
       → whole (pos 0) ≤ℚ box i .high → box j .high ≤ℚ (box i .high *ℚ box i .high)
       → Permitted cs x box i
@@ -98,7 +100,7 @@ pub record Vouched (cs : List Command) (work : List ℤ) (i : ℕ) (x : ℚ) : T
   pub divisor : (j k : ℕ) (h w : Model) → commandOf cs i ≡ result (quotient j k h w)
       → (v : ℚ) → Allows (stretch work k) x v → ¬ (v ≡ whole (pos 0))
   -- "if a root, no value that the model under the root allows there is negative."
-  pub radicand : (j : ℕ) (h w : Model) → commandOf cs i ≡ result (root j h w)
+  pub radicand : (j : ℕ) (rule : RootRule) (h w : Model) → commandOf cs i ≡ result (root rule j h w)
       → (v : ℚ) → Allows (stretch work j) x v → ¬ (v <ℚ whole (pos 0))
 
 -- what is vouched for of an accepted job

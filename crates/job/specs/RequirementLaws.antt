@@ -6,7 +6,7 @@ use mathlib.Core.Logic.{inl, inr}
 use Prim.Native.Nat.{ℕ}
 use native.Mathlib.Omega.{arith}
 use lib.IntN.{ℤ}
-use Rattle.model.specs.RefusalLaws.{Passed}
+use Rattle.model.specs.Outcomes.{Passed}
 use Rattle.job.specs.Outcomes.{JobOutcome, refused}
 use Rattle.job.specs.Order.{First, later, Meets}
 use Rattle.job.specs.PlaceLaws.{passed-both}

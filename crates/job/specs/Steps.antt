@@ -6,14 +6,15 @@ use Prim.Native.Nat.{ℕ, _+_, _≤_, _<_}
 use lib.Dec.{leb}
 use lib.IntN.{ℤ}
 use lib.ListN.{length}
-use Rattle.model.specs.Models.{coefficientCount, numberOf, Outcome}
+use Rattle.model.specs.Models.{coefficientCount}
+use Rattle.model.specs.Outcomes.{Outcome, accepted, refused, values, numberOf}
 use Rattle.model.specs.Areas.{Storable}
-use Rattle.certificate.specs.Tests.{scratchSize, scratchAfter}
+use Rattle.certificate.specs.Tests.{scratchSize, scratchAfter, Certificate}
 use Rattle.model.specs.declared.types.Model.{Model}
 use Rattle.job.specs.Bytes.{byteAt}
-use Rattle.job.specs.Makers.{Maker, namesBad, operation}
+use Rattle.job.specs.Makers.{Maker, untested, namesBad, operation}
 use Rattle.job.specs.Commands.{maxResults, operandsOf, layoutOf, makerAt, commandAt, badNames, makesResult}
-use Rattle.job.specs.Jobs.{Step, more, over, refused}
+use Rattle.job.specs.Jobs.{Step, more, over}
 use Rattle.job.specs.Work.{workSize, workOf}
 use Rattle.job.specs.declared.types.Step.{Step as CodeStep}
 use Rattle.job.specs.declared.types.Step.the-variants.{More, Over, Refused}
@@ -35,19 +36,19 @@ pub record Holds (w : List ℤ) (count : ℕ) (rs : List Model) (t : List ℤ) :
 abbrev pub stepOf : CodeStep → Step ℕ
 stepOf (More next count) = more count next
 stepOf Over = over
-stepOf (Refused v) = refused (numberOf v)
+stepOf (Refused v) = Step.refused (numberOf v)
 
 -- with the count of the results in their place
 abbrev pub countedStep : Step (List Model) → Step ℕ
 countedStep (more rs next) = more (length rs) next
 countedStep over = over
-countedStep (refused n) = refused n
+countedStep (Step.refused n) = Step.refused n
 
 -- the results after a step
 abbrev pub resultsBy : List Model → Step (List Model) → List Model
 resultsBy rs (more rs′ next) = rs′
 resultsBy rs over = rs
-resultsBy rs (refused n) = rs
+resultsBy rs (Step.refused n) = rs
 
 -- the code answers r and leaves w, where the definition's step is s and the results before it were rs
 pub record Stepped (r : CodeStep) (w : List ℤ) (rs : List Model) (t : List ℤ) (s : Step (List Model)) : Type 0 where
@@ -60,9 +61,14 @@ StepsBy r w w′ count f = (rs : List Model) (t : List ℤ) → Holds w count rs
 
 -- ---- the operation of a command
 
+-- an operation's outcome with m, N and b zero, where no test runs
+abbrev pub untestedOutcome : Outcome Model → Outcome Certificate
+untestedOutcome (accepted m) = accepted (untested m)
+untestedOutcome (refused n m) = refused n (untested m)
+
 -- an outcome is what a maker gives for the results that a work area holds
-pub record Performs (m : Maker) (w : List ℤ) (o : Outcome) : Type 0 where
-  pub storable : Storable (o .model)
+pub record Performs (m : Maker) (w : List ℤ) (o : Outcome Certificate) : Type 0 where
+  pub storable : Storable (values o .model)
   pub gives : (count : ℕ) (rs : List Model) (t : List ℤ) → Holds w count rs t → namesBad m count ≡ false → o ≡ operation m rs
 
 -- a command that was read, as its operation needs it

@@ -13,7 +13,7 @@ use crate::types::Kind;
 use crate::types::Names;
 use crate::types::Values;
 use model::types::Model;
-use model::types::Verdict;
+use model::types::Refusal;
 
 const MAX_RESULTS: usize = 32;
 
@@ -106,30 +106,30 @@ pub(crate) fn read_command(job: &[u8], k: usize, count: usize, at: usize) -> Com
     ensures { λ r. ⌜ commandReadingOf r ≡ commandReading (now (job .entry)) k count at ⌝ }
 {
     if job.len() <= at {
-        return CommandReading::Refused(Verdict::JobEnds);
+        return CommandReading::Refused(Refusal::JobEnds);
     }
     let shape = shape_of(job[at]);
     let kind = shape.kind;
     if is_bad_kind(k, kind) {
-        return CommandReading::Refused(Verdict::BadValue);
+        return CommandReading::Refused(Refusal::BadValue);
     }
     if job.len() - at <= shape.width {
-        return CommandReading::Refused(Verdict::JobEnds);
+        return CommandReading::Refused(Refusal::JobEnds);
     }
     let values = shape.values;
     if has_bad_values(values, job, at) {
-        return CommandReading::Refused(Verdict::BadValue);
+        return CommandReading::Refused(Refusal::BadValue);
     }
     let names = shape.names;
     if has_bad_names(names, job, at, count) {
-        return CommandReading::Refused(Verdict::NotAResult);
+        return CommandReading::Refused(Refusal::NotAResult);
     }
     if is_full(kind, count) {
-        return CommandReading::Refused(Verdict::TooManyResults);
+        return CommandReading::Refused(Refusal::TooManyResults);
     }
     let next = at + 1 + shape.width;
     if is_too_long(kind, next, job.len()) {
-        return CommandReading::Refused(Verdict::BytesAfterEnd);
+        return CommandReading::Refused(Refusal::BytesAfterEnd);
     }
     CommandReading::Command(kind, next)
 }

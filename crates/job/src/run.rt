@@ -16,7 +16,7 @@ use crate::work::WORK_SIZE;
 use crate::work::clear_scratch;
 use crate::work::clear_work;
 use certificate::types::SCRATCH_SIZE;
-use model::types::Verdict;
+use model::types::Refusal;
 
 // A job over cleared areas.
 fn run(job: &[u8], work: &mut [i32], scratch: &mut [i64]) -> JobOutcome
@@ -41,9 +41,9 @@ fn run(job: &[u8], work: &mut [i32], scratch: &mut [i64]) -> JobOutcome
             Step::Over => {
                 return JobOutcome::Accepted(count);
             }
-            Step::Refused(verdict) => {
+            Step::Refused(refusal) => {
                 clear_work(work);
-                return JobOutcome::Refused(verdict, k);
+                return JobOutcome::Refused(refusal, k);
             }
         }
     }
@@ -59,10 +59,10 @@ pub fn check(job: &[u8], work: &mut [i32], scratch: &mut [i64]) -> JobOutcome
         (now (job .entry)) (jobOutcomeOf r) (now (work .exit)) ⌝ }
 {
     if work.len() < WORK_SIZE {
-        return JobOutcome::Refused(Verdict::ShortArea, 0);
+        return JobOutcome::Refused(Refusal::ShortArea, 0);
     }
     if scratch.len() < SCRATCH_SIZE {
-        return JobOutcome::Refused(Verdict::ShortArea, 0);
+        return JobOutcome::Refused(Refusal::ShortArea, 0);
     }
     clear_work(work);
     clear_scratch(scratch);

@@ -2,7 +2,7 @@
 ghost use mathlib.Core.Path.{_≡_};
 ghost use Prim.Native.Nat.{_≤_, _<_};
 ghost use lib.ListN.{length};
-ghost use Rattle.model.specs.Models.{outcomeOf};
+ghost use Rattle.certificate.specs.Tests.{testOf};
 ghost use Rattle.model.specs.Areas.{Storable};
 ghost use Rattle.job.specs.Commands.{maxResults, commandAt};
 ghost use Rattle.job.specs.Jobs.{resulting, performed, command};
@@ -14,13 +14,14 @@ use crate::types::CommandReading;
 use crate::types::Kind;
 use crate::types::Step;
 use crate::work::store;
-use model::types::Answer;
+use certificate::types::TestOutcome;
+use model::types::Refusal;
 use model::types::Verdict;
 
 // The operation's answer becomes the next result.
-fn add_result(work: &mut [i32], count: usize, next: usize, a: Answer) -> Step
+fn add_result(work: &mut [i32], count: usize, next: usize, a: TestOutcome) -> Step
     requires { ⌜ (workSize ≤ length (now work)) × ((count < maxResults) × Storable (a .model)) ⌝ }
-    ensures { λ r. ⌜ StepsBy r (now (work .entry)) (now (work .exit)) count (λ rs. resulting rs next (outcomeOf a)) ⌝ }
+    ensures { λ r. ⌜ StepsBy r (now (work .entry)) (now (work .exit)) count (λ rs. resulting rs next (testOf a)) ⌝ }
 {
     let verdict = a.verdict;
     match verdict {
@@ -30,7 +31,7 @@ fn add_result(work: &mut [i32], count: usize, next: usize, a: Answer) -> Step
             let results = count + 1;
             Step::More(next, results)
         }
-        _ => Step::Refused(verdict),
+        Verdict::Refused(refusal) => Step::Refused(refusal),
     }
 }
 
@@ -56,7 +57,7 @@ fn perform(
             let a = operate(op, job, at, work, scratch);
             add_result(work, count, next, a)
         }
-        Kind::Unknown => Step::Refused(Verdict::BadValue),
+        Kind::Unknown => Step::Refused(Refusal::BadValue),
     }
 }
 
@@ -75,7 +76,7 @@ pub(crate) fn step(
 {
     let read = read_next(job, k, count, at);
     match read {
-        CommandReading::Refused(v) => Step::Refused(v),
+        CommandReading::Refused(refusal) => Step::Refused(refusal),
         CommandReading::Command(kind, next) => perform(kind, next, job, count, at, work, scratch),
     }
 }

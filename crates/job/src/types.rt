@@ -1,5 +1,5 @@
 // The kinds of commands, and what the check of a job answers.
-use model::types::Verdict;
+use model::types::Refusal;
 
 // The operations of the commands that make a result.
 pub enum Operation {
@@ -44,18 +44,18 @@ pub struct Shape {
 // What reading a command answers: its kind and the next position, or a refusal.
 pub enum CommandReading {
     Command(Kind, usize),
-    Refused(Verdict),
+    Refused(Refusal),
 }
 
 // What one command does: the next position and the count of results then, the end of the job, or a refusal.
 pub enum Step {
     More(usize, usize),
     Over,
-    Refused(Verdict),
+    Refused(Refusal),
 }
 
 // Accepted with the count of results, or refused with the verdict and the command's number, counted from 0.
 pub enum JobOutcome {
     Accepted(usize),
-    Refused(Verdict, usize),
+    Refused(Refusal, usize),
 }

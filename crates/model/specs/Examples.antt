@@ -26,12 +26,15 @@ abbrev pub quadratic : Model
 quadratic = makeModel 2 (padded (pos 0 ∷ pos 0 ∷ pos 1048576 ∷ [])) 0
 
 -- T_1 times T_1 whole, and cut at degree 1; a tie above zero, and one below; an integral; T_2 at 1/2
-pub benchmarks :
+abbrev pub Benchmarks : Type 0
+Benchmarks =
     (multiplication 2 linear linear ≡ accepted (makeModel 2 (padded (pos 524288 ∷ pos 0 ∷ pos 524288 ∷ [])) 0))
     × (multiplication 1 linear linear ≡ accepted (makeModel 1 (padded (pos 524288 ∷ [])) 524288))
     × (multiplication 32 (constantModel (pos 1)) (constantModel (pos 524288)) ≡ accepted (makeModel 0 (padded (pos 1 ∷ [])) 1))
     × (multiplication 32 (constantModel (negsuc 0)) (constantModel (pos 524288)) ≡ accepted (makeModel 0 (padded []) 1))
     × (integration (constantModel (pos 1048576)) ≡ accepted (makeModel 1 (padded (pos 1048576 ∷ pos 1048576 ∷ [])) 1))
     × (evaluation quadratic (pos 524288) ≡ accepted (record { low = negsuc 524288; high = negsuc 524286 }))
+
+pub benchmarks : Benchmarks
 unfolding multiplication productModel productList productLoss rounded roundingLoss integration integralModel integralList halved numerators doubleFirst alternating evaluation lowBound highBound pointTerm pointSum pointError passing good tooLarge constantModel zeroModel weight addLists subtractLists addAt addPair addRow addRows product floor up upℕ near
 benchmarks = (refl, refl, refl, refl, refl, refl)

@@ -57,7 +57,7 @@ module _ {A : Type 0} where
   verdict-judged Accepted a = refl
   verdict-judged (Refused r) a = ap Refused (named-number r)
 
-  values-judged : (v : Verdict) (a : A) → values (judged v a) ≡ a
+  pub values-judged : (v : Verdict) (a : A) → values (judged v a) ≡ a
   values-judged Accepted a = refl
   values-judged (Refused r) a = refl
 

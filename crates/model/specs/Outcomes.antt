@@ -1,5 +1,6 @@
 -- What an entry answers: it accepts with its values, or refuses with a number of document 01's table "Refused, and where".
-use mathlib.Core.Bool.{Bool, cond}
+use mathlib.Core.Path.{_≡_}
+use mathlib.Core.Bool.{Bool, false, cond}
 use mathlib.Core.List.{List, [], _∷_}
 use Prim.Native.Nat.{ℕ}
 use Rattle.model.specs.declared.types.Model.{Model}
@@ -33,6 +34,11 @@ values (refused n a) = a
 unfoldable pub passing : {A : Type 0} → List (Bool × ℕ) → A → (ℕ → A) → A
 passing [] a refusing = a
 passing (p ∷ ps) a refusing = cond (p .0) (refusing (p .1)) (passing ps a refusing)
+
+-- no condition holds
+abbrev pub Passed : List (Bool × ℕ) → Type 0
+Passed [] = Unit {0}
+Passed (p ∷ ps) = (p .0 ≡ false) × Passed ps
 
 -- the outcome of an operation that passes through places; z is zero in place of the values a
 abbrev pub outcome : {A : Type 0} → List (Bool × ℕ) → A → A → Outcome A

@@ -7,14 +7,9 @@ use Prim.Native.Nat.{ℕ}
 use native.Mathlib.Omega.{arith}
 use borrow.Author.Tests.{not-false}
 use Rattle.model.specs.Models.{good, zeroModel, badPlace}
-use Rattle.model.specs.Outcomes.{Outcome, accepted, refused, number, values, outcome, passing}
+use Rattle.model.specs.Outcomes.{Outcome, accepted, refused, number, values, outcome, passing, Passed}
 use Rattle.model.specs.Operations.{sumModel, differenceModel, productModel, addition, subtraction, multiplication}
 use Rattle.model.specs.declared.types.Model.{Model}
-
--- no condition holds
-abbrev pub Passed : List (Bool × ℕ) → Type 0
-Passed [] = Unit {0}
-Passed (p ∷ ps) = (p .0 ≡ false) × Passed ps
 
 module _ {A : Type 0} where
   -- places that are passed do not count

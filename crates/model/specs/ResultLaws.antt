@@ -8,11 +8,10 @@ use borrow.Author.Tests.{ltb-false}
 use lib.Dec.{ltb}
 use Rattle.chebyshev.specs.Coefficients.{weight}
 use Rattle.model.specs.Models.{maxDegree, maxWeight, maxRadius, tooLarge, zeroModel}
-use Rattle.model.specs.Outcomes.{refused, values, outcome, passing}
+use Rattle.model.specs.Outcomes.{refused, values, outcome, passing, Passed}
 use Rattle.model.specs.Areas.{Storable}
 use Rattle.model.specs.Operations.{addition, subtraction, multiplication}
 use Rattle.model.specs.Integral.{integration}
-use Rattle.model.specs.PlaceLaws.{Passed}
 use Rattle.model.specs.declared.types.Model.{Model}
 
 pub neither : (a b : Bool) → (a || b) ≡ false → (a ≡ false) × (b ≡ false)

@@ -1,13 +1,15 @@
 -- `operations::add` meets its contract.
+use mathlib.Core.Path.{ap, sym, _∙_}
 use Prim.Native.Nat.{_+_}
 use native.Mathlib.Omega.{arith}
 use denote.Ref.{now}
 use Rattle.model.specs.Operations.{addition}
-use Rattle.model.specs.OutcomeFits.{addition-storable}
+use Rattle.model.specs.ResultLaws.{addition-storable}
 use Rattle.job.specs.Bytes.{byteAt}
 use Rattle.job.specs.Commands.{makerAt}
-use Rattle.job.specs.Makers.{operation}
-use Rattle.job.proofs.OperationLaws.{performs, held-two}
+use Rattle.job.specs.Steps.{untestedOutcome}
+use Rattle.job.specs.MakerLaws.{add-operation}
+use Rattle.job.proofs.OperationLaws.{performs-untested, held-two}
 use borrow.Author.Needs.{needs}
 use Rattle.job.proofs.operations.add.Statement.{statement}
 use Rattle.job.proofs.operations.add.Tie as tie
@@ -17,13 +19,16 @@ unfolding makerAt
 read-operands-requires c κs = let p = c .before .pre in record { names = p .names; room = omega arith; long = p .long }
 
 returns : tie.Need-returns
-unfolding makerAt operation
+unfolding makerAt
 returns c =
-    let o = c .before .read-operands .ensures in
-    let g = c .before .before .before .args in
-    performs (c .add .ensures) (addition-storable _ _)
+    let r = c .before in
+    let o = r .before .read-operands in
+    let a = o .result .first in
+    let b = o .result .second in
+    let g = r .before .before .before .args in
+    performs-untested (addition a b) (c .untested .ensures ∙ ap untestedOutcome (r .add .ensures)) (addition-storable a b)
     (λ count rs t h n.
-    held-two h addition _ _ (byteAt (now (g .job)) (g .at + 1)) (byteAt (now (g .job)) (g .at + 2)) (o .0) (o .1) n)
+    held-two h (λ f g. untestedOutcome (addition f g)) a b (byteAt (now (g .job)) (g .at + 1)) (byteAt (now (g .job)) (g .at + 2)) (o .ensures .0) (o .ensures .1) n ∙ sym (add-operation _ _ rs))
 
 pub add-spec : {M : Type 1} → statement M
-add-spec = tie.close (tie.spec read-operands-requires (λ c κs. search needs) returns)
+add-spec = tie.close (tie.spec read-operands-requires (λ c κs. search needs) (λ c κs. search needs) returns)

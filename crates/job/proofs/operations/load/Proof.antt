@@ -1,46 +1,28 @@
 -- `operations::load` meets its contract.
 use borrow.Author.Needs.{needs}
-use mathlib.Core.Path.{_≡_, ap, sym, _∙_}
-use mathlib.Core.List.{List}
+use mathlib.Core.Path.{ap, sym, _∙_}
+use Prim.Native.Nat.{_+_}
 use denote.Ref.{now}
-use Rattle.model.specs.Models.{outcomeOf}
-use Rattle.model.specs.declared.types.Model.{Model}
-use Rattle.job.specs.Bytes.{blockAt}
+use Rattle.model.specs.Operations.{loading}
+use Rattle.job.specs.Bytes.{blockAt, unsignedAt}
 use Rattle.job.specs.Commands.{makerAt}
-use Rattle.job.specs.Makers.{operation}
-use Rattle.job.specs.declared.types.Operation.the-variants.{Load}
-use Rattle.job.proofs.OperationLaws.{performs, loaded, loaded-storable, loaded-good, loaded-bad}
+use Rattle.job.specs.Steps.{untestedOutcome}
+use Rattle.job.specs.MakerLaws.{load-operation}
+use Rattle.job.proofs.OperationLaws.{performs-untested, loading-storable}
 use Rattle.job.proofs.operations.load.Statement.{statement}
 use Rattle.job.proofs.operations.load.Tie as tie
 
--- the model that was read is the one that the command loads
-module _ (c : tie.After-read-model) where
-  abbrev m : Model
-  m = c .read-model .result
-
-  loads : (rs : List Model)
-      → loaded m ≡ operation (makerAt Load (now (c .before .before .before .args .job)) (c .before .before .before .args .at)) rs
-  unfolding makerAt operation
-  loads rs = ap loaded (c .read-model .ensures ∙ ap (blockAt _ _) (c .before .read-unsigned .ensures))
-
 returns : tie.Need-returns
+unfolding makerAt
 returns c =
-    let d = c .before .before in
-    λ w. performs
-    (loaded-good (m d) (sym (c .before .is-good .ensures) ∙ c .if1 .taken))
-    (loaded-storable (m d))
-    (λ count rs t h n. loads d rs)
-
-returns-2 : tie.Need-returns-2
-returns-2 c =
-    let d = c .before .before .before in
-    λ w. performs
-    (ap outcomeOf (c .refused .ensures) ∙ loaded-bad (m d) (sym (c .before .before .is-good .ensures) ∙ c .before .if1 .left))
-    (loaded-storable (m d))
-    (λ count rs t h n. loads d rs)
+    let l = c .before in
+    let r = l .before in
+    let u = r .before in
+    let g = u .before .before .args in
+    let m = blockAt (now (g .job)) (g .at + 1) (unsignedAt (now (g .job)) (g .at + 134)) in
+    let e = r .read-model .ensures ∙ ap (blockAt (now (g .job)) (g .at + 1)) (u .read-unsigned .ensures) in
+    λ w. performs-untested (loading m) (c .untested .ensures ∙ ap untestedOutcome (l .load .ensures ∙ ap loading e)) (loading-storable m)
+    (λ count rs t h n. sym (load-operation m rs))
 
 pub load-spec : {M : Type 1} → statement M
-load-spec =
-    tie.close (tie.spec
-    (λ c. search needs) (λ c. search needs) (λ c κs. search needs) (λ c κs. search needs) (λ c κs. search needs)
-    (λ c κs. search needs) returns returns-2)
+load-spec = tie.close (tie.spec (λ c. search needs) (λ c. search needs) (λ c κs. search needs) (λ c κs. search needs) (λ c κs. search needs) (λ c κs. search needs) returns)

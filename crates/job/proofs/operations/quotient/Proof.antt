@@ -1,5 +1,5 @@
 -- `operations::quotient` meets its contract.
-use mathlib.Core.Path.{ap, ap₂, _∙_}
+use mathlib.Core.Path.{ap₂, sym, _∙_}
 use Prim.Native.Nat.{_+_}
 use native.Mathlib.Omega.{arith}
 use lib.ListN.{length}
@@ -9,7 +9,7 @@ use Rattle.certificate.specs.Stages.{quotient-room}
 use Rattle.certificate.specs.TestFits.{quotient-storable}
 use Rattle.job.specs.Bytes.{byteAt, blockAt}
 use Rattle.job.specs.Commands.{makerAt}
-use Rattle.job.specs.Makers.{fromTest, operation}
+use Rattle.job.specs.MakerLaws.{quotient-operation}
 use Rattle.job.proofs.OperationLaws.{performs, held-two}
 use borrow.Author.Needs.{needs}
 use Rattle.job.proofs.operations.quotient.Statement.{statement}
@@ -20,9 +20,9 @@ unfolding makerAt
 read-operands-requires c κs = let p = c .before .pre .0 in record { names = p .names; room = omega arith; long = p .long }
 
 returns : tie.Need-returns
-unfolding makerAt operation
+unfolding makerAt
 returns c =
-    let q = c .before .before in
+    let q = c .before in
     let d = q .before .before in
     let o = d .before .before in
     let s = o .before .before in
@@ -34,15 +34,14 @@ returns c =
     let h = blockAt job (at + 3) 0 in
     let w = blockAt job (at + 136) 0 in (
       performs
-          (c .outcome .ensures
-          ∙ ap fromTest
           (q .quotient .ensures .0
           ∙ ap₂ (quotientOf len f g) (d .before .read-candidate .ensures) (d .read-candidate2 .ensures)
-          ∙ quotient-room len f g h w (s .pre .1 .long)))
+          ∙ quotient-room len f g h w (s .pre .1 .long))
           (quotient-storable scratchSize f g h w)
           (λ count rs t z n.
-          held-two z (λ f g. fromTest (quotientOf scratchSize f g h w)) f g (byteAt job (at + 1)) (byteAt job (at + 2))
-          (o .read-operands .ensures .0) (o .read-operands .ensures .1) n),
+          held-two z (λ f g. quotientOf scratchSize f g h w) f g (byteAt job (at + 1)) (byteAt job (at + 2))
+          (o .read-operands .ensures .0) (o .read-operands .ensures .1) n
+          ∙ sym (quotient-operation _ _ h w rs)),
       q .quotient .ensures .1 ∙ s .pre .1 .clear,
     )
 
@@ -50,4 +49,4 @@ pub quotient-spec : {M : Type 1} → statement M
 quotient-spec =
     tie.close (tie.spec
     read-operands-requires (λ c. search needs) (λ c κs. search needs) (λ c. search needs) (λ c κs. search needs)
-    (λ c κs. search needs) (λ c κs. search needs) (λ c. search needs) returns)
+    (λ c κs. search needs) (λ c. search needs) returns)

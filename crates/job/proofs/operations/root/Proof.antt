@@ -1,16 +1,17 @@
 -- `operations::root` meets its contract.
-use mathlib.Core.Path.{ap, ap₂, _∙_}
+use mathlib.Core.Path.{ap₂, sym, _∙_}
 use Prim.Native.Nat.{_+_}
 use native.Mathlib.Omega.{arith}
 use borrow.Author.Tests.{leb-false}
 use lib.ListN.{length}
 use denote.Ref.{now}
-use Rattle.certificate.specs.Tests.{scratchSize, rootOf}
+use Rattle.certificate.specs.Tests.{scratchSize, byDiscriminant, rootOf}
+use Rattle.certificate.specs.Stages.{root-room}
 use Rattle.certificate.specs.TestFits.{root-storable}
 use Rattle.job.specs.Bytes.{byteAt, blockAt}
 use Rattle.job.specs.Commands.{maxResults, makerAt}
-use Rattle.job.specs.Makers.{fromTest, operation}
-use Rattle.job.proofs.OperationLaws.{performs, held-one, root-room}
+use Rattle.job.specs.MakerLaws.{root-operation}
+use Rattle.job.proofs.OperationLaws.{performs, held-one}
 use borrow.Author.Needs.{needs}
 use Rattle.job.proofs.operations.root.Statement.{statement}
 use Rattle.job.proofs.operations.root.Tie as tie
@@ -23,9 +24,9 @@ named-requires c κs =
     omega (arith, b, c .before .pre .0 .room, c .before .pre .0 .long)
 
 returns : tie.Need-returns
-unfolding makerAt operation
+unfolding makerAt
 returns c =
-    let q = c .before .before in
+    let q = c .before in
     let d = q .before .before in
     let e = d .before .before in
     let s = e .before .before in
@@ -36,13 +37,13 @@ returns c =
     let h = blockAt job (at + 2) 0 in
     let w = blockAt job (at + 135) 0 in (
       performs
-          (c .outcome .ensures
-          ∙ ap fromTest
           (q .root .ensures .0
-          ∙ ap₂ (rootOf len f) (d .before .read-candidate .ensures) (d .read-candidate2 .ensures)
-          ∙ root-room len f h w (s .pre .1 .long)))
+          ∙ ap₂ (rootOf byDiscriminant len f) (d .before .read-candidate .ensures) (d .read-candidate2 .ensures)
+          ∙ root-room len f h w (s .pre .1 .long))
           (root-storable scratchSize f h w)
-          (λ count rs t z n. held-one z (λ f. fromTest (rootOf scratchSize f h w)) f (byteAt job (at + 1)) (e .named .ensures) n),
+          (λ count rs t z n.
+          held-one z (λ f. rootOf byDiscriminant scratchSize f h w) f (byteAt job (at + 1)) (e .named .ensures) n
+          ∙ sym (root-operation byDiscriminant _ h w rs)),
       q .root .ensures .1 ∙ s .pre .1 .clear,
     )
 
@@ -50,4 +51,4 @@ pub root-spec : {M : Type 1} → statement M
 root-spec =
     tie.close (tie.spec
     (λ c. search needs) named-requires (λ c. search needs) (λ c κs. search needs) (λ c. search needs) (λ c κs. search needs)
-    (λ c κs. search needs) (λ c κs. search needs) (λ c. search needs) returns)
+    (λ c κs. search needs) (λ c. search needs) returns)

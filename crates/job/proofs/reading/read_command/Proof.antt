@@ -7,12 +7,12 @@ use Prim.Native.Nat.{ℕ, _+_, _≤_}
 use native.Mathlib.Omega.{arith}
 use lib.ListN.{length, drop}
 use denote.Ref.{now}
-use Rattle.model.specs.Models.{firstRefusal}
-use Rattle.job.specs.Commands.{nameBytes, valueBytes, shapeAt, commandReading, readingNumber, readingPlaces}
+use Rattle.model.specs.Outcomes.{passing}
+use Rattle.job.specs.Commands.{nameBytes, valueBytes, shapeAt, commandReading, readingPlaces}
 use Rattle.job.specs.declared.types.Kind.{Kind}
 use Rattle.job.specs.declared.types.Shape.{Shape}
 use Rattle.job.proofs.KindLaws.{agrees}
-use Rattle.job.proofs.ReadingLaws.{read-with, placesWith, outcomeWith}
+use Rattle.job.proofs.ReadingLaws.{read-with, placesWith, readingWith}
 use Rattle.job.proofs.reading.read_command.Statement.{statement}
 use Rattle.job.proofs.reading.read_command.Tie as tie
 
@@ -36,18 +36,18 @@ module _ (a : tie.After-shape-of) where
 
   -- the first n places are passed: what is read is what those behind say
   abbrev Left : ℕ → Type 0
-  Left n = commandReading job k count at ≡ outcomeWith job k count at s (firstRefusal (drop n (placesWith job k count at s)))
+  Left n = commandReading job k count at ≡ readingWith job k count at s (drop n (placesWith job k count at s))
 
 -- ---- the tests that failed
 
 left1 : (a : tie.After-shape-of) → Left a 1
-unfolding firstRefusal
+unfolding passing
 left1 a =
     rw (read-with (job a) (k a) (count a) (at a) (s a) (a .shape-of .ensures))
     (simp (lt-leb (length (job a)) (at a) (a .before .before .if1 .left)))
 
 left2 : (c : tie.Else2) → Left (c .before .before) 2
-unfolding firstRefusal
+unfolding passing
 left2 c = rw (left1 (c .before .before)) (simp (sym (c .before .is-bad-kind .ensures) ∙ c .if2 .left))
 
 module _ (c : tie.Else3) where
@@ -71,34 +71,34 @@ module _ (c : tie.Else3) where
       omega (arith, room)
 
   left3 : Left a3 3
-  unfolding firstRefusal
+  unfolding passing
   left3 = rw (left2 (c .before .before)) (simp (le-ltb (length (job a3)) (at a3 + 1 + s a3 .width) room))
 
 left4 : (c : tie.Else4) → Left (a3 (c .before .before)) 4
-unfolding firstRefusal
+unfolding passing
 left4 c = rw (left3 (c .before .before)) (simp (sym (c .before .has-bad-values .ensures) ∙ c .if4 .left))
 
 left5 : (c : tie.Else5) → Left (a3 (c .before .before .before .before)) 5
-unfolding firstRefusal
+unfolding passing
 left5 c = rw (left4 (c .before .before)) (simp (sym (c .before .has-bad-names .ensures) ∙ c .if5 .left))
 
 left6 : (c : tie.Else6) → Left (a3 (c .before .before .before .before .before .before)) 6
-unfolding firstRefusal
+unfolding passing
 left6 c =
     rw (left5 (c .before .before)) (simp (sym (c .before .is-full .ensures) ∙ c .if6 .left))
 
 -- ---- the needs
 
 returns : tie.Need-returns
-unfolding commandReading readingNumber readingPlaces firstRefusal
+unfolding commandReading readingPlaces passing
 returns c = simp (le-leb _ _ (c .if1 .taken))
 
 returns-2 : tie.Need-returns-2
-unfolding firstRefusal
+unfolding passing
 returns-2 c = rw (left1 (c .before .before)) (simp (sym (c .before .is-bad-kind .ensures) ∙ c .if2 .taken))
 
 returns-3 : tie.Need-returns-3
-unfolding firstRefusal
+unfolding passing
 returns-3 c =
     let d = c .before .before in
     let a = d .before .before in
@@ -109,27 +109,27 @@ has-bad-values-requires : tie.Need-has-bad-values-requires
 has-bad-values-requires c κs = values-fit c
 
 returns-4 : tie.Need-returns-4
-unfolding firstRefusal
+unfolding passing
 returns-4 c = rw (left3 (c .before .before)) (simp (sym (c .before .has-bad-values .ensures) ∙ c .if4 .taken))
 
 has-bad-names-requires : tie.Need-has-bad-names-requires
 has-bad-names-requires c κs = names-fit (c .before .before)
 
 returns-5 : tie.Need-returns-5
-unfolding firstRefusal
+unfolding passing
 returns-5 c = rw (left4 (c .before .before)) (simp (sym (c .before .has-bad-names .ensures) ∙ c .if5 .taken))
 
 returns-6 : tie.Need-returns-6
-unfolding firstRefusal
+unfolding passing
 returns-6 c =
     rw (left5 (c .before .before)) (simp (sym (c .before .is-full .ensures) ∙ c .if6 .taken))
 
 returns-7 : tie.Need-returns-7
-unfolding firstRefusal
+unfolding passing
 returns-7 c = rw (left6 (c .before .before .before)) (simp (sym (c .before .is-too-long .ensures) ∙ c .if7 .taken))
 
 returns-8 : tie.Need-returns-8
-unfolding firstRefusal
+unfolding passing
 returns-8 c = rw (left6 (c .before .before .before)) (simp (sym (c .before .is-too-long .ensures) ∙ c .if7 .left))
 
 pub read-command-spec : {M : Type 1} → statement M

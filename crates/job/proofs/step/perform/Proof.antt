@@ -14,6 +14,7 @@ use Rattle.job.specs.declared.types.Kind.{Kind}
 use Rattle.job.specs.declared.types.Kind.the-variants.{End, Edition, Result, Unknown}
 use Rattle.job.proofs.Results.{holds-all}
 use Rattle.job.proofs.StepLaws.{names-below}
+use Rattle.job.proofs.OperationLaws.{model-storable}
 use borrow.Author.Needs.{needs}
 use Rattle.job.proofs.step.perform.Statement.{statement}
 use Rattle.job.proofs.step.perform.Tie as tie
@@ -47,7 +48,7 @@ add-result-requires c κs =
     let s = q .before .before .before in
     let g = s .args in
     let p = rw (k .1) at (s .pre .0) in
-    (p .long, (leb-false maxResults (g .count) (p .space), d .operate .ensures .0 .storable))
+    (p .long, (leb-false maxResults (g .count) (p .space), model-storable (d .operate .result) (d .operate .ensures .0 .storable)))
 
 returns : tie.Need-returns
 returns c =

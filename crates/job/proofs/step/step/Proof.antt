@@ -1,7 +1,7 @@
 -- `step::step` meets its contract.
 use mathlib.Core.Path.{refl, ap, sym, subst⁻¹, _∙_}
 use denote.Ref.{now}
-use Rattle.model.specs.Models.{numberOf}
+use Rattle.model.specs.Outcomes.{numberOf}
 use Rattle.job.specs.Commands.{commandReadingOf}
 use Rattle.job.specs.Steps.{Stepped}
 use Rattle.job.specs.declared.types.Step.the-variants.{Refused}
