@@ -29,3 +29,4 @@ pub mod ExactExists
 pub mod ExampleValues
 pub mod ExampleBoxes
 pub mod ExampleUse
+pub mod FormatExamples
