@@ -40,6 +40,9 @@ lawful (root i h w) rs = record { number-is = refl; numbered = omega arith }
 pub operation-passed : (m : Maker) (rs : List Model) → Passed (makerPlaces m rs) → operation m rs .number ≡ 0
 operation-passed m rs f = lawful m rs .number-is ∙ first-refusal-zero (makerPlaces m rs) (lawful m rs .numbered) .1 f
 
+pub operation-refuses : (m : Maker) (rs : List Model) {n : ℕ} → First (makerPlaces m rs) n → (operation m rs .number ≡ n) × (0 < n)
+operation-refuses m rs f = (lawful m rs .number-is ∙ first-is f, first-positive (lawful m rs .numbered) f)
+
 pub reading-numbered : (job : List ℕ) (k count at : ℕ) → Numbered (readingPlaces job k count at)
 unfolding readingPlaces
 reading-numbered job k count at = omega arith
@@ -90,14 +93,13 @@ resulting-takes rs next o e = rw e
 
 -- a place of the operation that holds: a refusal
 module _ (rs : List Model) (next n : ℕ) where
-  nowhere : First [] n → ⊥
+  pub nowhere : First [] n → ⊥
   unfolding firstRefusal
   nowhere f = omega (arith, first-positive tt f, first-is f)
 
   performed-refuses : (c : Command) → First (operationPlaces c rs) n → performed c rs next ≡ refused n
   performed-refuses edition f = absurd (nowhere f)
-  performed-refuses (result m) f =
-      resulting-refuses rs next n (operation m rs) (lawful m rs .number-is ∙ first-is f) (first-positive (lawful m rs .numbered) f)
+  performed-refuses (result m) f = let r = operation-refuses m rs f in resulting-refuses rs next n (operation m rs) (r .0) (r .1)
   performed-refuses finish f = absurd (nowhere f)
   performed-refuses unknown f = absurd (nowhere f)
 
