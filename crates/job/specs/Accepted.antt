@@ -1,17 +1,17 @@
 -- An accepted job reads well, and its results are made by the commands that its bytes hold.
 use mathlib.Core.Path.{_≡_, refl, ap, sym, _∙_}
-use mathlib.Core.Bool.{Bool, true, false, true≢false}
+use mathlib.Core.Bool.{Bool, true, false, cond, true≢false}
 use mathlib.Core.List.{List, [], _∷_, _++_}
 use Prim.Native.Nat.{ℕ, suc, _+_, _-_}
 use native.Mathlib.Omega.{arith}
 use lib.ListN.{length}
-use Rattle.model.specs.Outcomes.{Passed}
+use Rattle.model.specs.Outcomes.{passing, Passed}
 use Rattle.model.specs.PlaceLaws.{passing-passed}
 use Rattle.model.specs.declared.types.Model.{Model}
 use Rattle.job.specs.Commands.{Command, edition, result, finish, unknown, commandAt, shapeAt, commandRead, nextAt, badKind, badNames, isEnd, readingPlaces}
 use Rattle.job.specs.Outcomes.{accepted}
 use Rattle.job.specs.Jobs.{jobOf}
-use Rattle.job.specs.JobReading.{JobReading, well, readOn, readFrom, jobReading, ReadsWell}
+use Rattle.job.specs.JobReading.{JobReading, well, ill, readOn, readFrom, jobReading, ReadsWell}
 use Rattle.job.specs.PlaceLaws.{passed-front}
 use Rattle.job.specs.Order.{operationPlaces, resultsAfter, placesOf, isLast, Reaches, start, next}
 use Rattle.job.specs.CommandLaws.{isEnd-is, operation-passed, command-readable, command-passed}
@@ -44,47 +44,48 @@ made-after finish d n f = d
 made-after unknown d n f = d
 
 -- command k, reached with the results rs: reading comes there with their commands cs
-record Reached (job : List ℕ) (k : ℕ) (rs : List Model) (at : ℕ) : Type 0 where
-  cs : List Command
-  made : Made cs rs
-  left : readFrom (length job + 1 - k) job k cs at ≡ jobReading job
+pub record Reached (job : List ℕ) (k : ℕ) (rs : List Model) (at : ℕ) : Type 0 where
+  pub cs : List Command
+  pub made : Made cs rs
+  pub left : readFrom (length job + 1 - k) job k cs at ≡ jobReading job
 
-module _ {job : List ℕ} {k : ℕ} {rs : List Model} {at : ℕ} (r : Reaches job k rs at) (h : Reached job k rs at)
-    (f : Passed (placesOf job k rs at)) where
+module _ {job : List ℕ} {k : ℕ} {rs : List Model} {at : ℕ} (r : Reaches job k rs at) (h : Reached job k rs at) where
   abbrev c : Command
   c = commandRead job k (length rs) at
 
   abbrev kind : Kind
   kind = shapeAt job k (length rs) at .kind
 
-  abbrev onward : List Command → JobReading
+  abbrev pub onward : List Command → JobReading
   onward cs = readFrom (length job + 1 - (k + 1)) job (k + 1) cs (nextAt job k (length rs) at)
 
   abbrev reading : List (Bool × ℕ)
   reading = readingPlaces job k (length rs) at
 
-  reading-passed : Passed (readingPlaces job k (length (h .cs)) at)
-  unfolding placesOf
-  reading-passed = rw (made-length (h .made)) (passed-front reading (operationPlaces c rs) f)
-
-  by-reading : readOn k onward (h .cs) c ≡ jobReading job
+  -- how reading goes on there
+  pub reads-there : passing reading (readOn k onward (h .cs) c) (λ n. ill n k) ≡ jobReading job
   unfolding readFrom
-  by-reading =
+  reads-there =
       let b = reaches-bounds r in
-      let e : length job + 1 - k ≡ suc (length job + 1 - (k + 1)) = omega (arith, b) in
-      sym (ap (λ (f : ℕ). readFrom f job k (h .cs) at) e ∙ passing-passed (readingPlaces job k (length (h .cs)) at) _ _ reading-passed) ∙ h .left
+      let f : length job + 1 - k ≡ suc (length job + 1 - (k + 1)) = omega (arith, b) in
+      sym (ap (λ (f : ℕ). readFrom f job k (h .cs) at) f ∙ rw (made-length (h .made))) ∙ h .left
 
-  reached-next : isLast job k rs at ≡ false → Reached job (k + 1) (resultsAfter c rs) (nextAt job k (length rs) at)
-  reached-next e = record {
-    cs = commandsAfter c (h .cs);
-    made = made-after c (h .made) (command-readable job k rs at f .names-good) (command-passed job k rs at f);
-    left = sym (reads-on onward (h .cs) job k at kind e (command-readable job k rs at f .kind-good)) ∙ by-reading;
-  }
+  module _ (f : Passed (placesOf job k rs at)) where
+    by-reading : readOn k onward (h .cs) c ≡ jobReading job
+    unfolding placesOf
+    by-reading = sym (passing-passed reading _ _ (passed-front reading (operationPlaces c rs) f)) ∙ reads-there
 
-  reached-end : isLast job k rs at ≡ true → jobReading job ≡ well (h .cs)
-  reached-end e = sym by-reading ∙ ap (λ (x : Kind). readOn k onward (h .cs) (commandAt x job at)) (isEnd-is kind e)
+    reached-next : isLast job k rs at ≡ false → Reached job (k + 1) (resultsAfter c rs) (nextAt job k (length rs) at)
+    reached-next e = record {
+      cs = commandsAfter c (h .cs);
+      made = made-after c (h .made) (command-readable job k rs at f .names-good) (command-passed job k rs at f);
+      left = sym (reads-on onward (h .cs) job k at kind e (command-readable job k rs at f .kind-good)) ∙ by-reading;
+    }
 
-reached : {job : List ℕ} {k : ℕ} {rs : List Model} {at : ℕ} → Reaches job k rs at → Reached job k rs at
+    reached-end : isLast job k rs at ≡ true → jobReading job ≡ well (h .cs)
+    reached-end e = sym by-reading ∙ ap (λ (x : Kind). readOn k onward (h .cs) (commandAt x job at)) (isEnd-is kind e)
+
+pub reached : {job : List ℕ} {k : ℕ} {rs : List Model} {at : ℕ} → Reaches job k rs at → Reached job k rs at
 unfolding jobReading
 reached {job} start = record { cs = []; made = nothing; left = ap (λ (f : ℕ). readFrom f job 0 [] 0) (omega arith) }
 reached (next r f e) = reached-next r (reached r) f e

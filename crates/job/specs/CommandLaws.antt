@@ -29,6 +29,10 @@ unfolding operation
 operation-passed m rs f =
     let e = outcome-passed (makerPlaces m rs) (givenIn (rowOf m) rs .certificate) zeroCertificate f in e ∙ ap accepted (ap values (sym e))
 
+pub operation-refuses : (m : Maker) (rs : List Model) {n : ℕ} → First (makerPlaces m rs) n → operation m rs ≡ Outcome.refused n zeroCertificate
+unfolding operation
+operation-refuses m rs f = passing-first (accepted (givenIn (rowOf m) rs .certificate)) (λ k. Outcome.refused k zeroCertificate) f
+
 -- ---- reading without a refusal
 
 -- two bytes that name results name earlier ones
@@ -68,14 +72,13 @@ isEnd-is Unknown e = absurd (false≢true e)
 
 -- a place of the operation that holds: a refusal
 module _ (rs : List Model) (next n : ℕ) where
-  nowhere : First [] n → ⊥
+  pub nowhere : First [] n → ⊥
   unfolding passing
   nowhere f = let z : _≡_ {A = ℕ} 0 1 = passing-first 0 (λ m. 1) f in omega arith
 
   performed-refuses : (c : Command) → First (operationPlaces c rs) n → performed c rs next ≡ refused n
-  unfolding operation
   performed-refuses edition f = absurd (nowhere f)
-  performed-refuses (result m) f = rw (passing-first (accepted (givenIn (rowOf m) rs .certificate)) (λ n. Outcome.refused n zeroCertificate) f)
+  performed-refuses (result m) f = ap (resulting rs next) (operation-refuses m rs f)
   performed-refuses finish f = absurd (nowhere f)
   performed-refuses unknown f = absurd (nowhere f)
 

@@ -1,14 +1,12 @@
 -- One job with every command that makes a result, as bytes; its commands, and its results as 01 gives them.
 use mathlib.Core.Path.{_≡_, refl}
 use mathlib.Core.List.{List, [], _∷_, _++_}
-use Prim.Native.Nat.{ℕ, _*_, _-_, _/_, _%_}
-use lib.IntN.{ℤ, pos}
-use lib.ListN.{replicate, length}
+use Prim.Native.Nat.{ℕ}
 use Rattle.integer.specs.Rounding.{upℕ, near, floor}
 use Rattle.chebyshev.specs.Coefficients.{weight, addLists, subtractLists, scaleList}
 use Rattle.chebyshev.specs.Product.{addAt, addPair, addRow, addRows, product}
 use Rattle.chebyshev.specs.Sign.{coefficientSum}
-use Rattle.model.specs.Models.{makeModel, good, tooLarge, zeroModel}
+use Rattle.model.specs.Models.{good, tooLarge, zeroModel}
 use Rattle.model.specs.Outcomes.{passing}
 use Rattle.model.specs.Operations.{sumModel, differenceModel, productModel, productList, productLoss, rounded, roundingLoss}
 use Rattle.model.specs.declared.types.Model.{Model}
@@ -19,25 +17,7 @@ use Rattle.job.specs.Commands.{Command, result, makerAt, readingPlaces}
 use Rattle.job.specs.JobReading.{readFrom, jobReading, well}
 use Rattle.job.specs.Outcomes.{accepted}
 use Rattle.job.specs.Jobs.{command, run, jobOf}
-
--- ---- bytes and models from their first coefficients, none of them negative
-
--- natural numbers as four bytes each, the lowest first
-abbrev pub wordsOf : List ℕ → List ℕ
-wordsOf [] = []
-wordsOf (n ∷ ns) = n % 256 ∷ n / 256 % 256 ∷ n / 65536 % 256 ∷ n / 16777216 % 256 ∷ wordsOf ns
-
-abbrev pub block : ℕ → List ℕ → List ℕ
-block n cs = n ∷ (wordsOf cs ++ replicate (132 - 4 * length cs) 0)
-
-abbrev positives : List ℕ → List ℤ
-positives [] = []
-positives (n ∷ ns) = pos n ∷ positives ns
-
-abbrev pub modelBy : ℕ → List ℕ → ℕ → Model
-modelBy n cs e = makeModel n (positives cs ++ replicate (33 - length cs) (pos 0)) e
-
--- ---- the job
+use Rattle.job.specs.ExampleBytes.{wordsOf, block, modelBy}
 
 -- edition 1; the commands below; end
 abbrev pub exampleJob : List ℕ
@@ -82,7 +62,7 @@ exampleResults =
     ∷ []
 
 pub example-read : jobReading exampleJob ≡ well exampleCommands
-unfolding jobReading readFrom readingPlaces passing makerAt signedsAt
+unfolding jobReading readFrom readingPlaces makerAt signedsAt passing
 example-read = refl
 
 pub example-run : jobOf exampleJob ≡ accepted exampleResults

@@ -22,7 +22,8 @@ use Rattle.model.specs.Models.{scale}
 use Rattle.model.specs.Values.{position, AllowsAt, Allows}
 use Rattle.model.specs.ValueLaws.{valueAt, valueAt-append-zeros}
 use Rattle.model.specs.declared.types.Model.{Model}
-use Rattle.job.specs.ExampleJob.{modelBy, exampleCommands}
+use Rattle.job.specs.ExampleJob.{exampleCommands}
+use Rattle.job.specs.ExampleBytes.{modelBy}
 use Rattle.job.specs.ExactValues.{Exact, load-value, add-value, subtract-value, multiply-value, quotient-value, root-value}
 
 abbrev pub third : ℚ

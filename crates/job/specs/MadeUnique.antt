@@ -1,7 +1,7 @@
--- The commands fix the results.
+-- The commands fix the results, the first ones the first results.
 use mathlib.Core.Path.{_≡_, refl, ap, ap₂, sym, _∙_}
 use mathlib.Core.List.{List, [], _∷_, _++_}
-use Prim.Native.Nat.{ℕ, zero, suc, _≤_}
+use Prim.Native.Nat.{ℕ, zero, suc, _≤_, _<_}
 use native.Mathlib.Omega.{arith}
 use lib.ListN.{length, take}
 use lib.Seq.{take-suc, take-length}
@@ -22,20 +22,18 @@ made-same (result m) before i b b′ =
 made-same finish before i b b′ = absurd b
 made-same unknown before i b b′ = absurd b
 
-module _ {cs : List Command} {rs rs′ : List Model} (d : Made cs rs) (d′ : Made cs rs′) where
-  abbrev both-lengths : length rs ≡ length rs′
-  both-lengths = sym (made-length d) ∙ made-length d′
-
-  same-before : (i : ℕ) → i ≤ length rs → take i rs ≡ take i rs′
-  same-before zero h = refl
-  same-before (suc i) h =
-      let t = same-before i (omega arith) in
-      let b : MadeBy (commandOf cs i) (take i rs′) i (resultAt rs i) = rw t at (made-at d i (omega arith)) in
+module _ {cs cs′ : List Command} {rs rs′ : List Model} (d : Made cs rs) (d′ : Made cs′ rs′) where
+  -- the same commands at first, the same results
+  pub same-first : (n : ℕ) → n ≤ length rs → n ≤ length rs′ → ((i : ℕ) → i < n → commandOf cs i ≡ commandOf cs′ i) → take n rs ≡ take n rs′
+  same-first zero h h′ c = refl
+  same-first (suc i) h h′ c =
+      let t = same-first i (omega arith) (omega arith) (λ j l. c j (omega arith)) in
+      let b : MadeBy (commandOf cs′ i) (take i rs′) i (resultAt rs i) = rw (t, c i (omega arith)) at (made-at d i (omega arith)) in
       take-suc rs i zeroModel (omega arith)
-      ∙ ap₂ (λ (l : List Model) (m : Model). l ++ (m ∷ [])) t
-      (made-same (commandOf cs i) (take i rs′) i b (made-at d′ i (omega (arith, both-lengths))))
-      ∙ sym (take-suc rs′ i zeroModel (omega (arith, both-lengths)))
+      ∙ ap₂ (λ (l : List Model) (m : Model). l ++ (m ∷ [])) t (made-same (commandOf cs′ i) (take i rs′) i b (made-at d′ i (omega arith)))
+      ∙ sym (take-suc rs′ i zeroModel (omega arith))
 
-  pub made-unique : rs ≡ rs′
-  made-unique =
-      sym (take-length rs) ∙ same-before (length rs) (omega arith) ∙ ap (λ (n : ℕ). take n rs′) both-lengths ∙ take-length rs′
+pub made-unique : {cs : List Command} {rs rs′ : List Model} → Made cs rs → Made cs rs′ → rs ≡ rs′
+made-unique {cs} {rs} {rs′} d d′ =
+    let n : length rs ≡ length rs′ = sym (made-length d) ∙ made-length d′ in
+    sym (take-length rs) ∙ same-first d d′ (length rs) (omega arith) (omega arith) (λ i h. refl) ∙ ap (λ (k : ℕ). take k rs′) n ∙ take-length rs′

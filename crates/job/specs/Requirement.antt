@@ -1,8 +1,8 @@
 -- Requirement 3 as one definition, `Requirement3`, the owner's sentences beside its fields, 01's beside what they speak of. What
--- else a reader believes:
---   the commands in the bytes, signed numbers among them: Bytes, Commands, JobReading
+-- else a reader believes, besides the library's numbers and lists:
+--   the commands in the bytes, signed numbers among them: Bytes, Commands, JobReading; the kinds of src/types.rt
 --   what each command gives: Makers; model's Models, Operations; certificate's Tests; chebyshev's Coefficients, Product, Sign;
---     integer's Rounding, Integer
+--     integer's Rounding, Ring, Integer
 --   what refusals there are, and their order: `Meets` of Order, `areaPlaces` of Work, `Passed` of model's Outcomes
 --   what the code's answer means: `jobOutcomeOf` of Outcomes
 --   where the models stand in the work area: `stretch`, `modelsIn` of Work; model's Areas
