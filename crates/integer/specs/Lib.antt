@@ -12,6 +12,7 @@ pub mod FractionInverse
 pub mod FractionLinear
 pub mod Rounding
 pub mod RoundingLaws
+pub mod RoundingExamples
 pub mod RoundingSize
 pub mod FractionRounding
 pub mod Archimedean

@@ -8,7 +8,7 @@ use native.Mathlib.Omega.{arith}
 use lib.IntN.{ℤ, pos, natAbs, _+ℤ_, _-ℤ_, _*ℤ_}
 use lib.ListN.{length, getD, take, length-take}
 use lib.Seq.{getD-take}
-use lib.Signed.{ltZ-yes, leZ-yes}
+use lib.Signed.{ltZ-yes}
 use mir.Syntax.{w32, w64}
 use mir.Val.{SFits, toZ}
 use mir.Facts.{toZ-ofZ}
@@ -171,7 +171,7 @@ mul-near-2 : tie.Need-mul-near-2 Inv-loop μ-loop
 mul-near-2 m = simp (toZ-ofZ (fits-p (l (m .before))), toZ-ofZ (fits-twice (m .before))) (fits-numerator (m .before))
 
 near-requires : tie.Need-near-requires Inv-loop μ-loop
-near-requires c κs = (ltZ-yes tt, leZ-yes tt)
+near-requires c κs = ltZ-yes tt
 
 sub-after : tie.Need-sub-after Inv-loop μ-loop
 sub-after n = simp (toZ-ofZ (fits-near n)) (fits-after n)

@@ -12,7 +12,6 @@ use mir.Val.{SFits, toZ}
 use mir.Facts.{toZ-ofZ, toZ-pos}
 use Rattle.integer.specs.Parts.{abs-sub}
 use Rattle.integer.specs.Difference.{<-parts}
-use Rattle.integer.specs.Order.{pos-le}
 use Rattle.integer.specs.Machine.{abs-fits, fits-widens, signed-needs}
 use Rattle.chebyshev.specs.Coefficients.{weight as weightOf}
 use Rattle.chebyshev.specs.Weight.{weight-at, weight-take}
@@ -133,7 +132,7 @@ cast-near : tie.Need-cast-near Inv-loop μ-loop
 cast-near b = abs-fits w64 _ (omega (arith, inside (l b), s (l b) .pre))
 
 near-requires : tie.Need-near-requires Inv-loop μ-loop
-near-requires b κs = rw (divisor-is b) (<-parts (pos 0) (pos (2 * k (l b))) .1 (omega arith), pos-le _ _ (omega (arith, inside (l b), s (l b) .pre)))
+near-requires b κs = rw (divisor-is b) (<-parts (pos 0) (pos (2 * k (l b))) .1 (omega arith))
 
 cast-coefficients : tie.Need-cast-coefficients Inv-loop μ-loop
 cast-coefficients n = simp (toZ-ofZ (fits-c n)) (fits-c-32 n)

@@ -8,7 +8,7 @@ use native.Mathlib.Omega.{arith}
 use lib.IntN.{ℤ, pos, natAbs, _-ℤ_, _*ℤ_}
 use lib.ListN.{length, getD, take, drop, set, length-drop}
 use lib.Seq.{length-take-le, getD-take, take-all}
-use lib.Signed.{leZ-yes, ltZ-yes}
+use lib.Signed.{ltZ-yes}
 use mir.Syntax.{w64, w32}
 use mir.Val.{SFits}
 use mir.Facts.{toZ-ofZ}
@@ -60,7 +60,7 @@ shared-slice-copy-out-exact : tie.Need-shared-slice-copy-out-exact Inv-loop μ-l
 shared-slice-copy-out-exact c = omega (arith, c .before .before .before .before .pre)
 
 near-requires : tie.Need-near-requires Inv-loop μ-loop
-near-requires c κs = (ltZ-yes tt, leZ-yes tt)
+near-requires c κs = ltZ-yes tt
 
 -- in a turn, with q rounded
 module _ (c : tie.After-near Inv-loop μ-loop) where
