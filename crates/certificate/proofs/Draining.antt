@@ -5,7 +5,8 @@ use Prim.Native.Nat.{ℕ, _+_, _≤_, _<_}
 use native.Mathlib.Omega.{arith}
 use lib.IntN.{ℤ, pos, natAbs}
 use lib.ListN.{length, getD, set, drop}
-use Rattle.integer.specs.Clearing.{Clearing, clearing-begins, clearing-turn, clearing-ends, zeros}
+use Rattle.integer.specs.Clearing.{Clearing, clearing-begins, clearing-turn, clearing-ends}
+use Rattle.integer.specs.Lists.{zeros}
 use Rattle.chebyshev.specs.Coefficients.{weight}
 use Rattle.chebyshev.specs.Weight.{weight-step, weight-end}
 

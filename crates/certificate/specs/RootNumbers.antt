@@ -6,8 +6,7 @@ use lib.Dec.{eqb}
 use lib.IntN.{pos}
 use lib.Signed.{leZ}
 use borrow.Author.Tests.{lt-ltb, le-ltb, le-leb, lt-leb}
-use Rattle.chebyshev.specs.Coefficients.{weight}
-use Rattle.chebyshev.specs.Sign.{coefficientSum}
+use Rattle.chebyshev.specs.Coefficients.{weight, coefficientSum}
 use Rattle.model.specs.Models.{scale, maxRadius, good, numberOf, firstRefusal}
 use Rattle.model.specs.declared.types.Model.{Model}
 use Rattle.certificate.specs.Tests.{scratchPlaces, rootPlaces, rootContraction, rootResidual, displacement}

@@ -9,8 +9,7 @@ use lib.IntN.{pos}
 use lib.Signed.{_<ℤ_}
 use borrow.Author.Tests.{ltb-false, leb-false, not-false, ne-eqb}
 use Rattle.integer.specs.Machine.{le-false}
-use Rattle.chebyshev.specs.Coefficients.{weight}
-use Rattle.chebyshev.specs.Sign.{coefficientSum}
+use Rattle.chebyshev.specs.Coefficients.{weight, coefficientSum}
 use Rattle.model.specs.Models.{scale, maxRadius, good, tooLarge, firstRefusal}
 use Rattle.model.specs.RefusalLaws.{first-refusal-zero}
 use Rattle.model.specs.declared.types.Model.{Model}

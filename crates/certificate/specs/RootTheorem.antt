@@ -11,8 +11,7 @@ use lib.IntN.{pos}
 use lib.Signed.{_<ℤ_}
 use Rattle.integer.specs.Integer.{ℤ-ring}
 use Rattle.integer.specs.Rounding.{upℕ}
-use Rattle.chebyshev.specs.Coefficients.{weight, subtractLists, scaleList}
-use Rattle.chebyshev.specs.Sign.{coefficientSum}
+use Rattle.chebyshev.specs.Coefficients.{weight, subtractLists, scaleList, coefficientSum}
 use Rattle.model.specs.Models.{scale, productPlaces, good, modelOf}
 use Rattle.model.specs.declared.types.Model.{Model}
 use Rattle.certificate.specs.Tests.{scratchPlaces, rootOf, rootModel, rootContraction, rootResidual, displacement}

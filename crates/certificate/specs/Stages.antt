@@ -8,7 +8,7 @@ use lib.Dec.{ltb}
 use lib.IntN.{ℤ}
 use lib.ListN.{length, drop}
 use borrow.Author.Tests.{ne-eqb, lt-ltb, le-ltb, le-leb, lt-leb}
-use Rattle.integer.specs.Clearing.{zeros}
+use Rattle.integer.specs.Lists.{zeros}
 use Rattle.chebyshev.specs.Coefficients.{weight}
 use Rattle.model.specs.Models.{scale, maxDegree, maxWeight, maxRadius, good, tooLarge, modelOf, zeroModel, firstRefusal}
 use Rattle.model.specs.ModelLaws.{good-is}

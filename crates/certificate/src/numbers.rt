@@ -3,7 +3,7 @@ ghost use mathlib.Core.Path.{_≡_};
 ghost use mathlib.Core.Bool.{true};
 ghost use Prim.Native.Nat.{_+_, _*_, _-_, _≤_, _<_, _^_};
 ghost use Rattle.integer.specs.Rounding.{upℕ};
-ghost use Rattle.integer.specs.Clearing.{zeros};
+ghost use Rattle.integer.specs.Lists.{zeros};
 ghost use Rattle.chebyshev.specs.Coefficients.{weight as weightOf};
 ghost use Rattle.model.specs.Models.{scale, maxWeight, maxRadius, good, candidateModel};
 ghost use Rattle.certificate.specs.Tests.{scratchPlaces, quotientContraction, quotientResidual, rootContraction, rootResidual};

@@ -2,7 +2,7 @@
 ghost use mathlib.Core.Path.{_≡_};
 ghost use mathlib.Core.Bool.{true};
 ghost use lib.ListN.{length};
-ghost use Rattle.integer.specs.Clearing.{zeros};
+ghost use Rattle.integer.specs.Lists.{zeros};
 ghost use Rattle.chebyshev.specs.Coefficients.{weight};
 ghost use Rattle.model.specs.Models.{good, candidateModel};
 ghost use Rattle.certificate.specs.Tests.{scratchPlaces, scratchAfter, testOf, quotientTest};

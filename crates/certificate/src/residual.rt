@@ -5,7 +5,7 @@ ghost use Prim.Native.Nat.{suc, _+_, _*_, _≤_, _<_, _^_};
 ghost use lib.IntN.{natAbs};
 ghost use lib.ListN.{length, take, drop};
 ghost use Rattle.integer.specs.Integer.{ℤ-ring};
-ghost use Rattle.integer.specs.Clearing.{zeros};
+ghost use Rattle.integer.specs.Lists.{zeros};
 ghost use Rattle.chebyshev.specs.Coefficients.{weight};
 ghost use Rattle.chebyshev.specs.Product.{product};
 ghost use Rattle.model.specs.Models.{scale, places, maxDegree};

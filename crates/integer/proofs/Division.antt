@@ -3,13 +3,13 @@ use mathlib.Core.Path.{_≡_, _∙_}
 use Prim.Native.Nat.{ℕ, _+_, _*_, _≤_, _<_}
 use native.Mathlib.Omega.{arith}
 use native.Mathlib.Nat.{mul-le-mul-left}
-use lib.IntN.{ℤ, pos, negℤ, natAbs, _+ℤ_, _-ℤ_, _*ℤ_}
-use lib.Signed.{_≤ℤ_, _<ℤ_, quotZ, remZ}
+use lib.IntN.{ℤ, pos, natAbs, _+ℤ_, _-ℤ_, _*ℤ_}
+use lib.Signed.{_<ℤ_, quotZ, remZ}
 use mir.Syntax.{w64}
 use mir.Val.{SFits, toZ, ofZ}
 use mir.Facts.{toZ-ofZ}
-use Rattle.integer.specs.Parts.{_⁺, _⁻, abs, apart, sum, difference, opposite, product}
-use Rattle.integer.specs.Difference.{all2, all3, differences, ≤-parts, <-parts}
+use Rattle.integer.specs.Parts.{_⁺, _⁻, abs, apart, sum, difference}
+use Rattle.integer.specs.Difference.{all3, differences}
 use Rattle.integer.specs.Machine.{fits, within, is-positive, positive-bits, Truncated, truncated}
 use Rattle.integer.specs.Rounding.{floor, up, near}
 use Rattle.integer.specs.RoundingLaws.{floor-left, up-left, near-left}

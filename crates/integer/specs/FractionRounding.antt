@@ -3,10 +3,11 @@ use mathlib.Core.Path.{_≡_}
 use Prim.Native.Nat.{ℕ, _+_, _*_, _<_, _≤_}
 use native.Mathlib.Omega.{arith}
 use lib.IntN.{pos}
-use Rattle.integer.specs.OrderedRing.{_⟨≼⟩_, abs-scale}
+use Rattle.integer.specs.OrderedRingLaws.{_⟨≼⟩_, abs-scale}
 use Rattle.integer.specs.Order.{pos-le, le-pos}
-use Rattle.integer.specs.Fraction.{ℚ, whole, _+ℚ_, _*ℚ_, whole-add, whole-mul}
-use Rattle.integer.specs.FractionOrder.{_≤ℚ_, _<ℚ_, ∣_∣ℚ, ℚ-ordered, whole-le}
+use Rattle.integer.specs.Fraction.{ℚ, whole, _+ℚ_, _*ℚ_, _≤ℚ_, _<ℚ_, ∣_∣ℚ}
+use Rattle.integer.specs.FractionLaws.{whole-add, whole-mul}
+use Rattle.integer.specs.FractionOrder.{ℚ-ordered, whole-le}
 use Rattle.integer.specs.Rounding.{upℕ}
 use Rattle.integer.specs.RoundingLaws.{le-upℕ}
 

@@ -2,11 +2,19 @@ pub mod Parts
 pub mod Difference
 pub mod Polynomial
 pub mod Ring
+pub mod Solver
 pub mod Integer
+pub mod IntegerSolver
 pub mod OrderedRing
+pub mod OrderedRingLaws
 pub mod Order
 pub mod Embedding
+pub mod Pairs
+pub mod PairLaws
 pub mod Fraction
+pub mod FractionLaws
+pub mod FractionRing
+pub mod FractionSolver
 pub mod FractionOrder
 pub mod FractionInverse
 pub mod FractionLinear
@@ -17,6 +25,7 @@ pub mod RoundingSize
 pub mod FractionRounding
 pub mod Archimedean
 pub mod Machine
+pub mod Lists
 pub mod Filling
 pub mod Clearing
 pub mod Examples

@@ -1,4 +1,4 @@
--- Division of a whole number n by a natural divisor d ≥ 1, rounded.
+-- Division of a whole number n by a natural divisor d ≥ 1, rounded. RoundingLaws.antt has the bounds that fix each.
 use Prim.Native.Nat.{ℕ, _+_, _-_, _*_, _/_}
 use lib.IntN.{ℤ, pos, negsuc, negℤ, _+ℤ_, _*ℤ_}
 

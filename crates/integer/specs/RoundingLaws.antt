@@ -8,7 +8,7 @@ use lib.IntN.{ℤ, pos, negsuc, negℤ, natAbs, _+ℤ_, _-ℤ_, _*ℤ_}
 use lib.Signed.{_≤ℤ_, _<ℤ_}
 use Rattle.integer.specs.Parts.{_⁺, _⁻, abs, sum, product, opposite, difference, apart}
 use Rattle.integer.specs.Difference.{all1, all2, all3, differences, ≤-parts, <-parts}
-use Rattle.integer.specs.OrderedRing.{mul-left}
+use Rattle.integer.specs.OrderedRingLaws.{mul-left}
 use Rattle.integer.specs.Order.{ℤ-ordered, decide, not-le→lt, pos-le, ∣_∣, ∣∣-is}
 use Rattle.integer.specs.Rounding.{floor, up, upℕ, near}
 

@@ -25,7 +25,7 @@ pub fn up(n: i64, d: i64) -> i64
 }
 
 // The nearest whole number to n / d, a tie going towards plus infinity, for every n. The remainder is compared with halves
-// of d: twice n or twice the remainder would not fit near both ends.
+// of d: twice n, or twice a remainder, need not fit.
 pub fn near(n: i64, d: i64) -> i64
     requires { ⌜ pos 0 <ℤ d ⌝ }
     ensures { λ r. ⌜ r ≡ nearOf n (natAbs d) ⌝ }

@@ -10,7 +10,8 @@ use lib.Seq.{drop-at}
 use Rattle.model.specs.declared.types.Verdict.the-variants.{ShortArea}
 use Rattle.certificate.specs.Tests.{scratchPlaces}
 use Rattle.certificate.specs.Stages.{scratch-cleared}
-use Rattle.integer.specs.Clearing.{zeros, length-zeros}
+use Rattle.integer.specs.Lists.{zeros}
+use Rattle.integer.specs.Clearing.{length-zeros}
 use Rattle.job.specs.Jobs.{jobOf}
 use Rattle.job.specs.Work.{workPlaces, workOf, areasFit, checkOf, workAfter, scratchAfterJob, answerOf, answered, resultsOf}
 use Rattle.job.specs.Steps.{Clear}

@@ -6,9 +6,7 @@ use mathlib.Core.Logic.{_⊎_}
 use mathlib.Core.List.{List}
 use Prim.Native.Nat.{ℕ, _<_}
 use lib.IntN.{ℤ, pos}
-use Rattle.integer.specs.Fraction.{ℚ, whole, _+ℚ_, _-ℚ_, _*ℚ_}
-use Rattle.integer.specs.FractionOrder.{_≤ℚ_, _<ℚ_}
-use Rattle.integer.specs.FractionInverse.{_/ℚ_}
+use Rattle.integer.specs.Fraction.{ℚ, whole, _+ℚ_, _-ℚ_, _*ℚ_, _≤ℚ_, _<ℚ_, _/ℚ_}
 use Rattle.model.specs.Values.{Allows, OnInterval}
 use Rattle.model.specs.declared.types.Model.{Model}
 use Rattle.job.specs.Makers.{load, add, subtract, multiply, quotient, root}

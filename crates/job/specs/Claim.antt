@@ -7,10 +7,9 @@ use native.Mathlib.Omega.{arith}
 use native.Mathlib.Decide.{decLt}
 use lib.IntN.{pos}
 use lib.ListN.{length, List·getD-eq-default}
-use Rattle.integer.specs.OrderedRing.{le-of-eq}
-use Rattle.integer.specs.Fraction.{ℚ, whole, _+ℚ_, _-ℚ_, _*ℚ_}
-use Rattle.integer.specs.FractionOrder.{_<ℚ_, ℚ-ordered}
-use Rattle.integer.specs.FractionInverse.{_/ℚ_}
+use Rattle.integer.specs.OrderedRingLaws.{le-of-eq}
+use Rattle.integer.specs.Fraction.{ℚ, whole, _+ℚ_, _-ℚ_, _*ℚ_, _<ℚ_, _/ℚ_}
+use Rattle.integer.specs.FractionOrder.{ℚ-ordered}
 use Rattle.model.specs.Values.{Allows, OnInterval}
 use Rattle.model.specs.RefusalLaws.{outcome-zero}
 use Rattle.model.specs.OperationsSound.{addition-sound, subtraction-sound, multiplication-sound}

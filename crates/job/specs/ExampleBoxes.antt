@@ -8,13 +8,17 @@ use native.Mathlib.Omega.{arith}
 use lib.IntN.{ℤ, pos, _*ℤ_}
 use lib.ListN.{replicate, getD}
 use lib.Signed.{_≤ℤ_, leZ-yes}
-use Rattle.integer.specs.OrderedRing.{le-refl, abs-of-nonneg}
-use Rattle.integer.specs.Fraction.{ℚ, whole, whole-is, _/1+_, _+ℚ_, _-ℚ_, _*ℚ_, fraction-add, fraction-mul, fraction-eq, fraction-exact, den-is, den-mul, ℚ-ring, reifyℚ, solveℚ}
-use Rattle.integer.specs.FractionOrder.{_≤ℚ_, _<ℚ_, ℚ-ordered, fraction-le, fraction-neg}
+use Rattle.integer.specs.OrderedRingLaws.{le-refl, abs-of-nonneg}
+use Rattle.integer.specs.Fraction.{ℚ, whole, _/1+_, _+ℚ_, _-ℚ_, _*ℚ_, _≤ℚ_, _<ℚ_, _/ℚ_}
+use Rattle.integer.specs.FractionLaws.{whole-is, fraction-add, fraction-mul, fraction-eq, fraction-exact}
+use Rattle.integer.specs.PairLaws.{den-is, den-mul}
+use Rattle.integer.specs.FractionRing.{ℚ-ring}
+use Rattle.integer.specs.FractionSolver.{reifyℚ, solveℚ}
+use Rattle.integer.specs.FractionOrder.{ℚ-ordered, fraction-le, fraction-neg}
 use Rattle.integer.specs.FractionRounding.{natural-le}
 use Rattle.integer.specs.Parts.{_⁺}
-use Rattle.integer.specs.FractionInverse.{_/ℚ_, inverse-right}
-use Rattle.chebyshev.specs.Kinds.{firstKind}
+use Rattle.integer.specs.FractionInverse.{inverse-right}
+use Rattle.chebyshev.specs.Recurrences.{firstKind}
 use Rattle.chebyshev.specs.Coefficients.{value, valueFrom}
 use Rattle.chebyshev.specs.CoefficientLaws.{value-constant}
 use Rattle.chebyshev.specs.Allows.{allows}

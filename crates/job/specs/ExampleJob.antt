@@ -4,9 +4,8 @@ use mathlib.Core.List.{List, [], _∷_, _++_}
 use Prim.Native.Nat.{ℕ, _+_, _/_, _%_}
 use lib.ListN.{replicate, length}
 use Rattle.integer.specs.Rounding.{upℕ, near, floor}
-use Rattle.chebyshev.specs.Coefficients.{weight, addLists, subtractLists, scaleList}
+use Rattle.chebyshev.specs.Coefficients.{weight, addLists, subtractLists, scaleList, coefficientSum}
 use Rattle.chebyshev.specs.Product.{addAt, addPair, addRow, addRows, product}
-use Rattle.chebyshev.specs.Sign.{coefficientSum}
 use Rattle.model.specs.Models.{firstRefusal, outcome, good, tooLarge, zeroModel}
 use Rattle.model.specs.Operations.{addition, subtraction, multiplication, sumModel, differenceModel, productModel, productList, productLoss, rounded, roundingLoss}
 use Rattle.certificate.specs.Tests.{tested, quotientOf, rootOf, rootPlaces, quotientContraction, quotientResidual, quotientModel, rootContraction, rootResidual, rootModel, displacement}

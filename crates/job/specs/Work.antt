@@ -6,7 +6,7 @@ use Prim.Native.Nat.{ℕ, _+_, _*_, _-_}
 use lib.Dec.{leb}
 use lib.IntN.{ℤ}
 use lib.ListN.{length, take, drop}
-use Rattle.integer.specs.Clearing.{zeros}
+use Rattle.integer.specs.Lists.{zeros}
 use Rattle.model.specs.Models.{numberOf}
 use Rattle.model.specs.Areas.{modelPlaces, words, areaModel}
 use Rattle.certificate.specs.Tests.{scratchPlaces}

@@ -4,7 +4,7 @@ ghost use mathlib.Core.List.{_++_};
 ghost use Prim.Native.Nat.{ℕ, _≤_};
 ghost use lib.ListN.{length, drop};
 ghost use Rattle.job.specs.Jobs.{jobOf};
-ghost use Rattle.integer.specs.Clearing.{zeros};
+ghost use Rattle.integer.specs.Lists.{zeros};
 ghost use Rattle.job.specs.Work.{workPlaces, workOf, resultsOf, checkOf, workAfter, scratchAfterJob, answerOf, answered};
 ghost use Rattle.job.specs.Steps.{Clear};
 ghost use Rattle.job.specs.Boxes.{Requirement3};

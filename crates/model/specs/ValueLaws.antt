@@ -5,9 +5,10 @@ use Prim.Native.Nat.{ℕ}
 use lib.IntN.{ℤ, pos}
 use lib.ListN.{replicate}
 use Rattle.integer.specs.Integer.{ℤ-ring}
-use Rattle.integer.specs.OrderedRing.{abs-le}
-use Rattle.integer.specs.Fraction.{ℚ, whole, _+ℚ_, _-ℚ_, -ℚ_, _*ℚ_, ℚ-ring}
-use Rattle.integer.specs.FractionOrder.{_≤ℚ_, ∣_∣ℚ, ℚ-ordered}
+use Rattle.integer.specs.OrderedRingLaws.{abs-le}
+use Rattle.integer.specs.Fraction.{ℚ, whole, _+ℚ_, _-ℚ_, -ℚ_, _*ℚ_, _≤ℚ_, ∣_∣ℚ}
+use Rattle.integer.specs.FractionRing.{ℚ-ring}
+use Rattle.integer.specs.FractionOrder.{ℚ-ordered}
 use Rattle.chebyshev.specs.Coefficients.{weight, value, addLists, subtractLists, scaleList}
 use Rattle.chebyshev.specs.CoefficientLaws.{value-add, value-subtract, value-scale, value-append-zeros, map-ι-add, map-ι-subtract, map-ι-scale, map-ι-zeros}
 use Rattle.chebyshev.specs.NormLaws.{value-bound, norm-whole}

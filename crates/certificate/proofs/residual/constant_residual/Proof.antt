@@ -6,7 +6,7 @@ use native.Mathlib.Omega.{arith}
 use mir.Syntax.{w64}
 use mir.Val.{toZ, ofZ}
 use mir.Facts.{toZ-ofZ}
-use Rattle.integer.specs.Clearing.{zeros}
+use Rattle.integer.specs.Lists.{zeros}
 use Rattle.chebyshev.specs.Coefficients.{weight}
 use Rattle.certificate.specs.Residuals.{constantResidual}
 use Rattle.certificate.proofs.Formed.{Formed, formed}

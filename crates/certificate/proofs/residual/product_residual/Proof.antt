@@ -5,7 +5,7 @@ use Prim.Native.Nat.{suc}
 use native.Mathlib.Omega.{arith}
 use lib.ListN.{length, take}
 use lib.Seq.{take-all}
-use Rattle.integer.specs.Clearing.{zeros}
+use Rattle.integer.specs.Lists.{zeros}
 use Rattle.chebyshev.specs.Coefficients.{weight}
 use Rattle.certificate.specs.Residuals.{residualList}
 use Rattle.certificate.proofs.Formed.{Formed, formed}

@@ -3,7 +3,7 @@ use borrow.Author.Needs.{needs}
 use mathlib.Core.Path.{_≡_, sym, _∙_, ap}
 use mathlib.Core.Bool.{true, false, _&&_}
 use native.Mathlib.Omega.{arith}
-use Rattle.integer.specs.Clearing.{zeros}
+use Rattle.integer.specs.Lists.{zeros}
 use Rattle.model.specs.Models.{good, candidateModel}
 use Rattle.certificate.specs.Tests.{scratchPlaces}
 use Rattle.certificate.specs.RootNumbers.{refused, rootOutcome, root-bad}

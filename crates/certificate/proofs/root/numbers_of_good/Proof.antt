@@ -10,7 +10,7 @@ use mir.Syntax.{w64}
 use mir.Val.{SFits, toZ, ofZ}
 use mir.Facts.{toZ-ofZ}
 use Rattle.integer.specs.Rounding.{upℕ}
-use Rattle.chebyshev.specs.Sign.{coefficientSum}
+use Rattle.chebyshev.specs.Coefficients.{coefficientSum}
 use Rattle.model.specs.Models.{scale, maxWeight, candidateModel}
 use Rattle.model.specs.ModelLaws.{good-is}
 use Rattle.model.specs.declared.types.Model.{Model}
