@@ -23,7 +23,7 @@ use Rattle.integer.specs.FractionRing.{ℚ-ring}
 use Rattle.integer.specs.FractionSolver.{reifyℚ, solveℚ}
 use Rattle.integer.specs.FractionOrder.{ℚ-ordered, whole-le, whole-abs}
 use Rattle.integer.specs.FractionInverse.{quotient-mul}
-use Rattle.integer.specs.FractionRounding.{natural-positive}
+use Rattle.integer.specs.FractionRounding.{natural-positive, natural-nonzero}
 use Rattle.chebyshev.specs.Recurrences.{firstKind}
 use Rattle.chebyshev.specs.RecurrenceLaws.{first-bound}
 use Rattle.chebyshev.specs.Coefficients.{weight, valueFrom, value}
@@ -115,9 +115,6 @@ module _ (R : CommutativeRing) where
     value-homogeneous n a h = let e : suc n - 0 ≡ suc n = omega arith in valueFrom-homogeneous n 0 a (rw e h)
 
 -- ---- at the fraction x = p/q
-
-pub natural-nonzero : {q : ℕ} → 0 < q → ¬ (whole (pos q) ≡ whole (pos 0))
-natural-nonzero {q} h e = natural-positive q h (le-of-eq ℚ-ordered e)
 
 pub quotient-is : (p : ℤ) (q : ℕ) → 0 < q → IsFraction (whole p /ℚ whole (pos q)) p q
 quotient-is p q h = record { positive = h; equation = quotient-mul (whole p) (whole (pos q)) (natural-nonzero h) }

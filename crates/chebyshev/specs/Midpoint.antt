@@ -3,7 +3,7 @@ use mathlib.Core.Path.{_≡_, sym, _∙_, ap}
 use mathlib.Core.List.{[], _∷_}
 use native.Mathlib.Omega.{arith}
 use lib.IntN.{pos}
-use Rattle.integer.specs.FractionRounding.{natural-positive}
+use Rattle.integer.specs.FractionRounding.{natural-positive, natural-nonzero}
 use Rattle.integer.specs.Embedding.{ι-abs}
 use Rattle.integer.specs.OrderedRingLaws.{_⟨≼⟩_, _⟨+⟩_, le-of-eq, abs-mul, triangle}
 use Rattle.integer.specs.Fraction.{ℚ, whole, _+ℚ_, _-ℚ_, _*ℚ_, _≤ℚ_, _<ℚ_, ∣_∣ℚ, _/ℚ_}
@@ -20,7 +20,7 @@ midpoint x y = (x +ℚ y) /ℚ whole (pos 2)
 
 pub midpoint-double : (x y : ℚ) → midpoint x y *ℚ whole (pos 2) ≡ x +ℚ y
 unfolding midpoint
-midpoint-double x y = quotient-mul (x +ℚ y) (whole (pos 2)) (λ e. two-positive (le-of-eq ℚ-ordered e))
+midpoint-double x y = quotient-mul (x +ℚ y) (whole (pos 2)) (natural-nonzero (omega arith))
 
 -- half of |t| is the absolute value of half of t
 abs-half : (u t : ℚ) → whole (pos 2) *ℚ u ≡ t → whole (pos 2) *ℚ ∣ u ∣ℚ ≡ ∣ t ∣ℚ

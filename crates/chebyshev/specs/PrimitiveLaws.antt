@@ -5,13 +5,12 @@ use Prim.Native.Nat.{ℕ, zero, suc, _+_, _*_}
 use native.Mathlib.Omega.{arith}
 use lib.IntN.{pos}
 use lib.ListN.{getD}
-use Rattle.integer.specs.Parts.{_⁺}
 use Rattle.integer.specs.Difference.{all2}
 use Rattle.integer.specs.Fraction.{ℚ, whole, _+ℚ_, _-ℚ_, _*ℚ_, -ℚ_, inverse, _/ℚ_}
 use Rattle.integer.specs.FractionLaws.{whole-mul, *ℚ-dist}
 use Rattle.integer.specs.FractionRing.{ℚ-ring}
 use Rattle.integer.specs.FractionSolver.{reifyℚ, solveℚ}
-use Rattle.integer.specs.FractionOrder.{whole-injective}
+use Rattle.integer.specs.FractionRounding.{natural-nonzero}
 use Rattle.integer.specs.FractionInverse.{quotient-mul}
 use Rattle.integer.specs.FractionLinear.{common2, common, common-literal, common-differences, linear-prop}
 use Rattle.chebyshev.specs.Recurrences.{firstKind, secondKind}
@@ -35,7 +34,7 @@ getD-primitiveFrom k (p ∷ a) (suc i) =
     rw e (getD-primitiveFrom (suc k) a i)
 
 pub divisor-nonzero : (k : ℕ) → ¬ (whole (pos (2 * suc k)) ≡ whole (pos 0))
-divisor-nonzero k e = omega (arith, ap _⁺ (whole-injective (pos (2 * suc k)) (pos 0) e))
+divisor-nonzero k = natural-nonzero (omega arith)
 
 doubleFirst-next : (a : List ℚ) (k : ℕ) → getD (doubleFirst a) (suc k) (whole (pos 0)) ≡ getD a (suc k) (whole (pos 0))
 unfolding doubleFirst
