@@ -8,7 +8,8 @@ use lib.IntN.{ℤ}
 use lib.ListN.{length, take, drop}
 use lib.Seq.{length-take-le}
 use Rattle.integer.specs.Integer.{ℤ-ring}
-use Rattle.integer.specs.Clearing.{zeros, length-zeros}
+use Rattle.integer.specs.Lists.{zeros}
+use Rattle.integer.specs.Clearing.{length-zeros}
 use Rattle.chebyshev.specs.Coefficients.{weight}
 use Rattle.chebyshev.specs.Weight.{weight-zeros, weight-take}
 use Rattle.chebyshev.specs.Product.{addRows, product}

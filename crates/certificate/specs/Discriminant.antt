@@ -15,9 +15,8 @@ use borrow.Author.Tests.{lt-ltb, le-ltb}
 use Rattle.integer.specs.Parts.{_⁺, abs, sum}
 use Rattle.integer.specs.Difference.{<-parts}
 use Rattle.integer.specs.Rounding.{upℕ}
-use Rattle.chebyshev.specs.Coefficients.{weight, addLists, subtractLists, scaleList}
+use Rattle.chebyshev.specs.Coefficients.{weight, addLists, subtractLists, scaleList, coefficientSum}
 use Rattle.chebyshev.specs.Product.{addAt, addPair, addRow, addRows, product}
-use Rattle.chebyshev.specs.Sign.{coefficientSum}
 use Rattle.model.specs.Models.{scale, good, tooLarge, makeModel, constantModel, zeroModel}
 use Rattle.model.specs.Operations.{productList}
 use Rattle.model.specs.Outcomes.{number, passing}

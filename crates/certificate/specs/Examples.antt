@@ -4,9 +4,8 @@ use mathlib.Core.List.{_∷_}
 use lib.IntN.{pos}
 use lib.ListN.{replicate}
 use Rattle.integer.specs.Rounding.{upℕ}
-use Rattle.chebyshev.specs.Coefficients.{weight, addLists, subtractLists, scaleList}
+use Rattle.chebyshev.specs.Coefficients.{weight, addLists, subtractLists, scaleList, coefficientSum}
 use Rattle.chebyshev.specs.Product.{addAt, addPair, addRow, addRows, product}
-use Rattle.chebyshev.specs.Sign.{coefficientSum}
 use Rattle.model.specs.Models.{good, tooLarge, makeModel, constantModel, zeroModel}
 use Rattle.model.specs.Outcomes.{accepted, refused, passing}
 use Rattle.model.specs.declared.types.Model.{Model}

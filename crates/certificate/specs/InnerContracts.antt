@@ -6,7 +6,7 @@ use Prim.Native.Nat.{ℕ, suc, _*_, _-_, _^_, _≤_, _<_}
 use lib.IntN.{ℤ, pos}
 use lib.ListN.{length, take, drop}
 use Rattle.integer.specs.Integer.{ℤ-ring}
-use Rattle.integer.specs.Clearing.{zeros}
+use Rattle.integer.specs.Lists.{zeros}
 use Rattle.chebyshev.specs.Coefficients.{weight, subtractLists, scaleList}
 use Rattle.chebyshev.specs.Product.{product}
 use Rattle.model.specs.Models.{scale, coefficientCount, productSize, maxDegree, maxWeight, good, candidateModel, largePlace}

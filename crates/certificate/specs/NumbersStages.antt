@@ -7,8 +7,7 @@ use lib.IntN.{ℤ, pos}
 use lib.Signed.{leZ}
 use borrow.Author.Tests.{lt-ltb, le-ltb, le-leb, lt-leb}
 use Rattle.integer.specs.Rounding.{upℕ}
-use Rattle.chebyshev.specs.Coefficients.{weight}
-use Rattle.chebyshev.specs.Sign.{coefficientSum}
+use Rattle.chebyshev.specs.Coefficients.{weight, coefficientSum}
 use Rattle.model.specs.Models.{scale, maxRadius, good}
 use Rattle.model.specs.Outcomes.{accepted, refused, passing}
 use Rattle.model.specs.declared.types.Model.{Model}

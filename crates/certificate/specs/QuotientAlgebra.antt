@@ -4,8 +4,10 @@ use mathlib.Core.Path.{_≡_, sym, _∙_, ap, subst}
 use mathlib.Core.List.{[], _∷_}
 use lib.IntN.{pos}
 use Rattle.integer.specs.Embedding.{ι-abs}
-use Rattle.integer.specs.Ring.{CommutativeRing, reify, solve}
-use Rattle.integer.specs.OrderedRing.{OrderedRing, by-certificate, gap, _⊞_, _⊠_, _⟨≼⟩_, le-refl, le-of-eq, abs-neg, abs-mul, abs-mul-le, abs-of-nonneg, abs-upper, abs-add-le, abs-neg-le}
+use Rattle.integer.specs.Ring.{CommutativeRing}
+use Rattle.integer.specs.Solver.{reify, solve}
+use Rattle.integer.specs.OrderedRing.{OrderedRing}
+use Rattle.integer.specs.OrderedRingLaws.{by-certificate, gap, _⊞_, _⊠_, _⟨≼⟩_, le-refl, le-of-eq, abs-neg, abs-mul, abs-mul-le, abs-of-nonneg, abs-upper, abs-add-le, abs-neg-le}
 
 module _ (O : OrderedRing) where
   open OrderedRing O using (ring, le as _≼_, le-cancel, abs, abs-nonneg)

@@ -8,9 +8,10 @@ use native.Mathlib.Omega.{arith}
 use lib.IntN.{pos}
 use Rattle.integer.specs.Embedding.{ι-nonneg}
 use Rattle.integer.specs.Integer.{ℤ-ring}
-use Rattle.integer.specs.Fraction.{ℚ, whole, _+ℚ_, _-ℚ_, -ℚ_, _*ℚ_, ℚ-ring}
-use Rattle.integer.specs.FractionOrder.{_≤ℚ_, _<ℚ_, ∣_∣ℚ, ℚ-ordered}
-use Rattle.integer.specs.FractionInverse.{_/ℚ_, quotient-mul}
+use Rattle.integer.specs.Fraction.{ℚ, whole, _+ℚ_, _-ℚ_, -ℚ_, _*ℚ_, _≤ℚ_, _<ℚ_, ∣_∣ℚ, _/ℚ_}
+use Rattle.integer.specs.FractionRing.{ℚ-ring}
+use Rattle.integer.specs.FractionOrder.{ℚ-ordered}
+use Rattle.integer.specs.FractionInverse.{quotient-mul}
 use Rattle.integer.specs.FractionRounding.{natural-add, natural-mul, natural-le, natural-positive, up-bound}
 use Rattle.integer.specs.Rounding.{upℕ}
 use Rattle.integer.specs.RoundingLaws.{le-upℕ}

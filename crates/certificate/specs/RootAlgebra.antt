@@ -5,8 +5,10 @@ use mathlib.Core.Logic.{_⊎_, inl, inr}
 use mathlib.Core.List.{[], _∷_}
 use lib.IntN.{pos}
 use Rattle.integer.specs.Embedding.{ι-nonneg}
-use Rattle.integer.specs.Ring.{CommutativeRing, reify, solve}
-use Rattle.integer.specs.OrderedRing.{OrderedRing, by-certificate, gap, _⊞_, _⊠_, _⟨≼⟩_, le-refl, le-of-eq, lt-le, abs-upper, abs-lower, abs-of-nonneg, abs-mul-le, root-le, abs-add-le, abs-neg-le}
+use Rattle.integer.specs.Ring.{CommutativeRing}
+use Rattle.integer.specs.Solver.{reify, solve}
+use Rattle.integer.specs.OrderedRing.{OrderedRing}
+use Rattle.integer.specs.OrderedRingLaws.{by-certificate, gap, _⊞_, _⊠_, _⟨≼⟩_, le-refl, le-of-eq, lt-le, abs-upper, abs-lower, abs-of-nonneg, abs-mul-le, root-le, abs-add-le, abs-neg-le}
 
 module _ (O : OrderedRing) where
   open OrderedRing O using (ring, le as _≼_, le-total, le-cancel, abs)

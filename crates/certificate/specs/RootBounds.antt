@@ -1,9 +1,7 @@
 -- Where a square root lies, without taking one: squares are compared.
 use mathlib.Core.Logic.{_⊎_}
 use lib.IntN.{pos}
-use Rattle.integer.specs.Fraction.{ℚ, whole, _+ℚ_, _-ℚ_, _*ℚ_}
-use Rattle.integer.specs.FractionOrder.{_≤ℚ_, _<ℚ_}
-use Rattle.integer.specs.FractionInverse.{_/ℚ_}
+use Rattle.integer.specs.Fraction.{ℚ, whole, _+ℚ_, _-ℚ_, _*ℚ_, _≤ℚ_, _<ℚ_, _/ℚ_}
 use Rattle.model.specs.Models.{scale}
 
 -- v > 0, and √v lies between y − ρ and y + ρ

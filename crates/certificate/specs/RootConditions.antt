@@ -10,8 +10,7 @@ use borrow.Author.Tests.{ltb-false, leb-false, not-false, le-ltb, lt-leb}
 use Rattle.integer.specs.Parts.{le-yes}
 use Rattle.integer.specs.Difference.{<-parts}
 use Rattle.integer.specs.Machine.{le-false}
-use Rattle.chebyshev.specs.Coefficients.{weight}
-use Rattle.chebyshev.specs.Sign.{coefficientSum}
+use Rattle.chebyshev.specs.Coefficients.{weight, coefficientSum}
 use Rattle.model.specs.Models.{scale, maxRadius, good, tooLarge}
 use Rattle.model.specs.Outcomes.{accepted, Passed}
 use Rattle.model.specs.PlaceLaws.{outcome-passed, outcome-accepted, not-of-true, passed-append}

@@ -8,16 +8,20 @@ use native.Mathlib.Omega.{arith}
 use lib.IntN.{ℤ, pos}
 use Rattle.integer.specs.Embedding.{ι-nonneg}
 use Rattle.integer.specs.Integer.{ℤ-ring}
-use Rattle.integer.specs.OrderedRing.{_⟨≼⟩_, by-certificate, gap, abs-le, abs-upper, abs-lower, le-of-eq}
+use Rattle.integer.specs.OrderedRingLaws.{_⟨≼⟩_, by-certificate, gap, abs-le, abs-upper, abs-lower, le-of-eq}
 use Rattle.integer.specs.Order.{le-pos}
-use Rattle.integer.specs.Fraction.{ℚ, whole, _+ℚ_, _-ℚ_, -ℚ_, _*ℚ_, *ℚ-comm, ℚ-ring, reifyℚ, solveℚ}
-use Rattle.integer.specs.FractionOrder.{_≤ℚ_, _<ℚ_, ∣_∣ℚ, ℚ-ordered, whole-le}
+use Rattle.integer.specs.Fraction.{ℚ, whole, _+ℚ_, _-ℚ_, -ℚ_, _*ℚ_, _≤ℚ_, _<ℚ_, ∣_∣ℚ}
+use Rattle.integer.specs.FractionLaws.{*ℚ-comm}
+use Rattle.integer.specs.FractionRing.{ℚ-ring}
+use Rattle.integer.specs.FractionSolver.{reifyℚ, solveℚ}
+use Rattle.integer.specs.FractionOrder.{ℚ-ordered, whole-le}
 use Rattle.integer.specs.FractionInverse.{quotient-mul}
 use Rattle.integer.specs.FractionRounding.{natural-add, natural-mul, natural-le, natural-positive, up-bound}
 use Rattle.integer.specs.RoundingLaws.{le-upℕ}
 use Rattle.chebyshev.specs.Coefficients.{weight, subtractLists, scaleList}
 use Rattle.chebyshev.specs.CoefficientLaws.{value-constant}
-use Rattle.chebyshev.specs.Allows.{allows, allows-quotient}
+use Rattle.chebyshev.specs.Allows.{allows}
+use Rattle.chebyshev.specs.AllowsLaws.{allows-quotient}
 use Rattle.chebyshev.specs.Sign.{helper-positive}
 use Rattle.model.specs.Models.{scale}
 use Rattle.model.specs.Values.{position, AllowsAt, Allows, OnInterval}

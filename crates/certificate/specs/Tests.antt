@@ -9,8 +9,7 @@ use lib.Signed.{leZ}
 use lib.ListN.{replicate, drop, length}
 use Rattle.integer.specs.Integer.{ℤ-ring}
 use Rattle.integer.specs.Rounding.{upℕ}
-use Rattle.chebyshev.specs.Coefficients.{weight, subtractLists, scaleList}
-use Rattle.chebyshev.specs.Sign.{coefficientSum}
+use Rattle.chebyshev.specs.Coefficients.{weight, subtractLists, scaleList, coefficientSum}
 use Rattle.model.specs.Models.{scale, productSize, maxRadius, makeModel, zeroModel, candidateModel, badPlace, largePlace}
 use Rattle.model.specs.Outcomes.{Outcome, outcome, judged}
 use Rattle.model.specs.Operations.{productList}

@@ -5,9 +5,8 @@ use lib.IntN.{ℤ, pos}
 use lib.Signed.{_<ℤ_}
 use Rattle.integer.specs.Integer.{ℤ-ring}
 use Rattle.integer.specs.Rounding.{upℕ}
-use Rattle.chebyshev.specs.Coefficients.{weight, subtractLists, scaleList}
-use Rattle.chebyshev.specs.ProductSums.{twoSums}
-use Rattle.chebyshev.specs.Sign.{coefficientSum}
+use Rattle.chebyshev.specs.Coefficients.{weight, subtractLists, scaleList, coefficientSum}
+use Rattle.chebyshev.specs.TwoSums.{twoSums}
 use Rattle.model.specs.Models.{scale, productSize}
 use Rattle.model.specs.declared.types.Model.{Model}
 

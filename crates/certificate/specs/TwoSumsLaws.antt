@@ -10,7 +10,8 @@ use lib.Seq.{ext-getD}
 use Rattle.integer.specs.Integer.{ℤ-ring}
 use Rattle.chebyshev.specs.Product.{product}
 use Rattle.chebyshev.specs.ProductLaws.{length-product}
-use Rattle.chebyshev.specs.ProductSums.{twoSums, product-two-sums}
+use Rattle.chebyshev.specs.TwoSums.{twoSums}
+use Rattle.chebyshev.specs.ProductSums.{product-two-sums}
 use Rattle.model.specs.Models.{productSize, good}
 use Rattle.model.specs.GoodLaws.{product-coefficients}
 use Rattle.model.specs.Operations.{productList}

@@ -4,7 +4,7 @@ ghost use mathlib.Core.Path.{_≡_};
 ghost use Prim.Native.Nat.{_+_, _*_, _≤_, _<_, _^_};
 ghost use lib.IntN.{natAbs};
 ghost use lib.ListN.{length, take, drop};
-ghost use Rattle.integer.specs.Clearing.{zeros};
+ghost use Rattle.integer.specs.Lists.{zeros};
 ghost use Rattle.chebyshev.specs.Coefficients.{weight};
 ghost use Rattle.model.specs.Models.{scale, coefficientCount, maxWeight};
 ghost use Rattle.certificate.specs.InnerContracts.{residualList, residualFrom, constantResidual, productUpTo};

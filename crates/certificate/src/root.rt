@@ -1,8 +1,7 @@
 // The root test: is h a square root of f, with w as a helper?
 ghost use mathlib.Core.Path.{_≡_};
 ghost use lib.ListN.{length};
-ghost use Rattle.chebyshev.specs.Coefficients.{weight as weightOf};
-ghost use Rattle.chebyshev.specs.Sign.{coefficientSum};
+ghost use Rattle.chebyshev.specs.Coefficients.{weight as weightOf, coefficientSum};
 ghost use Rattle.model.specs.Models.{coefficientCount, candidateModel};
 ghost use Rattle.certificate.specs.Tests.{scratchSize, scratchAfter, testOf, rootTest};
 ghost use Rattle.certificate.specs.InnerContracts.{Lent, RootReady, RootLast, reachOf, numbersOutcome, rootEnd};

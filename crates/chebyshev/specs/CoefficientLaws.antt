@@ -7,9 +7,10 @@ use native.Mathlib.Omega.{arith}
 use lib.IntN.{ℤ, pos, negsuc, negℤ}
 use lib.ListN.{length, getD, take, drop, replicate, length-map}
 use Rattle.integer.specs.Embedding.{ι-opposite}
-use Rattle.integer.specs.Ring.{CommutativeRing, reify, solve}
+use Rattle.integer.specs.Ring.{CommutativeRing}
+use Rattle.integer.specs.Solver.{reify, solve}
 use Rattle.integer.specs.Integer.{ℤ-ring}
-use Rattle.chebyshev.specs.Kinds.{firstKind}
+use Rattle.chebyshev.specs.Recurrences.{firstKind}
 use Rattle.chebyshev.specs.Coefficients.{valueFrom, value, addLists, scaleList, subtractLists}
 
 module _ (R : CommutativeRing) where

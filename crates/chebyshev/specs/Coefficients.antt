@@ -1,15 +1,19 @@
--- Lists of coefficients of T_0, T_1, …: their values, sums and weights.
+-- Lists of coefficients of T_0, T_1, …: their weights, sums and values.
 use mathlib.Core.List.{List, [], _∷_, map}
 use Prim.Native.Nat.{ℕ, suc, _+_}
-use lib.IntN.{ℤ, pos, natAbs}
+use lib.IntN.{ℤ, pos, natAbs, _+ℤ_}
 use Rattle.integer.specs.Ring.{CommutativeRing}
-use Rattle.integer.specs.OrderedRing.{OrderedRing}
-use Rattle.chebyshev.specs.Kinds.{firstKind}
+use Rattle.chebyshev.specs.Recurrences.{firstKind}
 
 -- 01: "Its weight A is the sum of |a_k|", of a list of whole numbers, as a natural number
 unfoldable pub weight : List ℤ → ℕ
 weight [] = 0
 weight (c ∷ cs) = natAbs c + weight cs
+
+-- Σ a_k, as in 01's "Σ w_k > 0"
+unfoldable pub coefficientSum : List ℤ → ℤ
+coefficientSum [] = pos 0
+coefficientSum (c ∷ a) = c +ℤ coefficientSum a
 
 module _ (R : CommutativeRing) where
   open CommutativeRing R using (A, add as _⊕_, mul as _⊗_, opp as ⊖_, ι)
@@ -37,19 +41,3 @@ module _ (R : CommutativeRing) where
 
   unfoldable pub subtractLists : List A → List A → List A
   subtractLists a b = addLists a (map ⊖_ b)
-
-module _ (O : OrderedRing) where
-  open OrderedRing O using (ring, abs)
-  open CommutativeRing ring using (A, add as _⊕_, mul as _⊗_, ι)
-
-  infixl 6 _⊕_
-  infixl 7 _⊗_
-  -- Σ |c_k|, in the ring: the weight of a list of any ordered ring
-  unfoldable pub norm : List A → A
-  norm [] = ι (pos 0)
-  norm (c ∷ cs) = abs c ⊕ norm cs
-
-  -- Σ |c_i|·(k+i)²
-  unfoldable pub lipschitzFrom : ℕ → List A → A
-  lipschitzFrom k [] = ι (pos 0)
-  lipschitzFrom k (c ∷ cs) = abs c ⊗ (ι (pos k) ⊗ ι (pos k)) ⊕ lipschitzFrom (suc k) cs

@@ -4,11 +4,14 @@ use mathlib.Core.List.{List, [], _∷_}
 use Prim.Native.Nat.{ℕ, zero, suc}
 use lib.IntN.{pos}
 use Rattle.integer.specs.Embedding.{ι-suc, ι-abs}
-use Rattle.integer.specs.Ring.{CommutativeRing, reify, solve}
-use Rattle.integer.specs.OrderedRing.{OrderedRing, by-certificate, gap, _⊞_, _⟨≼⟩_, _⟨+⟩_, le-refl, le-of-eq, abs-mul-le, triangle}
-use Rattle.chebyshev.specs.Kinds.{firstKind}
-use Rattle.chebyshev.specs.KindsLaws.{first-bound}
-use Rattle.chebyshev.specs.Coefficients.{valueFrom, value, lipschitzFrom}
+use Rattle.integer.specs.Ring.{CommutativeRing}
+use Rattle.integer.specs.Solver.{reify, solve}
+use Rattle.integer.specs.OrderedRing.{OrderedRing}
+use Rattle.integer.specs.OrderedRingLaws.{by-certificate, gap, _⊞_, _⟨≼⟩_, _⟨+⟩_, le-refl, le-of-eq, abs-mul-le, triangle}
+use Rattle.chebyshev.specs.Recurrences.{firstKind}
+use Rattle.chebyshev.specs.RecurrenceLaws.{first-bound}
+use Rattle.chebyshev.specs.Coefficients.{valueFrom, value}
+use Rattle.chebyshev.specs.Norms.{lipschitzFrom}
 use Rattle.chebyshev.specs.Perturbed.{Perturbed, perturbed-growth}
 
 module _ (O : OrderedRing) where

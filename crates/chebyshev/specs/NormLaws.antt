@@ -7,11 +7,14 @@ use native.Mathlib.Omega.{arith}
 use lib.IntN.{ℤ, pos, natAbs}
 use lib.ListN.{getD, take, drop, replicate, take-append-drop}
 use Rattle.integer.specs.Embedding.{ι-suc, ι-nonneg, ι-abs}
-use Rattle.integer.specs.Ring.{CommutativeRing, reify, solve}
-use Rattle.integer.specs.OrderedRing.{OrderedRing, by-certificate, le-refl, le-of-eq, _⟨≼⟩_, _⊞_, _⊠_, _⟨+⟩_, triangle, abs-mul, abs-mul-le, abs-neg, abs-of-nonneg}
-use Rattle.chebyshev.specs.Kinds.{firstKind}
-use Rattle.chebyshev.specs.KindsLaws.{first-bound}
-use Rattle.chebyshev.specs.Coefficients.{weight, valueFrom, value, addLists, scaleList, subtractLists, norm}
+use Rattle.integer.specs.Ring.{CommutativeRing}
+use Rattle.integer.specs.Solver.{reify, solve}
+use Rattle.integer.specs.OrderedRing.{OrderedRing}
+use Rattle.integer.specs.OrderedRingLaws.{by-certificate, le-refl, le-of-eq, _⟨≼⟩_, _⊞_, _⊠_, _⟨+⟩_, triangle, abs-mul, abs-mul-le, abs-neg, abs-of-nonneg}
+use Rattle.chebyshev.specs.Recurrences.{firstKind}
+use Rattle.chebyshev.specs.RecurrenceLaws.{first-bound}
+use Rattle.chebyshev.specs.Coefficients.{weight, valueFrom, value, addLists, scaleList, subtractLists}
+use Rattle.chebyshev.specs.Norms.{norm}
 use Rattle.chebyshev.specs.CoefficientLaws.{add-zero, value-subtract, getD-add, getD-subtract}
 
 module _ (O : OrderedRing) where

@@ -7,9 +7,11 @@ use Prim.Native.Nat.{ℕ, zero, suc, _+_, _-_, _*_}
 use native.Mathlib.Omega.{arith}
 use lib.IntN.{pos}
 use Rattle.integer.specs.Embedding.{ι-suc, ι-nonneg, ι-abs}
-use Rattle.integer.specs.Ring.{CommutativeRing, reify, solve}
-use Rattle.integer.specs.OrderedRing.{OrderedRing, by-certificate, gap, _⊞_, _⊠_, _⟨≼⟩_, _⟨+⟩_, le-refl, le-of-eq, mul-mono, sq-nonneg, abs-upper, abs-mul-le, abs-square, root-abs, triangle}
-use Rattle.chebyshev.specs.KindsLaws.{one-minus-square}
+use Rattle.integer.specs.Ring.{CommutativeRing}
+use Rattle.integer.specs.Solver.{reify, solve}
+use Rattle.integer.specs.OrderedRing.{OrderedRing}
+use Rattle.integer.specs.OrderedRingLaws.{by-certificate, gap, _⊞_, _⊠_, _⟨≼⟩_, _⟨+⟩_, le-refl, le-of-eq, mul-mono, sq-nonneg, abs-upper, abs-mul-le, abs-square, root-abs, triangle}
+use Rattle.chebyshev.specs.RecurrenceLaws.{one-minus-square}
 
 module _ (O : OrderedRing) where
   open OrderedRing O using (ring, le as _≼_, abs, abs-nonneg)

@@ -3,8 +3,8 @@ use mathlib.Core.List.{List, [], _∷_}
 use Prim.Native.Nat.{ℕ, suc, _*_}
 use lib.IntN.{pos}
 use lib.ListN.{getD}
-use Rattle.integer.specs.Fraction.{ℚ, whole, -ℚ_, _-ℚ_, _*ℚ_, ℚ-ring}
-use Rattle.integer.specs.FractionInverse.{_/ℚ_}
+use Rattle.integer.specs.Fraction.{ℚ, whole, -ℚ_, _-ℚ_, _*ℚ_, _/ℚ_}
+use Rattle.integer.specs.FractionRing.{ℚ-ring}
 use Rattle.chebyshev.specs.Coefficients.{valueFrom}
 
 -- c_k, c_(k+1), … of the list a_(k−1), a_k, …: c_k = (a_(k−1) − a_(k+1))/(2k)

@@ -5,16 +5,19 @@ use Prim.Native.Nat.{ℕ, zero, suc, _+_, _*_}
 use native.Mathlib.Omega.{arith}
 use lib.IntN.{pos}
 use lib.ListN.{getD}
-use Rattle.integer.specs.Parts.{_⁺}
 use Rattle.integer.specs.Difference.{all2}
-use Rattle.integer.specs.Fraction.{ℚ, whole, whole-mul, _+ℚ_, _-ℚ_, _*ℚ_, -ℚ_, *ℚ-dist, ℚ-ring, reifyℚ, solveℚ}
-use Rattle.integer.specs.FractionOrder.{whole-injective}
-use Rattle.integer.specs.FractionInverse.{inverse, _/ℚ_, quotient-mul}
+use Rattle.integer.specs.Fraction.{ℚ, whole, _+ℚ_, _-ℚ_, _*ℚ_, -ℚ_, inverse, _/ℚ_}
+use Rattle.integer.specs.FractionLaws.{whole-mul, *ℚ-dist}
+use Rattle.integer.specs.FractionRing.{ℚ-ring}
+use Rattle.integer.specs.FractionSolver.{reifyℚ, solveℚ}
+use Rattle.integer.specs.FractionRounding.{natural-nonzero}
+use Rattle.integer.specs.FractionInverse.{quotient-mul}
 use Rattle.integer.specs.FractionLinear.{common2, common, common-literal, common-differences, linear-prop}
-use Rattle.chebyshev.specs.Kinds.{firstKind, secondKind}
+use Rattle.chebyshev.specs.Recurrences.{firstKind, secondKind}
 use Rattle.chebyshev.specs.Coefficients.{valueFrom, value, addLists, scaleList, subtractLists}
 use Rattle.chebyshev.specs.CoefficientLaws.{valueFrom-add, valueFrom-scale, getD-add, getD-scale, opposite-scale}
-use Rattle.chebyshev.specs.Derivative.{derivative, sumFrom, derivativeValue, remainder, value-taylor, derivative-constant, second-difference, derivative-second}
+use Rattle.chebyshev.specs.Derivative.{derivative, sumFrom, derivativeValue, remainder}
+use Rattle.chebyshev.specs.DerivativeLaws.{value-taylor, derivative-constant, second-difference, derivative-second}
 use Rattle.chebyshev.specs.Primitive.{primitiveFrom, doubleFirst, primitiveTail, numerator, primitive}
 
 -- ---- elements
@@ -31,7 +34,7 @@ getD-primitiveFrom k (p ∷ a) (suc i) =
     rw e (getD-primitiveFrom (suc k) a i)
 
 pub divisor-nonzero : (k : ℕ) → ¬ (whole (pos (2 * suc k)) ≡ whole (pos 0))
-divisor-nonzero k e = omega (arith, ap _⁺ (whole-injective (pos (2 * suc k)) (pos 0) e))
+divisor-nonzero k = natural-nonzero (omega arith)
 
 doubleFirst-next : (a : List ℚ) (k : ℕ) → getD (doubleFirst a) (suc k) (whole (pos 0)) ≡ getD a (suc k) (whole (pos 0))
 unfolding doubleFirst
@@ -183,7 +186,7 @@ pub primitive-derivative : (x : ℚ) (a : List ℚ) → derivativeValue ℚ-ring
 unfolding primitive
 primitive-derivative x a = derivative-constant ℚ-ring x _ (primitiveTail a) ∙ derivative-tail x a
 
--- P(x + h) = P(x) + h·a(x), up to a multiple of h²: one strip of request S-8
+-- P(x + h) = P(x) + h·a(x), up to a multiple of h²
 pub primitive-increment : (x h : ℚ) (a : List ℚ)
     → value ℚ-ring (x +ℚ h) (primitive a) ≡ value ℚ-ring x (primitive a) +ℚ h *ℚ value ℚ-ring x a +ℚ h *ℚ h *ℚ sumFrom ℚ-ring (remainder ℚ-ring x h) 0 (primitive a)
 primitive-increment x h a =

@@ -7,14 +7,18 @@ use lib.IntN.{pos}
 use lib.ListN.{getD}
 use Rattle.integer.specs.FractionRounding.{natural-positive}
 use Rattle.integer.specs.Embedding.{ι-nonneg, ι-abs}
-use Rattle.integer.specs.OrderedRing.{by-certificate, gap, _⊞_, le-refl, le-of-eq, _⟨≼⟩_, _⟨+⟩_, mul-mono, triangle, abs-mul, abs-neg}
+use Rattle.integer.specs.OrderedRingLaws.{by-certificate, gap, _⊞_, le-refl, le-of-eq, _⟨≼⟩_, _⟨+⟩_, mul-mono, triangle, abs-mul, abs-neg}
 use Rattle.integer.specs.Difference.{all2, all3}
 use Rattle.integer.specs.Order.{pos-le}
-use Rattle.integer.specs.Fraction.{ℚ, whole, _+ℚ_, _-ℚ_, _*ℚ_, -ℚ_, ℚ-ring, *ℚ-comm, *ℚ-assoc, *ℚ-one, reifyℚ, solveℚ}
-use Rattle.integer.specs.FractionOrder.{_≤ℚ_, ∣_∣ℚ, ℚ-ordered, ≤ℚ-cancel, absℚ-nonneg, whole-le}
-use Rattle.integer.specs.FractionInverse.{inverse, _/ℚ_, inverse-right, quotient-mul}
+use Rattle.integer.specs.Fraction.{ℚ, whole, _+ℚ_, _-ℚ_, _*ℚ_, -ℚ_, _≤ℚ_, ∣_∣ℚ, inverse, _/ℚ_}
+use Rattle.integer.specs.FractionRing.{ℚ-ring}
+use Rattle.integer.specs.FractionLaws.{*ℚ-comm, *ℚ-assoc, *ℚ-one}
+use Rattle.integer.specs.FractionSolver.{reifyℚ, solveℚ}
+use Rattle.integer.specs.FractionOrder.{ℚ-ordered, ≤ℚ-cancel, absℚ-nonneg, whole-le}
+use Rattle.integer.specs.FractionInverse.{inverse-right, quotient-mul}
 use Rattle.integer.specs.FractionLinear.{common2, common3, common, common-literal, common-differences, linear-prop}
-use Rattle.chebyshev.specs.Coefficients.{value, addLists, scaleList, subtractLists, norm}
+use Rattle.chebyshev.specs.Coefficients.{value, addLists, scaleList, subtractLists}
+use Rattle.chebyshev.specs.Norms.{norm}
 use Rattle.chebyshev.specs.CoefficientLaws.{getD-scale, getD-subtract}
 use Rattle.chebyshev.specs.NormLaws.{norm-nonneg, norm-uncons, getD-tail, norm-scale, norm-triangle, norm-bounded, constant-bound, constant-difference}
 use Rattle.chebyshev.specs.Primitive.{primitiveFrom, doubleFirst, primitiveTail, numerator, primitive}

@@ -8,10 +8,11 @@ use native.Mathlib.Numerals.{add-one}
 use lib.IntN.{ℤ, pos, _*ℤ_}
 use lib.ListN.{length, getD, take, drop, set, replicate, length-replicate, length-map, drop-of-length-le}
 use lib.Seq.{drop-cons}
-use Rattle.integer.specs.Ring.{CommutativeRing, reify, solve}
+use Rattle.integer.specs.Ring.{CommutativeRing}
+use Rattle.integer.specs.Solver.{reify, solve}
 use Rattle.integer.specs.Integer.{ℤ-ring}
-use Rattle.chebyshev.specs.Kinds.{firstKind}
-use Rattle.chebyshev.specs.KindsLaws.{first-product}
+use Rattle.chebyshev.specs.Recurrences.{firstKind}
+use Rattle.chebyshev.specs.RecurrenceLaws.{first-product}
 use Rattle.chebyshev.specs.Coefficients.{valueFrom, value}
 use Rattle.chebyshev.specs.CoefficientLaws.{valueFrom-zeros, map-ι-zeros}
 use Rattle.chebyshev.specs.Product.{distance, addAt, addPair, addRow, addRows, product}

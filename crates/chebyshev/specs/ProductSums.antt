@@ -10,10 +10,12 @@ use borrow.Author.Tests.{eqb-true, eqb-false}
 use lib.IntN.{pos}
 use lib.ListN.{length, getD, replicate, length-replicate, getD-replicate}
 use lib.Seq.{ext-getD}
-use Rattle.integer.specs.Ring.{CommutativeRing, reify, solve}
+use Rattle.integer.specs.Ring.{CommutativeRing}
+use Rattle.integer.specs.Solver.{reify, solve}
 use Rattle.integer.specs.Integer.{ℤ-ring}
 use Rattle.chebyshev.specs.CoefficientLaws.{add-zero}
 use Rattle.chebyshev.specs.Product.{distance, addAt, addPair, addRow, addRows, product}
+use Rattle.chebyshev.specs.TwoSums.{sum, sumWhere, twoSums}
 use Rattle.chebyshev.specs.ProductLaws.{getD-addAt-same, getD-addAt-other, length-addAt, length-addPair, length-addRow, length-product}
 
 module _ (R : CommutativeRing) where
@@ -21,45 +23,32 @@ module _ (R : CommutativeRing) where
 
   infixl 6 _⊕_
   infixl 7 _⊗_
-  -- f 0 + f 1 + … + f (n − 1)
-  unfoldable pub sum : ℕ → (ℕ → A) → A
-  sum zero f = ι (pos 0)
-  sum (suc n) f = f 0 ⊕ sum n (λ k. f (suc k))
-
-  -- Σ a_i·b_j over the pairs (i, j) of which the test holds
-  unfoldable pub sumWhere : (ℕ → ℕ → Bool) → List A → List A → A
-  sumWhere test a b = sum (length a) (λ i. sum (length b) (λ j. cond (test i j) (getD a i (ι (pos 0)) ⊗ getD b j (ι (pos 0))) (ι (pos 0))))
-
-  -- 01: "C_k = Σ a_i·b_j over i+j = k, plus Σ a_i·b_j over |i−j| = k; a pair that meets both conditions counts twice."
-  unfoldable pub twoSums : ℕ → List A → List A → A
-  twoSums k a b = sumWhere (λ i j. eqb (i + j) k) a b ⊕ sumWhere (λ i j. eqb (distance i j) k) a b
-
   -- ---- sums
 
-  sum-zero : (n : ℕ) → sum n (λ k. ι (pos 0)) ≡ ι (pos 0)
+  sum-zero : (n : ℕ) → sum R n (λ k. ι (pos 0)) ≡ ι (pos 0)
   unfolding sum
   sum-zero zero = refl
   sum-zero (suc n) = ap (λ s. ι (pos 0) ⊕ s) (sum-zero n) ∙ zero-add (ι (pos 0))
 
-  sum-cong : (n : ℕ) (f g : ℕ → A) → ((k : ℕ) → f k ≡ g k) → sum n f ≡ sum n g
+  sum-cong : (n : ℕ) (f g : ℕ → A) → ((k : ℕ) → f k ≡ g k) → sum R n f ≡ sum R n g
   unfolding sum
   sum-cong zero f g h = refl
   sum-cong (suc n) f g h = ap₂ _⊕_ (h 0) (sum-cong n (λ k. f (suc k)) (λ k. g (suc k)) (λ k. h (suc k)))
 
-  sum-add : (n : ℕ) (f g : ℕ → A) → sum n (λ k. f k ⊕ g k) ≡ sum n f ⊕ sum n g
+  sum-add : (n : ℕ) (f g : ℕ → A) → sum R n (λ k. f k ⊕ g k) ≡ sum R n f ⊕ sum R n g
   unfolding sum
   sum-add zero f g = sym (zero-add (ι (pos 0)))
   sum-add (suc n) f g =
       ap (λ s. f 0 ⊕ g 0 ⊕ s) (sum-add n (λ k. f (suc k)) (λ k. g (suc k)))
-      ∙ solve R (f 0 ∷ g 0 ∷ sum n (λ k. f (suc k)) ∷ sum n (λ k. g (suc k)) ∷ []) (search reify depth 20) (search reify depth 20) tt
+      ∙ solve R (f 0 ∷ g 0 ∷ sum R n (λ k. f (suc k)) ∷ sum R n (λ k. g (suc k)) ∷ []) (search reify depth 20) (search reify depth 20) tt
 
-  sum-swap : (m n : ℕ) (f : ℕ → ℕ → A) → sum m (λ i. sum n (λ j. f i j)) ≡ sum n (λ j. sum m (λ i. f i j))
+  sum-swap : (m n : ℕ) (f : ℕ → ℕ → A) → sum R m (λ i. sum R n (λ j. f i j)) ≡ sum R n (λ j. sum R m (λ i. f i j))
   unfolding sum
   sum-swap zero n f = sym (sum-zero n)
-  sum-swap (suc m) n f = ap (λ s. sum n (λ j. f 0 j) ⊕ s) (sum-swap m n (λ i. f (suc i))) ∙ sym (sum-add n (λ j. f 0 j) (λ j. sum m (λ i. f (suc i) j)))
+  sum-swap (suc m) n f = ap (λ s. sum R n (λ j. f 0 j) ⊕ s) (sum-swap m n (λ i. f (suc i))) ∙ sym (sum-add n (λ j. f 0 j) (λ j. sum R m (λ i. f (suc i) j)))
 
   -- one more term in front, where f counts from j
-  sum-shift : (n j : ℕ) (f : ℕ → ℕ → A) → f j 0 ⊕ sum n (λ k. f (suc j + k) (suc k)) ≡ sum (suc n) (λ k. f (j + k) k)
+  sum-shift : (n j : ℕ) (f : ℕ → ℕ → A) → f j 0 ⊕ sum R n (λ k. f (suc j + k) (suc k)) ≡ sum R (suc n) (λ k. f (j + k) k)
   unfolding sum
   sum-shift n j f =
       let e : j ≡ j + 0 = omega arith in
@@ -89,36 +78,36 @@ module _ (R : CommutativeRing) where
       ∙ add-assoc (getD c k (ι (pos 0))) (cond (eqb (i + j) k) v (ι (pos 0))) (cond (eqb (distance i j) k) v (ι (pos 0)))
 
   getD-addRow : (c : List A) (x : A) (i j : ℕ) (b : List A) (k : ℕ) → k < length c
-      → getD (addRow R c x i j b) k (ι (pos 0)) ≡ getD c k (ι (pos 0)) ⊕ sum (length b) (λ n. contribution k i (j + n) (x ⊗ getD b n (ι (pos 0))))
+      → getD (addRow R c x i j b) k (ι (pos 0)) ≡ getD c k (ι (pos 0)) ⊕ sum R (length b) (λ n. contribution k i (j + n) (x ⊗ getD b n (ι (pos 0))))
   unfolding addRow sum
   getD-addRow c x i j [] k h = sym (add-zero R (getD c k (ι (pos 0))))
   getD-addRow c x i j (y ∷ b) k h =
       getD-addRow (addPair R c i j (x ⊗ y)) x i (suc j) b k (rw length-addPair h)
-      ∙ ap (λ v. v ⊕ sum (length b) (λ n. contribution k i (suc j + n) (x ⊗ getD b n (ι (pos 0))))) (getD-addPair c i j k (x ⊗ y) h)
-      ∙ add-assoc (getD c k (ι (pos 0))) (contribution k i j (x ⊗ y)) (sum (length b) (λ n. contribution k i (suc j + n) (x ⊗ getD b n (ι (pos 0)))))
+      ∙ ap (λ v. v ⊕ sum R (length b) (λ n. contribution k i (suc j + n) (x ⊗ getD b n (ι (pos 0))))) (getD-addPair c i j k (x ⊗ y) h)
+      ∙ add-assoc (getD c k (ι (pos 0))) (contribution k i j (x ⊗ y)) (sum R (length b) (λ n. contribution k i (suc j + n) (x ⊗ getD b n (ι (pos 0)))))
       ∙ ap (λ v. getD c k (ι (pos 0)) ⊕ v) (sum-shift (length b) j (λ m n. contribution k i m (x ⊗ getD (y ∷ b) n (ι (pos 0)))))
 
   getD-addRows : (c : List A) (i : ℕ) (a b : List A) (k : ℕ) → k < length c
-      → getD (addRows R c i a b) k (ι (pos 0)) ≡ getD c k (ι (pos 0)) ⊕ sum (length a) (λ m. sum (length b) (λ n. contribution k (i + m) n (getD a m (ι (pos 0)) ⊗ getD b n (ι (pos 0)))))
+      → getD (addRows R c i a b) k (ι (pos 0)) ≡ getD c k (ι (pos 0)) ⊕ sum R (length a) (λ m. sum R (length b) (λ n. contribution k (i + m) n (getD a m (ι (pos 0)) ⊗ getD b n (ι (pos 0)))))
   unfolding addRows sum
   getD-addRows c i [] b k h = sym (add-zero R (getD c k (ι (pos 0))))
   getD-addRows c i (x ∷ a) b k h =
       getD-addRows (addRow R c x i 0 b) (suc i) a b k (rw length-addRow h)
       ∙ ap (λ v. v ⊕ rest) (simp zero-add-ℕ at (getD-addRow c x i 0 b k h))
-      ∙ add-assoc (getD c k (ι (pos 0))) (sum (length b) (λ n. contribution k i n (x ⊗ getD b n (ι (pos 0))))) rest
-      ∙ ap (λ v. getD c k (ι (pos 0)) ⊕ v) (sum-shift (length a) i (λ m n. sum (length b) (λ j. contribution k m j (getD (x ∷ a) n (ι (pos 0)) ⊗ getD b j (ι (pos 0))))))
+      ∙ add-assoc (getD c k (ι (pos 0))) (sum R (length b) (λ n. contribution k i n (x ⊗ getD b n (ι (pos 0))))) rest
+      ∙ ap (λ v. getD c k (ι (pos 0)) ⊕ v) (sum-shift (length a) i (λ m n. sum R (length b) (λ j. contribution k m j (getD (x ∷ a) n (ι (pos 0)) ⊗ getD b j (ι (pos 0))))))
     where
       rest : A
-      rest = sum (length a) (λ m. sum (length b) (λ n. contribution k (suc i + m) n (getD a m (ι (pos 0)) ⊗ getD b n (ι (pos 0)))))
+      rest = sum R (length a) (λ m. sum R (length b) (λ n. contribution k (suc i + m) n (getD a m (ι (pos 0)) ⊗ getD b n (ι (pos 0)))))
 
   -- every place of C(a, b) is 01's two sums
-  pub product-two-sums : (width : ℕ) (a b : List A) (k : ℕ) → k < width → getD (product R width a b) k (ι (pos 0)) ≡ twoSums k a b
+  pub product-two-sums : (width : ℕ) (a b : List A) (k : ℕ) → k < width → getD (product R width a b) k (ι (pos 0)) ≡ twoSums R k a b
   unfolding product twoSums sumWhere
   product-two-sums width a b k h =
       simp (zero-add-ℕ, getD-replicate) at (getD-addRows (replicate width (ι (pos 0))) 0 a b k (rw length-replicate h))
-      ∙ zero-add (sum (length a) (λ i. sum (length b) (λ j. by-sum i j ⊕ by-distance i j)))
+      ∙ zero-add (sum R (length a) (λ i. sum R (length b) (λ j. by-sum i j ⊕ by-distance i j)))
       ∙ sum-cong (length a) _ _ (λ i. sum-add (length b) (by-sum i) (by-distance i))
-      ∙ sum-add (length a) (λ i. sum (length b) (by-sum i)) (λ i. sum (length b) (by-distance i))
+      ∙ sum-add (length a) (λ i. sum R (length b) (by-sum i)) (λ i. sum R (length b) (by-distance i))
     where
       by-sum : ℕ → ℕ → A
       by-sum i j = cond (eqb (i + j) k) (getD a i (ι (pos 0)) ⊗ getD b j (ι (pos 0))) (ι (pos 0))
@@ -126,13 +115,13 @@ module _ (R : CommutativeRing) where
       by-distance : ℕ → ℕ → A
       by-distance i j = cond (eqb (distance i j) k) (getD a i (ι (pos 0)) ⊗ getD b j (ι (pos 0))) (ι (pos 0))
 
-  sumWhere-symmetric : (test : ℕ → ℕ → Bool) → ((i j : ℕ) → test i j ≡ test j i) → (a b : List A) → sumWhere test a b ≡ sumWhere test b a
+  sumWhere-symmetric : (test : ℕ → ℕ → Bool) → ((i j : ℕ) → test i j ≡ test j i) → (a b : List A) → sumWhere R test a b ≡ sumWhere R test b a
   unfolding sumWhere
   sumWhere-symmetric test h a b =
       sum-swap (length a) (length b) (λ i j. cond (test i j) (getD a i (ι (pos 0)) ⊗ getD b j (ι (pos 0))) (ι (pos 0)))
       ∙ sum-cong (length b) _ _ (λ j. sum-cong (length a) _ _ (λ i. ap₂ (λ t v. cond t v (ι (pos 0))) (h i j) (mul-comm (getD a i (ι (pos 0))) (getD b j (ι (pos 0))))))
 
-  two-sums-symmetric : (k : ℕ) (a b : List A) → twoSums k a b ≡ twoSums k b a
+  two-sums-symmetric : (k : ℕ) (a b : List A) → twoSums R k a b ≡ twoSums R k b a
   unfolding twoSums
   two-sums-symmetric k a b =
       ap₂ _⊕_ (sumWhere-symmetric (λ i j. eqb (i + j) k) (λ i j. ap (λ (m : ℕ). eqb m k) (add-comm i j)) a b)

@@ -4,11 +4,14 @@ use mathlib.Core.List.{List, [], _∷_}
 use Prim.Native.Nat.{ℕ, zero, suc, _+_, _*_, _≤_}
 use lib.IntN.{ℤ, pos, natAbs}
 use lib.ListN.{replicate}
-use Rattle.integer.specs.Ring.{CommutativeRing, reify, solve}
-use Rattle.integer.specs.OrderedRing.{OrderedRing, by-certificate, le-refl, le-of-eq, gap, _⟨≼⟩_, _⊞_, _⟨+⟩_, triangle, abs-mul}
+use Rattle.integer.specs.Ring.{CommutativeRing}
+use Rattle.integer.specs.Solver.{reify, solve}
+use Rattle.integer.specs.OrderedRing.{OrderedRing}
+use Rattle.integer.specs.OrderedRingLaws.{by-certificate, le-refl, le-of-eq, gap, _⟨≼⟩_, _⊞_, _⟨+⟩_, triangle, abs-mul}
 use Rattle.integer.specs.Integer.{ℤ-ring}
 use Rattle.integer.specs.Order.{ℤ-ordered, le-pos, ∣∣-is}
-use Rattle.chebyshev.specs.Coefficients.{weight, norm}
+use Rattle.chebyshev.specs.Coefficients.{weight}
+use Rattle.chebyshev.specs.Norms.{norm}
 use Rattle.chebyshev.specs.NormLaws.{norm-zeros}
 use Rattle.chebyshev.specs.Weight.{norm-weight}
 use Rattle.chebyshev.specs.Product.{distance, addAt, addPair, addRow, addRows, product}

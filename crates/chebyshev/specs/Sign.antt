@@ -7,25 +7,23 @@ use mathlib.Core.HLevel.{¬-prop}
 use mathlib.Core.List.{List, [], _∷_, map}
 use Prim.Native.Nat.{ℕ, zero, suc, _^_, _≤_}
 use native.Mathlib.Omega.{arith}
-use lib.IntN.{ℤ, pos, _+ℤ_}
+use lib.IntN.{ℤ, pos}
 use lib.Signed.{_<ℤ_}
 use Rattle.integer.specs.Archimedean.{archimedean}
-use Rattle.integer.specs.FractionRounding.{natural-positive}
 use Rattle.integer.specs.Embedding.{ι-abs, ι-nonneg}
-use Rattle.integer.specs.OrderedRing.{by-certificate, gap, _⊞_, _⊠_, _⟨≼⟩_, _⟨+⟩_, lt-le, le-refl, le-of-eq, mul-left, abs-upper, abs-neg, abs-mul, abs-mul-le, abs-of-nonneg, triangle}
+use Rattle.integer.specs.OrderedRingLaws.{by-certificate, gap, _⊞_, _⊠_, _⟨≼⟩_, lt-le, le-refl, le-of-eq, mul-left, abs-upper, abs-neg, abs-mul-le, abs-of-nonneg}
 use Rattle.integer.specs.Order.{lt→not-le, pos-le}
-use Rattle.integer.specs.Fraction.{ℚ, whole, _+ℚ_, _-ℚ_, -ℚ_, _*ℚ_, *ℚ-comm, *ℚ-assoc, one-*ℚ, whole-add, whole-mul, ℚ-ring, reifyℚ, solveℚ}
-use Rattle.integer.specs.FractionOrder.{_≤ℚ_, _<ℚ_, ∣_∣ℚ, ℚ-ordered, whole-le}
-use Rattle.integer.specs.FractionInverse.{_/ℚ_, quotient-mul}
-use Rattle.chebyshev.specs.KindsLaws.{first-one}
-use Rattle.chebyshev.specs.Coefficients.{valueFrom, value, norm, lipschitzFrom}
+use Rattle.integer.specs.Fraction.{ℚ, whole, _+ℚ_, _-ℚ_, -ℚ_, _*ℚ_, _≤ℚ_, _<ℚ_, ∣_∣ℚ}
+use Rattle.integer.specs.FractionLaws.{*ℚ-comm, *ℚ-assoc, one-*ℚ, whole-add, whole-mul}
+use Rattle.integer.specs.FractionRing.{ℚ-ring}
+use Rattle.integer.specs.FractionSolver.{reifyℚ, solveℚ}
+use Rattle.integer.specs.FractionOrder.{ℚ-ordered, whole-le}
+use Rattle.chebyshev.specs.RecurrenceLaws.{first-one}
+use Rattle.chebyshev.specs.Coefficients.{coefficientSum, valueFrom, value}
+use Rattle.chebyshev.specs.Norms.{norm, lipschitzFrom}
 use Rattle.chebyshev.specs.NormLaws.{norm-nonneg, value-bound}
 use Rattle.chebyshev.specs.Lipschitz.{value-lipschitz}
-
--- Σ a_k, as in 01's "Σ w_k > 0"
-unfoldable pub coefficientSum : List ℤ → ℤ
-coefficientSum [] = pos 0
-coefficientSum (c ∷ a) = c +ℤ coefficientSum a
+use Rattle.chebyshev.specs.Midpoint.{midpoint, midpoint-range, midpoint-left, midpoint-right, halve}
 
 -- w(1) = Σ w_k
 valueFrom-one : (k : ℕ) (a : List ℤ) → valueFrom ℚ-ring (whole (pos 1)) k (map whole a) ≡ whole (coefficientSum a)
@@ -39,50 +37,6 @@ valueFrom-one k (c ∷ a) =
 value-one : (a : List ℤ) → value ℚ-ring (whole (pos 1)) (map whole a) ≡ whole (coefficientSum a)
 unfolding value
 value-one a = valueFrom-one 0 a
-
--- ---- the midpoint
-
-two-positive : whole (pos 0) <ℚ whole (pos 2)
-two-positive = natural-positive 2 (omega arith)
-
-midpoint : ℚ → ℚ → ℚ
-midpoint x y = (x +ℚ y) /ℚ whole (pos 2)
-
-midpoint-double : (x y : ℚ) → midpoint x y *ℚ whole (pos 2) ≡ x +ℚ y
-unfolding midpoint
-midpoint-double x y = quotient-mul (x +ℚ y) (whole (pos 2)) (λ e. two-positive (le-of-eq ℚ-ordered e))
-
--- half of |t| is the absolute value of half of t
-abs-half : (u t : ℚ) → whole (pos 2) *ℚ u ≡ t → whole (pos 2) *ℚ ∣ u ∣ℚ ≡ ∣ t ∣ℚ
-abs-half u t e = ap (λ z. z *ℚ ∣ u ∣ℚ) (sym (ι-abs ℚ-ordered (pos 2))) ∙ sym (abs-mul ℚ-ordered (whole (pos 2)) u) ∙ ap ∣_∣ℚ e
-
-halve : (u v : ℚ) → (whole (pos 2) *ℚ u) ≤ℚ (whole (pos 2) *ℚ v) → u ≤ℚ v
-halve u v = ℚ-ordered .le-cancel (whole (pos 2)) u v two-positive
-
-midpoint-range : (x y : ℚ) → ∣ x ∣ℚ ≤ℚ whole (pos 1) → ∣ y ∣ℚ ≤ℚ whole (pos 1) → ∣ midpoint x y ∣ℚ ≤ℚ whole (pos 1)
-midpoint-range x y hx hy =
-    halve ∣ midpoint x y ∣ℚ (whole (pos 1))
-    (rw (abs-half (midpoint x y) (x +ℚ y) (*ℚ-comm (whole (pos 2)) (midpoint x y) ∙ midpoint-double x y))
-    (_⟨≼⟩_ ℚ-ordered (triangle ℚ-ordered x y)
-    (_⟨≼⟩_ ℚ-ordered (_⟨+⟩_ ℚ-ordered hx hy) (le-of-eq ℚ-ordered (solveℚ [] (search reifyℚ depth 9) (search reifyℚ depth 9) tt)))))
-
-midpoint-left : (x y : ℚ) → whole (pos 2) *ℚ ∣ x -ℚ midpoint x y ∣ℚ ≡ ∣ x -ℚ y ∣ℚ
-midpoint-left x y = abs-half (x -ℚ midpoint x y) (x -ℚ y) (go (midpoint x y) (midpoint-double x y))
-  where
-    go : (z : ℚ) → z *ℚ whole (pos 2) ≡ x +ℚ y → whole (pos 2) *ℚ (x -ℚ z) ≡ x -ℚ y
-    go z e =
-        solveℚ (x ∷ z ∷ []) (search reifyℚ depth 9) (search reifyℚ depth 9) tt
-        ∙ ap (λ t. whole (pos 2) *ℚ x -ℚ t) e
-        ∙ solveℚ (x ∷ y ∷ []) (search reifyℚ depth 9) (search reifyℚ depth 9) tt
-
-midpoint-right : (x y : ℚ) → whole (pos 2) *ℚ ∣ midpoint x y -ℚ y ∣ℚ ≡ ∣ x -ℚ y ∣ℚ
-midpoint-right x y = abs-half (midpoint x y -ℚ y) (x -ℚ y) (go (midpoint x y) (midpoint-double x y))
-  where
-    go : (z : ℚ) → z *ℚ whole (pos 2) ≡ x +ℚ y → whole (pos 2) *ℚ (z -ℚ y) ≡ x -ℚ y
-    go z e =
-        solveℚ (y ∷ z ∷ []) (search reifyℚ depth 9) (search reifyℚ depth 9) tt
-        ∙ ap (λ t. t -ℚ whole (pos 2) *ℚ y) e
-        ∙ solveℚ (x ∷ y ∷ []) (search reifyℚ depth 9) (search reifyℚ depth 9) tt
 
 -- ---- a Lipschitz function that stays away from 0 keeps its sign
 

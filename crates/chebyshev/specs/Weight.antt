@@ -10,7 +10,8 @@ use lib.Seq.{drop-cons}
 use Rattle.integer.specs.Parts.{_⁺}
 use Rattle.integer.specs.Integer.{ℤ-ring}
 use Rattle.integer.specs.Order.{ℤ-ordered, le-pos, ∣∣-is}
-use Rattle.chebyshev.specs.Coefficients.{weight, addLists, scaleList, subtractLists, norm}
+use Rattle.chebyshev.specs.Coefficients.{weight, addLists, scaleList, subtractLists}
+use Rattle.chebyshev.specs.Norms.{norm}
 use Rattle.chebyshev.specs.NormLaws.{norm-whole, norm-add, norm-opposite, norm-subtract, norm-scale, norm-append, norm-split, norm-take, norm-drop, norm-zeros, norm-append-zeros, norm-at}
 
 pub norm-weight : (a : List ℤ) → norm ℤ-ordered a ≡ pos (weight a)

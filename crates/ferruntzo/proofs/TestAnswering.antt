@@ -6,7 +6,7 @@ use Prim.Native.Nat.{ℕ, _≤_}
 use borrow.Author.Tests.{le-leb}
 use lib.IntN.{ℤ}
 use lib.ListN.{length, drop}
-use Rattle.integer.specs.Clearing.{zeros}
+use Rattle.integer.specs.Lists.{zeros}
 use Rattle.model.specs.Models.{numberOf}
 use Rattle.model.specs.Areas.{modelSize, candidateSize, words, Storable}
 use Rattle.certificate.specs.Tests.{scratchSize, scratchAfter, Test, testOf}

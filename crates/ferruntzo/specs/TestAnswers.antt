@@ -4,7 +4,7 @@ use mathlib.Core.List.{List, [], _∷_}
 use Prim.Native.Nat.{ℕ}
 use lib.IntN.{ℤ}
 use lib.ListN.{length}
-use Rattle.integer.specs.Clearing.{zeros}
+use Rattle.integer.specs.Lists.{zeros}
 use Rattle.model.specs.Areas.{modelSize, candidateSize, areaModel, areaCandidate}
 use Rattle.certificate.specs.Tests.{scratchSize, Test, quotientTest, rootTest}
 use Rattle.ferruntzo.specs.Answers.{fits, numberOut, areaOut, modelOut}

@@ -7,8 +7,10 @@ use lib.IntN.{ℤ, pos, negsuc, _*ℤ_}
 use Rattle.integer.specs.Parts.{_⁺, product}
 use Rattle.integer.specs.Difference.{≤-parts}
 use Rattle.integer.specs.Order.{pos-le}
-use Rattle.integer.specs.Fraction.{ℚ, _/1+_, den-is, den-mul, fraction-mul, whole, whole-is, _*ℚ_}
-use Rattle.integer.specs.FractionOrder.{_≤ℚ_, _<ℚ_, fraction-le, represent2}
+use Rattle.integer.specs.Fraction.{ℚ, _/1+_, whole, _*ℚ_, _≤ℚ_, _<ℚ_}
+use Rattle.integer.specs.PairLaws.{den-is, den-mul}
+use Rattle.integer.specs.FractionLaws.{fraction-mul, whole-is}
+use Rattle.integer.specs.FractionOrder.{fraction-le, represent2}
 
 -- r ≤ n·c for some natural n, where c > 0
 pub archimedean : (r c : ℚ) → whole (pos 0) <ℚ c → ∥ ((n : ℕ) × (r ≤ℚ (whole (pos n) *ℚ c))) ∥₁

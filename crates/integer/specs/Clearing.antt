@@ -4,12 +4,9 @@ use mathlib.Core.List.{List, _++_}
 use Prim.Native.Nat.{ℕ, _+_, _≤_, _<_}
 use native.Mathlib.Omega.{arith}
 use lib.IntN.{ℤ, pos}
-use lib.ListN.{length, getD, set, replicate, length-replicate, getD-replicate, replicate-append-replicate}
+use lib.ListN.{length, getD, set, length-replicate, getD-replicate, replicate-append-replicate}
+use Rattle.integer.specs.Lists.{zeros}
 use Rattle.integer.specs.Filling.{Filling, begins, turn, next, whole}
-
--- n zeros, shut, so that they are never written out
-unfoldable pub zeros : ℕ → List ℤ
-zeros n = replicate n (pos 0)
 
 pub length-zeros : (n : ℕ) → length (zeros n) ≡ n
 unfolding zeros

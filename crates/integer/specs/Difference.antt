@@ -2,7 +2,7 @@
 --   lemma : (x y z : ℤ) → x ≤ℤ y → y <ℤ z → (x +ℤ pos 1) ≤ℤ z
 --   lemma = all3 _ (simp differences (omega arith))
 -- `all3` moves the statement to differences, `differences` turns each operation, ≡, ≤ℤ and <ℤ of them into ℕ.
--- Products up to degree 2 pass too; beyond that use the solver (Ring.antt).
+-- Products up to degree 2 pass too; beyond that use the solver (Solver.antt).
 use mathlib.Core.Path.{_≡_, sym, ap, subst}
 use mathlib.Core.Logic.{_↔_}
 use Prim.Native.Nat.{ℕ, suc, _+_, _*_, _-_, _<_, _≤_}

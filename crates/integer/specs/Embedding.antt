@@ -3,9 +3,10 @@ use mathlib.Core.Path.{_≡_, sym, _∙_, ap}
 use Prim.Native.Nat.{ℕ, zero, suc}
 use native.Mathlib.Omega.{arith}
 use lib.IntN.{ℤ, pos, negsuc, negℤ, natAbs}
-use Rattle.integer.specs.Integer.{neg-is}
+use Rattle.integer.specs.IntegerSolver.{neg-is}
 use Rattle.integer.specs.Ring.{CommutativeRing}
-use Rattle.integer.specs.OrderedRing.{OrderedRing, le-refl, zero-one, abs-of-nonneg, abs-neg, _⊞_}
+use Rattle.integer.specs.OrderedRing.{OrderedRing}
+use Rattle.integer.specs.OrderedRingLaws.{le-refl, zero-one, abs-of-nonneg, abs-neg, _⊞_}
 
 module _ (R : CommutativeRing) where
   open CommutativeRing R using (add as _⊕_, opp as ⊖_, ι, ι-add, ι-mul, opp-is)

@@ -1,15 +1,15 @@
--- One example of each use of the algebra; the guide is at the head of Ring.antt.
+-- Examples of the solver, of linear facts and of a certificate; the guide is at the head of Solver.antt.
 use mathlib.Core.Path.{_≡_}
 use mathlib.Core.List.{[], _∷_}
 use native.Mathlib.Omega.{arith}
 use lib.IntN.{ℤ, pos, _+ℤ_, _-ℤ_, _*ℤ_}
 use lib.Signed.{_≤ℤ_, _<ℤ_}
 use Rattle.integer.specs.Difference.{all4, differences}
-use Rattle.integer.specs.Integer.{reifyℤ, solveℤ}
-use Rattle.integer.specs.OrderedRing.{by-certificate, gap, _⊞_, _⊠_}
+use Rattle.integer.specs.IntegerSolver.{reifyℤ, solveℤ}
+use Rattle.integer.specs.OrderedRingLaws.{by-certificate, gap, _⊞_, _⊠_}
 use Rattle.integer.specs.Order.{ℤ-ordered}
-use Rattle.integer.specs.Fraction.{ℚ, whole, _+ℚ_, _-ℚ_, _*ℚ_, -ℚ_, reifyℚ, solveℚ}
-use Rattle.integer.specs.FractionOrder.{_≤ℚ_}
+use Rattle.integer.specs.Fraction.{ℚ, whole, _+ℚ_, _-ℚ_, _*ℚ_, -ℚ_, _≤ℚ_}
+use Rattle.integer.specs.FractionSolver.{reifyℚ, solveℚ}
 use Rattle.integer.specs.FractionLinear.{common4, common, common-literal, common-differences, linear-prop}
 
 square : (a b : ℤ) → (a +ℤ b) *ℤ (a +ℤ b) ≡ a *ℤ a +ℤ pos 2 *ℤ a *ℤ b +ℤ b *ℤ b

@@ -10,11 +10,14 @@ use Prim.Native.Nat.{ℕ}
 use lib.IntN.{ℤ, _+ℤ_, _*ℤ_}
 use lib.Signed.{_≤ℤ_}
 use Rattle.integer.specs.Difference.{differences}
-use Rattle.integer.specs.Integer.{reifyℤ, solveℤ}
-use Rattle.integer.specs.OrderedRing.{mul-left}
+use Rattle.integer.specs.IntegerSolver.{reifyℤ, solveℤ}
+use Rattle.integer.specs.OrderedRingLaws.{mul-left}
 use Rattle.integer.specs.Order.{ℤ-ordered}
-use Rattle.integer.specs.Fraction.{ℚ, ℚ-set, _/1+_, fraction-eq, fraction-exact, fraction-add, fraction-mul, whole, whole-is, _+ℚ_, _*ℚ_, den, den-D, den-mul, den-zero, den-nonneg, den-product, cancel-den, cancel-den-le, represent}
-use Rattle.integer.specs.FractionOrder.{_≤ℚ_, fraction-le, fraction-neg, ≤ℚ-prop, represent2}
+use Rattle.integer.specs.Fraction.{ℚ, _/1+_, whole, _+ℚ_, _*ℚ_, _≤ℚ_}
+use Rattle.integer.specs.FractionLaws.{ℚ-set, fraction-eq, fraction-exact, fraction-add, fraction-mul, whole-is, represent}
+use Rattle.integer.specs.Pairs.{den, denProduct}
+use Rattle.integer.specs.PairLaws.{den-D, den-mul, den-zero, den-nonneg, cancel-den, cancel-den-le}
+use Rattle.integer.specs.FractionOrder.{fraction-le, fraction-neg, ≤ℚ-prop, represent2}
 
 -- ---- the operations at one denominator
 
@@ -58,24 +61,24 @@ pub ruleset linear-prop = (le-prop, eq-prop, arrow-prop)
 -- ---- any two, three or four fractions have a common denominator
 
 -- a/b at the denominator b d
-scaled : (a : ℤ) (b d : ℕ) → a /1+ b ≡ (a *ℤ den d) /1+ den-product b d
+scaled : (a : ℤ) (b d : ℕ) → a /1+ b ≡ (a *ℤ den d) /1+ denProduct b d
 scaled a b d = fraction-eq _ _ _ _ (rw den-mul (solveℤ (a ∷ den b ∷ den d ∷ []) (search reifyℤ depth 9) (search reifyℤ depth 9) tt))
 
-scaled-right : (a : ℤ) (b d : ℕ) → a /1+ d ≡ (a *ℤ den b) /1+ den-product b d
+scaled-right : (a : ℤ) (b d : ℕ) → a /1+ d ≡ (a *ℤ den b) /1+ denProduct b d
 scaled-right a b d = fraction-eq _ _ _ _ (rw den-mul (solveℤ (a ∷ den b ∷ den d ∷ []) (search reifyℤ depth 9) (search reifyℤ depth 9) tt))
 
 pub common2 : (P : ℚ → ℚ → Type 0) → ((x y : ℚ) → IsProp (P x y)) → ((k : ℕ) (a b : ℤ) → P (a /1+ k) (b /1+ k)) → (x y : ℚ) → P x y
-common2 P h f = represent2 P h (λ a b c d. rw (scaled a b d, scaled-right c b d) (f (den-product b d) (a *ℤ den d) (c *ℤ den b)))
+common2 P h f = represent2 P h (λ a b c d. rw (scaled a b d, scaled-right c b d) (f (denProduct b d) (a *ℤ den d) (c *ℤ den b)))
 
 -- the first fraction joins the others' denominator
 pub common3 : (P : ℚ → ℚ → ℚ → Type 0) → ((x y z : ℚ) → IsProp (P x y z)) → ((k : ℕ) (a b c : ℤ) → P (a /1+ k) (b /1+ k) (c /1+ k)) → (x y z : ℚ) → P x y z
 common3 P h f x =
     common2 (P x) (h x)
     (λ k b c. represent (λ x. P x (b /1+ k) (c /1+ k)) (λ x. h x (b /1+ k) (c /1+ k))
-    (λ a d. rw (scaled a d k, scaled-right b d k, scaled-right c d k) (f (den-product d k) (a *ℤ den k) (b *ℤ den d) (c *ℤ den d))) x)
+    (λ a d. rw (scaled a d k, scaled-right b d k, scaled-right c d k) (f (denProduct d k) (a *ℤ den k) (b *ℤ den d) (c *ℤ den d))) x)
 
 pub common4 : (P : ℚ → ℚ → ℚ → ℚ → Type 0) → ((x y z w : ℚ) → IsProp (P x y z w)) → ((k : ℕ) (a b c d : ℤ) → P (a /1+ k) (b /1+ k) (c /1+ k) (d /1+ k)) → (x y z w : ℚ) → P x y z w
 common4 P h f x =
     common3 (P x) (h x)
     (λ k b c d. represent (λ x. P x (b /1+ k) (c /1+ k) (d /1+ k)) (λ x. h x (b /1+ k) (c /1+ k) (d /1+ k))
-    (λ a e. rw (scaled a e k, scaled-right b e k, scaled-right c e k, scaled-right d e k) (f (den-product e k) (a *ℤ den k) (b *ℤ den e) (c *ℤ den e) (d *ℤ den e))) x)
+    (λ a e. rw (scaled a e k, scaled-right b e k, scaled-right c e k, scaled-right d e k) (f (denProduct e k) (a *ℤ den k) (b *ℤ den e) (c *ℤ den e) (d *ℤ den e))) x)

@@ -1,62 +1,28 @@
--- The order, |·| and the inverse of fractions; ℚ is an ordered commutative ring: `ℚ-ordered`.
--- The passage to whole numbers is by cross-multiplication: `fraction-le`, `fraction-lt`.
+-- The laws of the order and |·| of fractions; ℚ is an ordered commutative ring: `ℚ-ordered`. The passage to whole numbers is by
+-- cross-multiplication: `fraction-le`.
 use mathlib.Core.Path.{_≡_, refl, sym, _∙_, ap, subst}
 use mathlib.Core.Logic.{_↔_, _⊎_, inl, inr}
 use mathlib.Core.HLevel.{Π-prop}
-use mathlib.Core.Bool.{Bool, true, false, not, Bool-set}
+use mathlib.Core.Bool.{Bool, true, false, not}
 use mathlib.Core.List.{[], _∷_}
 use mathlib.Core.Quot.{Quotient·lift, Quotient·lift₂}
 use Prim.Native.Nat.{ℕ, _+_, _*_}
 use lib.Dec.{T, T-prop}
 use lib.IntN.{ℤ, pos, negℤ, _+ℤ_, _*ℤ_, zero-*ℤ}
-use lib.Signed.{_≤ℤ_, leZ, leZ-yes}
-use Rattle.integer.specs.Integer.{reifyℤ, solveℤ, combine1, *-one}
-use Rattle.integer.specs.OrderedRing.{OrderedRing, by-certificate, gap, _⊞_, _⊠_, mul-left, abs-mul, abs-of-nonneg}
-use Rattle.integer.specs.Order.{ℤ-ordered, total, mul-nonneg, cancel, abs-nonneg, abs-cases, ∣_∣}
-use Rattle.integer.specs.Fraction.{Pair, pairs, ℚ, ℚ-set, _/1+_, represent, den, den-product, den-mul, den-nonneg, den-zero, cancel-den-le, _+ℚ_, _*ℚ_, -ℚ_, _-ℚ_, -ℚ-is, fraction-add, fraction-mul, fraction-eq, fraction-exact, whole, whole-is, ℚ-ring, reifyℚ, solveℚ}
-
-bool-ext : (x y : Bool) → (T x → T y) → (T y → T x) → x ≡ y
-bool-ext true true f g = refl
-bool-ext true false f g = absurd (f tt)
-bool-ext false true f g = absurd (g tt)
-bool-ext false false f g = refl
-
--- ---- the order, by cross-multiplication
-
-le-pair : Pair → Pair → Bool
-le-pair x y = leZ (x .num *ℤ den (y .below)) (y .num *ℤ den (x .below))
-
-le-ok : (a c a′ c′ : ℤ) (b d b′ d′ : ℕ) → a *ℤ den b′ ≡ a′ *ℤ den b → c *ℤ den d′ ≡ c′ *ℤ den d → (a *ℤ den d) ≤ℤ (c *ℤ den b) → (a′ *ℤ den d′) ≤ℤ (c′ *ℤ den b′)
-le-ok a c a′ c′ b d b′ d′ e f h =
-    cancel-den-le (den-product b d) _ _
-    (rw den-mul
-    (rw (left (den b) (den d) (den b′) (den d′) e, right (den b) (den d) (den b′) (den d′) f)
-    (mul-left ℤ-ordered (den b′ *ℤ den d′) (mul-nonneg _ _ (den-nonneg b′) (den-nonneg d′)) h)))
-  where
-    left : (B D B′ D′ : ℤ) → a *ℤ B′ ≡ a′ *ℤ B → a′ *ℤ D′ *ℤ (B *ℤ D) ≡ B′ *ℤ D′ *ℤ (a *ℤ D)
-    left B D B′ D′ e = combine1 (negℤ (D *ℤ D′)) e (solveℤ (a ∷ a′ ∷ B ∷ D ∷ B′ ∷ D′ ∷ []) (search reifyℤ depth 20) (search reifyℤ depth 20) tt)
-
-    right : (B D B′ D′ : ℤ) → c *ℤ D′ ≡ c′ *ℤ D → c′ *ℤ B′ *ℤ (B *ℤ D) ≡ B′ *ℤ D′ *ℤ (c *ℤ B)
-    right B D B′ D′ f = combine1 (negℤ (B *ℤ B′)) f (solveℤ (c ∷ c′ ∷ B ∷ D ∷ B′ ∷ D′ ∷ []) (search reifyℤ depth 20) (search reifyℤ depth 20) tt)
-
-leℚ : ℚ → ℚ → Bool
-unfolding ℚ le-pair
-leℚ =
-    Quotient·lift₂ pairs pairs Bool-set le-pair
-    (λ x y x′ y′ p q.
-    bool-ext _ _
-    (λ t. le-ok (x .num) (y .num) (x′ .num) (y′ .num) (x .below) (y .below) (x′ .below) (y′ .below) p q (leZ-yes t) .le)
-    (λ t. le-ok (x′ .num) (y′ .num) (x .num) (y .num) (x′ .below) (y′ .below) (x .below) (y .below) (sym p) (sym q) (leZ-yes t) .le))
-
-infix 5 _≤ℚ_ _<ℚ_
-pub record _≤ℚ_ (x y : ℚ) : Type 0 where
-  leq : T (leℚ x y)
-
-abbrev pub _<ℚ_ : ℚ → ℚ → Type 0
-x <ℚ y = ¬ (y ≤ℚ x)
+use lib.Signed.{_≤ℤ_, leZ-yes}
+use Rattle.integer.specs.IntegerSolver.{reifyℤ, solveℤ, *-one}
+use Rattle.integer.specs.OrderedRing.{OrderedRing}
+use Rattle.integer.specs.OrderedRingLaws.{by-certificate, gap, _⊞_, _⊠_, abs-of-nonneg, abs-neg}
+use Rattle.integer.specs.Order.{ℤ-ordered, total, mul-nonneg, cancel, abs-nonneg, ∣_∣, ∣∣-is}
+use Rattle.integer.specs.Pairs.{den}
+use Rattle.integer.specs.PairLaws.{den-mul, den-nonneg, den-zero, cancel-den-le}
+use Rattle.integer.specs.Fraction.{ℚ, _/1+_, on, _+ℚ_, _*ℚ_, -ℚ_, whole, ∣_∣ℚ, leℚ, _≤ℚ_}
+use Rattle.integer.specs.FractionLaws.{ℚ-set, represent, -ℚ-is, fraction-add, fraction-mul, fraction-eq, fraction-exact, whole-is}
+use Rattle.integer.specs.FractionRing.{ℚ-ring}
+use Rattle.integer.specs.FractionSolver.{reifyℚ, solveℚ}
 
 pub fraction-le : (a : ℤ) (b : ℕ) (c : ℤ) (d : ℕ) → (a /1+ b ≤ℚ c /1+ d) ↔ ((a *ℤ den d) ≤ℤ (c *ℤ den b))
-unfolding ℚ _/1+_ leℚ le-pair Quotient·lift₂
+unfolding ℚ _/1+_ leℚ Quotient·lift₂
 fraction-le a b c d = (λ h. leZ-yes (h .leq), λ h. record { leq = h .le })
 
 pub ≤ℚ-prop : (x y : ℚ) → IsProp (x ≤ℚ y)
@@ -143,22 +109,9 @@ pub ≤ℚ-cancel : (c u v : ℚ) → ¬ (c ≤ℚ whole (pos 0)) → (c *ℚ u)
 
 -- ---- |·|
 
-abs-pair : Pair → ℚ
-abs-pair x = ∣ x .num ∣ /1+ x .below
-
-abs-ok : (a a′ : ℤ) (b b′ : ℕ) → a *ℤ den b′ ≡ a′ *ℤ den b → ∣ a ∣ *ℤ den b′ ≡ ∣ a′ ∣ *ℤ den b
-abs-ok a a′ b b′ e = into a b′ ∙ ap ∣_∣ e ∙ sym (into a′ b)
-  where
-    into : (a : ℤ) (b : ℕ) → ∣ a ∣ *ℤ den b ≡ ∣ a *ℤ den b ∣
-    into a b = ap (λ z. ∣ a ∣ *ℤ z) (sym (abs-of-nonneg ℤ-ordered (den-nonneg b))) ∙ sym (abs-mul ℤ-ordered a (den b))
-
-pub ∣_∣ℚ : ℚ → ℚ
-unfolding ℚ abs-pair
-∣_∣ℚ = Quotient·lift pairs ℚ-set abs-pair (λ x y p. fraction-eq _ _ _ _ (abs-ok (x .num) (y .num) (x .below) (y .below) p))
-
 pub fraction-abs : (a : ℤ) (b : ℕ) → ∣ a /1+ b ∣ℚ ≡ ∣ a ∣ /1+ b
-unfolding ℚ _/1+_ ∣_∣ℚ abs-pair Quotient·lift
-fraction-abs a b = refl
+unfolding ℚ _/1+_ ∣_∣ℚ on Quotient·lift
+fraction-abs a b = ap (λ z. z /1+ b) (sym (∣∣-is a))
 
 pub absℚ-nonneg : (x : ℚ) → whole (pos 0) ≤ℚ ∣ x ∣ℚ
 absℚ-nonneg = represent _ (λ x. ≤ℚ-prop _ _) (λ a b. simp (fraction-abs, nonneg-num) (abs-nonneg a))
@@ -175,7 +128,7 @@ absℚ-of-nonneg =
 absℚ-neg : (x : ℚ) → ∣ -ℚ x ∣ℚ ≡ ∣ x ∣ℚ
 absℚ-neg =
     represent _ (λ x. ℚ-set _ _)
-    (λ a b. ap ∣_∣ℚ (fraction-neg a b) ∙ fraction-abs (negℤ a) b ∙ ap (λ z. z /1+ b) (Rattle.integer.specs.OrderedRing.abs-neg ℤ-ordered a) ∙ sym (fraction-abs a b))
+    (λ a b. ap ∣_∣ℚ (fraction-neg a b) ∙ fraction-abs (negℤ a) b ∙ ap (λ z. z /1+ b) (abs-neg ℤ-ordered a) ∙ sym (fraction-abs a b))
 
 pub absℚ-cases : (x : ℚ) → (∣ x ∣ℚ ≡ x) ⊎ (∣ x ∣ℚ ≡ -ℚ x)
 absℚ-cases x = pick (≤ℚ-total (whole (pos 0)) x)

@@ -3,10 +3,11 @@ use mathlib.Core.Path.{_≡_}
 use Prim.Native.Nat.{ℕ, _+_, _*_, _<_, _≤_}
 use native.Mathlib.Omega.{arith}
 use lib.IntN.{pos}
-use Rattle.integer.specs.OrderedRing.{_⟨≼⟩_, abs-scale}
+use Rattle.integer.specs.OrderedRingLaws.{_⟨≼⟩_, le-of-eq, abs-scale}
 use Rattle.integer.specs.Order.{pos-le, le-pos}
-use Rattle.integer.specs.Fraction.{ℚ, whole, _+ℚ_, _*ℚ_, whole-add, whole-mul}
-use Rattle.integer.specs.FractionOrder.{_≤ℚ_, _<ℚ_, ∣_∣ℚ, ℚ-ordered, whole-le}
+use Rattle.integer.specs.Fraction.{ℚ, whole, _+ℚ_, _*ℚ_, _≤ℚ_, _<ℚ_, ∣_∣ℚ}
+use Rattle.integer.specs.FractionLaws.{whole-add, whole-mul}
+use Rattle.integer.specs.FractionOrder.{ℚ-ordered, whole-le}
 use Rattle.integer.specs.Rounding.{upℕ}
 use Rattle.integer.specs.RoundingLaws.{le-upℕ}
 
@@ -21,6 +22,9 @@ natural-le {m} {n} h = whole-le (pos m) (pos n) .1 (pos-le m n h)
 
 pub natural-positive : (n : ℕ) → 0 < n → whole (pos 0) <ℚ whole (pos n)
 natural-positive n h k = omega (arith, le-pos n 0 (whole-le (pos n) (pos 0) .0 k))
+
+pub natural-nonzero : {n : ℕ} → 0 < n → ¬ (whole (pos n) ≡ whole (pos 0))
+natural-nonzero {n} h e = natural-positive n h (le-of-eq ℚ-ordered e)
 
 -- d·|z| ≤ n gives |z| ≤ up(n/d)
 pub up-bound : (n d : ℕ) (z : ℚ) → 0 < d → ∣ whole (pos d) *ℚ z ∣ℚ ≤ℚ whole (pos n) → ∣ z ∣ℚ ≤ℚ whole (pos (upℕ n d))

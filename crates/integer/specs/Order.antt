@@ -1,5 +1,5 @@
 -- ℤ is an ordered commutative ring: `ℤ-ordered`. Its order is lib.Signed's ≤ℤ and <ℤ, and |z| is `∣ z ∣`, a whole number
--- (lib.IntN's natAbs is the same as a natural number). Laws for every ordered ring are in OrderedRing.antt, as
+-- (lib.IntN's natAbs is the same as a natural number). Laws for every ordered ring are in OrderedRingLaws.antt, as
 -- `triangle ℤ-ordered x y`; linear facts are one line by Difference.antt.
 use mathlib.Core.Path.{_≡_, refl}
 use mathlib.Core.Logic.{_⊎_, inl, inr}

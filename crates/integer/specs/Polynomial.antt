@@ -1,5 +1,5 @@
 -- Polynomials with coefficients in ℤ in Horner form, as antt computes them, and the expressions that the ring solver
--- (Ring.antt) reads. No ring is named here.
+-- (Solver.antt) reads. No ring is named here.
 use mathlib.Core.Path.{_≡_, refl}
 use mathlib.Core.Bool.{Bool, true, false}
 use Prim.Native.Nat.{ℕ, zero, suc}

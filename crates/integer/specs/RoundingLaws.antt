@@ -6,9 +6,9 @@ use native.Mathlib.Omega.{arith}
 use native.Mathlib.Nat.{mul-div-le, lt-div-mul-add}
 use lib.IntN.{ℤ, pos, negsuc, negℤ, natAbs, _+ℤ_, _-ℤ_, _*ℤ_}
 use lib.Signed.{_≤ℤ_, _<ℤ_}
-use Rattle.integer.specs.Parts.{abs, sum, product, opposite, difference, apart}
+use Rattle.integer.specs.Parts.{_⁺, _⁻, abs, sum, product, opposite, difference, apart}
 use Rattle.integer.specs.Difference.{all1, all2, all3, differences, ≤-parts, <-parts}
-use Rattle.integer.specs.OrderedRing.{mul-left}
+use Rattle.integer.specs.OrderedRingLaws.{mul-left}
 use Rattle.integer.specs.Order.{ℤ-ordered, decide, not-le→lt, pos-le, ∣_∣, ∣∣-is}
 use Rattle.integer.specs.Rounding.{floor, up, upℕ, near}
 
@@ -161,3 +161,26 @@ near-closer n d h = go (near n d) (near-error n d h)
 
 pub near-error-abs : (n : ℤ) (d : ℕ) → 0 < d → (pos 2 *ℤ ∣ near n d *ℤ pos d -ℤ n ∣) ≤ℤ pos d
 near-error-abs n d h = rw ∣∣-is (pos-le _ _ (near-error n d h))
+
+-- ---- the same by what is left over, x = n − c d: 0 ≤ x < d, −d < x ≤ 0, −d ≤ 2 x < d
+
+module _ (n c x : ℤ) (d : ℕ) (split : n ≡ c *ℤ pos d +ℤ x) where
+  abbrev m : ℤ
+  m = c *ℤ pos d
+
+  pub floor-left : x ⁻ ≡ 0 → x ⁺ < d → c ≡ floor n d
+  floor-left lo hi =
+      floor-unique n c d (omega arith) (rw split (≤-parts m (m +ℤ x) .1 (omega (arith, sum m x))))
+      (rw split (<-parts (m +ℤ x) (m +ℤ pos d) .1 (omega (arith, sum m x, sum m (pos d)))))
+
+  pub up-left : x ⁺ ≡ 0 → x ⁻ < d → c ≡ up n d
+  up-left hi lo =
+      up-unique n c d (omega arith) (rw split (≤-parts (m +ℤ x) m .1 (omega (arith, sum m x))))
+      (rw split (<-parts m (m +ℤ x +ℤ pos d) .1 (omega (arith, sum m x, sum (m +ℤ x) (pos d)))))
+
+  pub near-left : 2 * x ⁺ < d → 2 * x ⁻ ≤ d → c ≡ near n d
+  near-left hi lo =
+      let e = m -ℤ (m +ℤ x) in
+      near-unique n c d (omega arith)
+      (rw split (<-parts (negℤ (pos d)) (pos 2 *ℤ e) .1 (omega (arith, opposite (pos d), product (pos 2) e, difference m (m +ℤ x), sum m x))))
+      (rw split (≤-parts (pos 2 *ℤ e) (pos d) .1 (omega (arith, product (pos 2) e, difference m (m +ℤ x), sum m x))))

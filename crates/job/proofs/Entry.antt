@@ -11,7 +11,8 @@ use lib.Seq.{drop-at}
 use Rattle.model.specs.declared.types.Refusal.the-variants.{ShortArea}
 use Rattle.certificate.specs.Tests.{scratchSize}
 use Rattle.certificate.specs.Stages.{scratch-cleared}
-use Rattle.integer.specs.Clearing.{zeros, length-zeros}
+use Rattle.integer.specs.Lists.{zeros}
+use Rattle.integer.specs.Clearing.{length-zeros}
 use Rattle.job.specs.Outcomes.{jobOutcomeOf, counted}
 use Rattle.job.specs.Jobs.{jobOf}
 use Rattle.job.specs.Work.{workSize, workOf, areaPlaces, areasFit, checkOf, workAfter, scratchAfterJob, resultsOf}

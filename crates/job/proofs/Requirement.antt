@@ -7,7 +7,7 @@ use native.Mathlib.Omega.{arith}
 use borrow.Author.Tests.{leb-false}
 use lib.IntN.{ℤ}
 use lib.ListN.{length}
-use Rattle.integer.specs.OrderedRing.{lt-le}
+use Rattle.integer.specs.OrderedRingLaws.{lt-le}
 use Rattle.integer.specs.Fraction.{ℚ}
 use Rattle.integer.specs.FractionOrder.{ℚ-ordered}
 use Rattle.model.specs.Values.{Allows}

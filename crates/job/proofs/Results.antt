@@ -6,7 +6,8 @@ use native.Mathlib.Omega.{arith}
 use lib.IntN.{ℤ}
 use lib.ListN.{length, take, drop, length-append}
 use lib.Seq.{take-at, take-suc, take-length, drop-at, drop-append-add, drop-drop}
-use Rattle.integer.specs.Clearing.{zeros, length-zeros, zeros-append}
+use Rattle.integer.specs.Lists.{zeros}
+use Rattle.integer.specs.Clearing.{length-zeros, zeros-append}
 use Rattle.model.specs.Models.{coefficientCount, zeroModel}
 use Rattle.model.specs.Areas.{modelSize, words, areaModel}
 use Rattle.model.specs.AreaLaws.{length-words, model-words}

@@ -7,8 +7,7 @@ use native.Mathlib.Omega.{arith}
 use borrow.Author.Tests.{eqb-true, eqb-false, ne-eqb}
 use lib.Dec.{eqb}
 use lib.IntN.{pos}
-use Rattle.integer.specs.Fraction.{ℚ, whole, _+ℚ_, _-ℚ_, _*ℚ_}
-use Rattle.integer.specs.FractionInverse.{_/ℚ_}
+use Rattle.integer.specs.Fraction.{ℚ, whole, _+ℚ_, _-ℚ_, _*ℚ_, _/ℚ_}
 use Rattle.job.specs.Makers.{Maker, load, add, subtract, multiply, quotient, root, namesBad}
 use Rattle.job.specs.Commands.{Command, edition, result, finish, unknown}
 use Rattle.job.specs.JobReading.{commandOf}

@@ -4,10 +4,9 @@ use mathlib.Core.Path.{_≡_, sym, _∙_, ap}
 use mathlib.Core.List.{List}
 use Prim.Native.Nat.{ℕ}
 use lib.IntN.{pos}
-use Rattle.integer.specs.OrderedRing.{le-of-eq}
-use Rattle.integer.specs.Fraction.{ℚ, whole, _+ℚ_, _-ℚ_, _*ℚ_}
-use Rattle.integer.specs.FractionOrder.{_<ℚ_, ℚ-ordered}
-use Rattle.integer.specs.FractionInverse.{_/ℚ_}
+use Rattle.integer.specs.OrderedRingLaws.{le-of-eq}
+use Rattle.integer.specs.Fraction.{ℚ, whole, _+ℚ_, _-ℚ_, _*ℚ_, _<ℚ_, _/ℚ_}
+use Rattle.integer.specs.FractionOrder.{ℚ-ordered}
 use Rattle.model.specs.Values.{Allows, OnInterval}
 use Rattle.model.specs.Outcomes.{Outcome, accepted}
 use Rattle.model.specs.OperationsSound.{addition-sound, subtraction-sound, multiplication-sound}

@@ -6,9 +6,9 @@ use mathlib.Core.List.{List}
 use mathlib.Core.Logic.{_⊎_, inl, inr}
 use Prim.Native.Nat.{ℕ, _<_}
 use lib.IntN.{ℤ, pos}
-use Rattle.integer.specs.OrderedRing.{le-refl, le-of-eq}
-use Rattle.integer.specs.Fraction.{ℚ, whole, _*ℚ_}
-use Rattle.integer.specs.FractionOrder.{_≤ℚ_, _<ℚ_, ℚ-ordered, ≤ℚ-antisym, ≤ℚ-decide}
+use Rattle.integer.specs.OrderedRingLaws.{le-refl, le-of-eq}
+use Rattle.integer.specs.Fraction.{ℚ, whole, _*ℚ_, _≤ℚ_, _<ℚ_}
+use Rattle.integer.specs.FractionOrder.{ℚ-ordered, ≤ℚ-antisym, ≤ℚ-decide}
 use Rattle.model.specs.Values.{Allows, OnInterval}
 use Rattle.certificate.specs.Tests.{RootRule}
 use Rattle.model.specs.declared.types.Model.{Model}

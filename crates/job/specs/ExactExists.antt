@@ -8,8 +8,9 @@ use Prim.Native.Nat.{ℕ, zero, suc, _<_}
 use native.Mathlib.Omega.{arith}
 use borrow.Author.Tests.{leb-false}
 use lib.IntN.{ℤ}
-use Rattle.integer.specs.Fraction.{ℚ, _*ℚ_, -ℚ_, reifyℚ, solveℚ}
-use Rattle.integer.specs.FractionOrder.{∣_∣ℚ, absℚ-nonneg, absℚ-cases}
+use Rattle.integer.specs.Fraction.{ℚ, _*ℚ_, -ℚ_, ∣_∣ℚ}
+use Rattle.integer.specs.FractionSolver.{reifyℚ, solveℚ}
+use Rattle.integer.specs.FractionOrder.{absℚ-nonneg, absℚ-cases}
 use Rattle.model.specs.Values.{Allows, OnInterval}
 use Rattle.job.specs.Makers.{Maker, load, add, subtract, multiply, quotient, root, rowOf, namesBad}
 use Rattle.job.specs.Commands.{Command, result}

@@ -5,9 +5,7 @@ use mathlib.Core.List.{List}
 use mathlib.Core.Logic.{_⊎_}
 use Prim.Native.Nat.{ℕ, _<_}
 use lib.IntN.{pos}
-use Rattle.integer.specs.Fraction.{ℚ, whole, _+ℚ_, _-ℚ_, _*ℚ_}
-use Rattle.integer.specs.FractionOrder.{_≤ℚ_, ∣_∣ℚ}
-use Rattle.integer.specs.FractionInverse.{_/ℚ_}
+use Rattle.integer.specs.Fraction.{ℚ, whole, _+ℚ_, _-ℚ_, _*ℚ_, _≤ℚ_, ∣_∣ℚ, _/ℚ_}
 use Rattle.model.specs.Values.{Allows}
 use Rattle.certificate.specs.Tests.{RootRule}
 use Rattle.model.specs.declared.types.Model.{Model}

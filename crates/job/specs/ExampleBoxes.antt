@@ -7,9 +7,11 @@ use native.Mathlib.Omega.{arith}
 use lib.IntN.{ℤ, pos, negsuc, _*ℤ_}
 use lib.ListN.{getD}
 use lib.Signed.{_≤ℤ_, leZ-yes}
-use Rattle.integer.specs.OrderedRing.{le-refl}
-use Rattle.integer.specs.Fraction.{ℚ, whole, whole-is, _/1+_, _*ℚ_, fraction-add, fraction-mul, fraction-eq, den-is, den-mul}
-use Rattle.integer.specs.FractionOrder.{_≤ℚ_, _<ℚ_, ℚ-ordered, fraction-le, fraction-neg}
+use Rattle.integer.specs.OrderedRingLaws.{le-refl}
+use Rattle.integer.specs.Fraction.{ℚ, whole, _/1+_, _*ℚ_, _≤ℚ_, _<ℚ_}
+use Rattle.integer.specs.FractionLaws.{whole-is, fraction-add, fraction-mul, fraction-eq}
+use Rattle.integer.specs.PairLaws.{den-is, den-mul}
+use Rattle.integer.specs.FractionOrder.{ℚ-ordered, fraction-le, fraction-neg}
 use Rattle.job.specs.Requirement.{Box, Lies, Permitted, load-box, add-box, subtract-box, multiply-box, quotient-box, root-box}
 use Rattle.job.specs.ExampleJob.{exampleCommands}
 use Rattle.job.specs.ExampleValues.{third, allows-a, allows-b, divided, nonzero, upto-at}

@@ -3,9 +3,8 @@ use mathlib.Core.Path.{_≡_, refl}
 use mathlib.Core.List.{List, [], _∷_, _++_}
 use Prim.Native.Nat.{ℕ}
 use Rattle.integer.specs.Rounding.{upℕ, near, floor}
-use Rattle.chebyshev.specs.Coefficients.{weight, addLists, subtractLists, scaleList}
+use Rattle.chebyshev.specs.Coefficients.{weight, addLists, subtractLists, scaleList, coefficientSum}
 use Rattle.chebyshev.specs.Product.{addAt, addPair, addRow, addRows, product}
-use Rattle.chebyshev.specs.Sign.{coefficientSum}
 use Rattle.model.specs.Models.{good, tooLarge, zeroModel}
 use Rattle.model.specs.Outcomes.{passing}
 use Rattle.model.specs.Operations.{sumModel, differenceModel, productModel, productList, productLoss, rounded, roundingLoss}

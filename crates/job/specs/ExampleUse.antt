@@ -9,7 +9,8 @@ use native.Mathlib.Omega.{arith}
 use lib.IntN.{ℤ}
 use lib.ListN.{length}
 use lib.Signed.{leZ-yes}
-use Rattle.integer.specs.Fraction.{whole-is, den-is}
+use Rattle.integer.specs.FractionLaws.{whole-is}
+use Rattle.integer.specs.PairLaws.{den-is}
 use Rattle.integer.specs.FractionOrder.{fraction-le, fraction-neg}
 use Rattle.model.specs.Outcomes.{Passed}
 use Rattle.model.specs.Values.{Allows, OnInterval}

@@ -11,10 +11,14 @@ use lib.ListN.{getD}
 use lib.Signed.{leZ-yes}
 use Rattle.integer.specs.Parts.{_⁺}
 use Rattle.integer.specs.Order.{∣∣-is}
-use Rattle.integer.specs.Fraction.{ℚ, whole, whole-is, _/1+_, _*ℚ_, _-ℚ_, fraction-add, fraction-mul, fraction-eq, fraction-exact, den-is, den-mul, ℚ-ring, reifyℚ, solveℚ}
-use Rattle.integer.specs.FractionOrder.{_≤ℚ_, ∣_∣ℚ, fraction-le, fraction-neg, fraction-abs}
-use Rattle.integer.specs.FractionInverse.{inverse, _/ℚ_, inverse-right}
-use Rattle.chebyshev.specs.Kinds.{firstKind}
+use Rattle.integer.specs.Fraction.{ℚ, whole, _/1+_, _*ℚ_, _-ℚ_, _≤ℚ_, ∣_∣ℚ, inverse, _/ℚ_}
+use Rattle.integer.specs.FractionLaws.{whole-is, fraction-add, fraction-mul, fraction-eq, fraction-exact}
+use Rattle.integer.specs.PairLaws.{den-is, den-mul}
+use Rattle.integer.specs.FractionRing.{ℚ-ring}
+use Rattle.integer.specs.FractionSolver.{reifyℚ, solveℚ}
+use Rattle.integer.specs.FractionOrder.{fraction-le, fraction-neg, fraction-abs}
+use Rattle.integer.specs.FractionInverse.{inverse-right}
+use Rattle.chebyshev.specs.Recurrences.{firstKind}
 use Rattle.chebyshev.specs.Coefficients.{value, valueFrom}
 use Rattle.chebyshev.specs.CoefficientLaws.{value-constant}
 use Rattle.chebyshev.specs.Allows.{allows}

@@ -3,10 +3,12 @@ use mathlib.Core.Path.{_≡_, sym, _∙_, ap, subst}
 use mathlib.Core.Logic.{_⊎_, inl, inr}
 use mathlib.Core.List.{[], _∷_}
 use lib.IntN.{pos}
-use Rattle.integer.specs.OrderedRing.{le-of-eq, mul-left, le-neg, _⟨+⟩_, by-certificate, gap, _⊠_}
-use Rattle.integer.specs.Fraction.{ℚ, whole, _+ℚ_, _-ℚ_, _*ℚ_, -ℚ_, reifyℚ, solveℚ, *ℚ-comm}
-use Rattle.integer.specs.FractionOrder.{_≤ℚ_, _<ℚ_, ℚ-ordered, ≤ℚ-trans, ≤ℚ-total, ≤ℚ-decide, ≤ℚ-cancel}
-use Rattle.integer.specs.FractionInverse.{inverse, _/ℚ_, inverse-right}
+use Rattle.integer.specs.OrderedRingLaws.{le-of-eq, mul-left, le-neg, _⟨+⟩_, by-certificate, gap, _⊠_}
+use Rattle.integer.specs.Fraction.{ℚ, whole, _+ℚ_, _-ℚ_, _*ℚ_, -ℚ_, _≤ℚ_, _<ℚ_, inverse, _/ℚ_}
+use Rattle.integer.specs.FractionSolver.{reifyℚ, solveℚ}
+use Rattle.integer.specs.FractionLaws.{*ℚ-comm}
+use Rattle.integer.specs.FractionOrder.{ℚ-ordered, ≤ℚ-trans, ≤ℚ-total, ≤ℚ-decide, ≤ℚ-cancel}
+use Rattle.integer.specs.FractionInverse.{inverse-right}
 use Rattle.job.specs.Requirement.{Box, Lies, ContainsFour}
 
 abbrev zeroℚ : ℚ

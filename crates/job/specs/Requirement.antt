@@ -15,9 +15,7 @@ use mathlib.Core.List.{List, [], _∷_, _++_}
 use Prim.Native.Nat.{ℕ, _<_}
 use lib.IntN.{ℤ, pos}
 use lib.ListN.{length}
-use Rattle.integer.specs.Fraction.{ℚ, whole, _+ℚ_, _-ℚ_, _*ℚ_}
-use Rattle.integer.specs.FractionOrder.{_≤ℚ_, _<ℚ_}
-use Rattle.integer.specs.FractionInverse.{_/ℚ_}
+use Rattle.integer.specs.Fraction.{ℚ, whole, _+ℚ_, _-ℚ_, _*ℚ_, _≤ℚ_, _<ℚ_, _/ℚ_}
 use Rattle.model.specs.Values.{Allows, OnInterval}
 use Rattle.model.specs.Outcomes.{Outcome}
 use Rattle.certificate.specs.Tests.{Certificate, RootRule}

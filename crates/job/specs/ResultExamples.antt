@@ -5,11 +5,10 @@ use mathlib.Core.List.{List, [], _∷_, _++_, map}
 use Prim.Native.Nat.{ℕ}
 use lib.IntN.{ℤ, pos, negsuc}
 use lib.ListN.{replicate, getD}
-use Rattle.integer.specs.Clearing.{zeros}
+use Rattle.integer.specs.Lists.{zeros}
 use Rattle.integer.specs.Rounding.{upℕ, near, floor}
-use Rattle.chebyshev.specs.Coefficients.{weight, addLists, subtractLists, scaleList}
+use Rattle.chebyshev.specs.Coefficients.{weight, addLists, subtractLists, scaleList, coefficientSum}
 use Rattle.chebyshev.specs.Product.{addAt, addPair, addRow, addRows, product}
-use Rattle.chebyshev.specs.Sign.{coefficientSum}
 use Rattle.model.specs.Models.{makeModel, good, tooLarge, zeroModel}
 use Rattle.model.specs.Outcomes.{passing}
 use Rattle.model.specs.Operations.{sumModel, differenceModel, productModel, productList, productLoss, rounded, roundingLoss}

@@ -6,7 +6,7 @@ use Prim.Native.Nat.{ℕ, zero, suc, _+_, _*_, _-_}
 use lib.Dec.{leb}
 use lib.IntN.{ℤ}
 use lib.ListN.{length, take, drop}
-use Rattle.integer.specs.Clearing.{zeros}
+use Rattle.integer.specs.Lists.{zeros}
 use Rattle.model.specs.Areas.{modelSize, words, areaModel}
 use Rattle.certificate.specs.Tests.{scratchSize}
 use Rattle.model.specs.declared.types.Model.{Model}

@@ -5,7 +5,7 @@ ghost use Prim.Native.Nat.{_≤_};
 ghost use lib.ListN.{length, drop};
 ghost use Rattle.job.specs.Outcomes.{jobOutcomeOf, counted};
 ghost use Rattle.job.specs.Jobs.{jobOf};
-ghost use Rattle.integer.specs.Clearing.{zeros};
+ghost use Rattle.integer.specs.Lists.{zeros};
 ghost use Rattle.job.specs.Work.{workSize, workOf, areaPlaces, resultsOf, checkOf, workAfter, scratchAfterJob};
 ghost use Rattle.job.specs.Steps.{Clear};
 ghost use Rattle.job.specs.Requirement.{Requirement3};

@@ -3,7 +3,7 @@ ghost use mathlib.Core.Path.{_≡_};
 ghost use mathlib.Core.List.{_++_};
 ghost use Prim.Native.Nat.{_≤_, _<_};
 ghost use lib.ListN.{length, drop};
-ghost use Rattle.integer.specs.Clearing.{zeros};
+ghost use Rattle.integer.specs.Lists.{zeros};
 ghost use Rattle.model.specs.Areas.{Storable};
 ghost use Rattle.certificate.specs.Tests.{scratchSize};
 ghost use Rattle.job.specs.Commands.{maxResults};

@@ -5,7 +5,8 @@ use mathlib.Core.List.{List, [], _∷_}
 use Prim.Native.Nat.{ℕ, _+_, _*_, _≤_}
 use native.Mathlib.Omega.{arith}
 use lib.IntN.{ℤ, pos, negsuc, natAbs}
-use Rattle.integer.specs.Integer.{ℤ-ring, one-*}
+use Rattle.integer.specs.Integer.{ℤ-ring}
+use Rattle.integer.specs.IntegerSolver.{one-*}
 use Rattle.chebyshev.specs.Coefficients.{weight, addLists, scaleList, subtractLists}
 use Rattle.chebyshev.specs.CoefficientLaws.{opposite-scale}
 use Rattle.chebyshev.specs.Weight.{weight-add, weight-scale}

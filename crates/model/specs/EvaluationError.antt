@@ -10,11 +10,15 @@ use Rattle.integer.specs.Embedding.{ι-abs}
 use Rattle.integer.specs.Order.{∣_∣, ∣∣-is, pos-le, le-pos}
 use Rattle.integer.specs.Rounding.{near}
 use Rattle.integer.specs.RoundingLaws.{near-error}
-use Rattle.integer.specs.OrderedRing.{abs-mul, abs-mul-le, le-of-eq, _⟨≼⟩_, _⟨+⟩_, triangle, abs-scale}
-use Rattle.integer.specs.Fraction.{ℚ, _/1+_, whole, _+ℚ_, _-ℚ_, -ℚ_, _*ℚ_, *ℚ-comm, one-*ℚ, *ℚ-one, whole-add, whole-mul, fraction-num, den-is, ℚ-ring, reifyℚ, solveℚ}
-use Rattle.integer.specs.FractionOrder.{_≤ℚ_, ∣_∣ℚ, ℚ-ordered, whole-le, whole-abs, whole-neg}
-use Rattle.chebyshev.specs.Kinds.{firstKind}
-use Rattle.chebyshev.specs.KindsLaws.{first-bound}
+use Rattle.integer.specs.OrderedRingLaws.{abs-mul, abs-mul-le, le-of-eq, _⟨≼⟩_, _⟨+⟩_, triangle, abs-scale}
+use Rattle.integer.specs.Fraction.{ℚ, _/1+_, whole, _+ℚ_, _-ℚ_, -ℚ_, _*ℚ_, _≤ℚ_, ∣_∣ℚ}
+use Rattle.integer.specs.FractionLaws.{*ℚ-comm, one-*ℚ, *ℚ-one, whole-add, whole-mul, fraction-num}
+use Rattle.integer.specs.PairLaws.{den-is}
+use Rattle.integer.specs.FractionRing.{ℚ-ring}
+use Rattle.integer.specs.FractionSolver.{reifyℚ, solveℚ}
+use Rattle.integer.specs.FractionOrder.{ℚ-ordered, whole-le, whole-abs, whole-neg}
+use Rattle.chebyshev.specs.Recurrences.{firstKind}
+use Rattle.chebyshev.specs.RecurrenceLaws.{first-bound}
 use Rattle.chebyshev.specs.Perturbed.{perturbed-uniform}
 use Rattle.integer.specs.Parts as Parts
 use Rattle.model.specs.Models.{scale}

@@ -8,12 +8,15 @@ use borrow.Author.Tests.{ltb-false, not-false}
 use lib.IntN.{ℤ, pos, negℤ, natAbs, _+ℤ_, _-ℤ_, _*ℤ_}
 use Rattle.integer.specs.FractionRounding.{natural-positive}
 use Rattle.integer.specs.Embedding.{ι-abs}
-use Rattle.integer.specs.OrderedRing.{by-certificate, gap, _⊞_, le-of-eq, _⟨≼⟩_, _⟨+⟩_, triangle, abs-mul-le, abs-upper, abs-lower}
+use Rattle.integer.specs.OrderedRingLaws.{by-certificate, gap, _⊞_, le-of-eq, _⟨≼⟩_, _⟨+⟩_, triangle, abs-mul-le, abs-upper, abs-lower}
 use Rattle.integer.specs.Rounding.{floor, up}
 use Rattle.integer.specs.RoundingLaws.{floor-le, le-up}
-use Rattle.integer.specs.Fraction.{ℚ, whole, _+ℚ_, _-ℚ_, -ℚ_, _*ℚ_, *ℚ-comm, whole-add, whole-mul, ℚ-ring, reifyℚ, solveℚ}
-use Rattle.integer.specs.FractionOrder.{_≤ℚ_, ∣_∣ℚ, ℚ-ordered, ≤ℚ-cancel, whole-le, whole-neg}
-use Rattle.chebyshev.specs.Kinds.{firstKind}
+use Rattle.integer.specs.Fraction.{ℚ, whole, _+ℚ_, _-ℚ_, -ℚ_, _*ℚ_, _≤ℚ_, ∣_∣ℚ}
+use Rattle.integer.specs.FractionLaws.{*ℚ-comm, whole-add, whole-mul}
+use Rattle.integer.specs.FractionRing.{ℚ-ring}
+use Rattle.integer.specs.FractionSolver.{reifyℚ, solveℚ}
+use Rattle.integer.specs.FractionOrder.{ℚ-ordered, ≤ℚ-cancel, whole-le, whole-neg}
+use Rattle.chebyshev.specs.Recurrences.{firstKind}
 use Rattle.chebyshev.specs.Coefficients.{valueFrom, value}
 use Rattle.chebyshev.specs.Allows.{allows}
 use Rattle.model.specs.Models.{scale, terms, good}

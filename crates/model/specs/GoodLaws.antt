@@ -10,7 +10,8 @@ use lib.IntN.{ℤ, pos}
 use lib.ListN.{length, getD, replicate, length-take, take-append-drop}
 use Rattle.integer.specs.Parts.{abs, same}
 use Rattle.integer.specs.Integer.{ℤ-ring}
-use Rattle.integer.specs.Fraction.{ℚ, whole, _*ℚ_, ℚ-ring}
+use Rattle.integer.specs.Fraction.{ℚ, whole, _*ℚ_}
+use Rattle.integer.specs.FractionRing.{ℚ-ring}
 use Rattle.chebyshev.specs.Coefficients.{weight}
 use Rattle.chebyshev.specs.Weight.{weight-take}
 use Rattle.chebyshev.specs.Product.{product}

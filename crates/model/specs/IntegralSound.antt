@@ -11,19 +11,24 @@ use lib.IntN.{ℤ, pos, _-ℤ_, _*ℤ_}
 use lib.ListN.{length, getD, replicate, length-take, List·getD-map, List·getD-eq-default}
 use Rattle.integer.specs.Embedding.{ι-nonneg}
 use Rattle.integer.specs.Difference.{all1, differences}
-use Rattle.integer.specs.OrderedRing.{_⟨≼⟩_, _⟨+⟩_, mul-left}
+use Rattle.integer.specs.OrderedRingLaws.{_⟨≼⟩_, _⟨+⟩_, mul-left}
 use Rattle.integer.specs.Order.{pos-le}
 use Rattle.integer.specs.Rounding.{near}
 use Rattle.integer.specs.RoundingLaws.{near-error-abs}
-use Rattle.integer.specs.Fraction.{ℚ, whole, _+ℚ_, _-ℚ_, -ℚ_, _*ℚ_, whole-add, whole-mul, zero-*ℚ, one-*ℚ, ℚ-ring, reifyℚ, solveℚ}
-use Rattle.integer.specs.FractionOrder.{_≤ℚ_, ∣_∣ℚ, ℚ-ordered, whole-le, whole-neg, whole-abs}
-use Rattle.chebyshev.specs.KindsLaws.{sign, first-minus-one}
-use Rattle.chebyshev.specs.Coefficients.{valueFrom, value, subtractLists, norm}
+use Rattle.integer.specs.Fraction.{ℚ, whole, _+ℚ_, _-ℚ_, -ℚ_, _*ℚ_, _≤ℚ_, ∣_∣ℚ, _/ℚ_}
+use Rattle.integer.specs.FractionLaws.{whole-add, whole-mul, zero-*ℚ, one-*ℚ}
+use Rattle.integer.specs.FractionRing.{ℚ-ring}
+use Rattle.integer.specs.FractionSolver.{reifyℚ, solveℚ}
+use Rattle.integer.specs.FractionOrder.{ℚ-ordered, whole-le, whole-neg, whole-abs}
+use Rattle.chebyshev.specs.Recurrences.{sign}
+use Rattle.chebyshev.specs.RecurrenceLaws.{first-minus-one}
+use Rattle.chebyshev.specs.Coefficients.{valueFrom, value, subtractLists}
+use Rattle.chebyshev.specs.Norms.{norm}
 use Rattle.chebyshev.specs.NormLaws.{value-distance}
 use Rattle.chebyshev.specs.Primitive.{numerator, primitive}
 use Rattle.chebyshev.specs.PrimitiveLaws.{numerator-first, numerator-next}
 use Rattle.chebyshev.specs.PrimitiveNorm.{Rounded, primitive-rounded}
-use Rattle.integer.specs.FractionInverse.{_/ℚ_, quotient-mul}
+use Rattle.integer.specs.FractionInverse.{quotient-mul}
 use Rattle.chebyshev.specs.Allows.{allows}
 use Rattle.model.specs.InnerContracts.{roundedIntegral, roundedTail}
 use Rattle.model.specs.Models.{scale, coefficientCount, terms, good, zeroModel}

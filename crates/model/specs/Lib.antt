@@ -8,6 +8,7 @@ pub mod ModelLaws
 pub mod PlaceLaws
 pub mod Values
 pub mod ValueLaws
+pub mod CrossMultiplied
 pub mod Operations
 pub mod GoodLaws
 pub mod OperationsSound

@@ -8,9 +8,10 @@ use lib.IntN.{ℤ, pos}
 use lib.ListN.{take, drop}
 use Rattle.integer.specs.Embedding.{ι-abs}
 use Rattle.integer.specs.Integer.{ℤ-ring}
-use Rattle.integer.specs.OrderedRing.{le-of-eq, abs-mul-le, abs-add-le, abs-neg-le}
-use Rattle.integer.specs.Fraction.{ℚ, whole, _+ℚ_, _-ℚ_, -ℚ_, _*ℚ_, reifyℚ, solveℚ}
-use Rattle.integer.specs.FractionOrder.{_≤ℚ_, ∣_∣ℚ, ℚ-ordered}
+use Rattle.integer.specs.OrderedRingLaws.{le-of-eq, abs-mul-le, abs-add-le, abs-neg-le}
+use Rattle.integer.specs.Fraction.{ℚ, whole, _+ℚ_, _-ℚ_, -ℚ_, _*ℚ_, _≤ℚ_, ∣_∣ℚ}
+use Rattle.integer.specs.FractionSolver.{reifyℚ, solveℚ}
+use Rattle.integer.specs.FractionOrder.{ℚ-ordered}
 use Rattle.integer.specs.FractionRounding.{natural-add, natural-mul, up-bound}
 use Rattle.chebyshev.specs.Coefficients.{weight, addLists, subtractLists, scaleList}
 use Rattle.chebyshev.specs.Allows.{allows}

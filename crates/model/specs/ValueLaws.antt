@@ -1,23 +1,21 @@
 -- Values of lists of whole numbers at a fraction from -1 to 1: they are linear, and weights bound them.
 use mathlib.Core.Path.{_≡_, _∙_, ap}
-use mathlib.Core.Logic.{_↔_}
 use mathlib.Core.List.{List, _++_, map, map-append}
-use Prim.Native.Nat.{ℕ, suc}
+use Prim.Native.Nat.{ℕ}
 use native.Mathlib.Omega.{arith}
 use lib.IntN.{ℤ, pos}
-use lib.ListN.{length, replicate}
+use lib.ListN.{replicate}
 use Rattle.integer.specs.Integer.{ℤ-ring}
-use Rattle.integer.specs.OrderedRing.{abs-le, le-of-eq}
-use Rattle.integer.specs.Fraction.{ℚ, _/1+_, whole, _+ℚ_, _-ℚ_, -ℚ_, _*ℚ_, ℚ-ring}
-use Rattle.integer.specs.FractionOrder.{_≤ℚ_, ∣_∣ℚ, ℚ-ordered}
+use Rattle.integer.specs.OrderedRingLaws.{abs-le, le-of-eq}
+use Rattle.integer.specs.Fraction.{ℚ, whole, _+ℚ_, _-ℚ_, -ℚ_, _*ℚ_, _≤ℚ_, ∣_∣ℚ}
+use Rattle.integer.specs.FractionRing.{ℚ-ring}
+use Rattle.integer.specs.FractionOrder.{ℚ-ordered}
 use Rattle.chebyshev.specs.Coefficients.{weight, value, addLists, subtractLists, scaleList}
 use Rattle.chebyshev.specs.CoefficientLaws.{value-add, value-subtract, value-scale, value-append-zeros, map-ι-add, map-ι-subtract, map-ι-scale, map-ι-zeros}
 use Rattle.chebyshev.specs.NormLaws.{value-bound, norm-whole}
 use Rattle.integer.specs.FractionRounding.{natural-positive}
-use Rattle.chebyshev.specs.Allows.{allowsWhole, allows-whole}
-use Rattle.model.specs.Models.{scale, maxDegree, coefficientCount}
-use Rattle.model.specs.Values.{position, AllowsAt, Allows, OnInterval}
-use Rattle.model.specs.declared.types.Model.{Model}
+use Rattle.model.specs.Models.{scale}
+use Rattle.model.specs.Values.{OnInterval}
 
 -- Σ a_k·T_k(x)
 abbrev pub valueAt : ℚ → List ℤ → ℚ
@@ -50,10 +48,3 @@ module _ {x : ℚ} (h : OnInterval x) where
   -- |value a − value b| ≤ weight (a − b)
   pub valueAt-difference : (a b : List ℤ) → ∣ valueAt x a -ℚ valueAt x b ∣ℚ ≤ℚ whole (pos (weight (subtractLists ℤ-ring a b)))
   valueAt-difference a b = rw (valueAt-subtract x) at (valueAt-weight (subtractLists ℤ-ring a b))
-
--- "At x = p/q with q ≥ 1 and |p| ≤ q everything is cross-multiplied into whole numbers": of a model at x = p/q for the value
--- u/d, |u·S·q^32 − d·Σ a_k·τ_k| ≤ e·d·q^32, where τ_k = q^32·T_k(p/q) is a whole number
-pub model-allows-whole : (m : Model) (p : ℤ) (b : ℕ) (u : ℤ) (c : ℕ) → length (m .coefficients) ≡ coefficientCount
-    → Allows m (p /1+ b) (u /1+ c) ↔ allowsWhole scale (m .coefficients) (m .radius) maxDegree p (suc b) u (suc c)
-unfolding position AllowsAt
-model-allows-whole m p b u c h = allows-whole scale (m .coefficients) (m .radius) maxDegree p b u c (omega arith)

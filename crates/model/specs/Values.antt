@@ -1,7 +1,6 @@
 -- What a model allows at a point.
 use lib.IntN.{pos}
-use Rattle.integer.specs.Fraction.{ℚ, whole, -ℚ_}
-use Rattle.integer.specs.FractionOrder.{_≤ℚ_}
+use Rattle.integer.specs.Fraction.{ℚ, whole, -ℚ_, _≤ℚ_}
 use Rattle.chebyshev.specs.Allows.{allows}
 use Rattle.model.specs.Models.{scale}
 use Rattle.model.specs.declared.types.Model.{Model}

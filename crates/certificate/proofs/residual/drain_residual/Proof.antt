@@ -7,7 +7,8 @@ use native.Mathlib.Omega.{arith}
 use lib.IntN.{ℤ}
 use lib.ListN.{length, take, drop, length-take, length-drop}
 use lib.Seq.{length-take-le}
-use Rattle.integer.specs.Clearing.{zeros, zeros-append}
+use Rattle.integer.specs.Lists.{zeros}
+use Rattle.integer.specs.Clearing.{zeros-append}
 use Rattle.chebyshev.specs.Coefficients.{weight}
 use Rattle.chebyshev.specs.Weight.{weight-take, weight-drop}
 use Rattle.model.specs.Models.{scale}

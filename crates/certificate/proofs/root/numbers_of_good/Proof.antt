@@ -8,7 +8,7 @@ use lib.Signed.{leZ}
 use mir.Syntax.{w64}
 use mir.Val.{SFits, toZ, ofZ}
 use mir.Facts.{toZ-ofZ}
-use Rattle.chebyshev.specs.Sign.{coefficientSum}
+use Rattle.chebyshev.specs.Coefficients.{coefficientSum}
 use Rattle.model.specs.Models.{candidateModel}
 use Rattle.model.specs.ModelLaws.{good-is}
 use Rattle.certificate.specs.NumbersStages.{numbers-helper, numbers-not-contracting, numbers-large-residual, numbers-reached}

@@ -13,7 +13,7 @@ use mir.Val.{SFits, toZ}
 use mir.Facts.{toZ-ofZ}
 use Rattle.integer.specs.Parts.{abs, apart, abs-add}
 use Rattle.integer.specs.Machine.{signed-needs, within, abs-fits, fits-widens}
-use Rattle.chebyshev.specs.Sign.{coefficientSum}
+use Rattle.chebyshev.specs.Coefficients.{coefficientSum}
 use Rattle.certificate.proofs.root.total.Statement.{statement}
 use Rattle.certificate.proofs.root.total.Tie as tie
 

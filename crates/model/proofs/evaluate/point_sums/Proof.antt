@@ -7,7 +7,7 @@ use native.Mathlib.Omega.{arith}
 use lib.IntN.{ℤ, pos, natAbs, _+ℤ_, _-ℤ_, _*ℤ_}
 use lib.ListN.{length, getD, take, length-take}
 use lib.Seq.{getD-take}
-use lib.Signed.{ltZ-yes, leZ-yes}
+use lib.Signed.{ltZ-yes}
 use mir.Syntax.{w32, w64}
 use mir.Val.{SFits, toZ}
 use mir.Facts.{toZ-ofZ}
@@ -145,5 +145,5 @@ point-sums-spec =
     (λ c. pairs-is (k (l (c .before))) .0) (λ m. omega (arith, error-small m)) (λ m. omega (arith, error-small m))
     (λ m. simp (toZ-ofZ (fits-p (l (m .before)))) (fits-twice (m .before)))
     (λ m. simp (toZ-ofZ (fits-p (l (m .before))), toZ-ofZ (fits-twice (m .before))) (fits-numerator (m .before)))
-    (λ c κs. (ltZ-yes tt, leZ-yes tt)) (λ n. simp (toZ-ofZ (fits-near n)) (fits-after n))
+    (λ c κs. ltZ-yes tt) (λ n. simp (toZ-ofZ (fits-near n)) (fits-after n))
     (λ n. omega (arith, s (l (c n)) .pre)) (λ c. omega arith) loop-again returns)

@@ -12,7 +12,6 @@ use mir.Val.{SFits, toZ}
 use mir.Facts.{toZ-ofZ, toZ-pos}
 use Rattle.integer.specs.Parts.{abs-sub}
 use Rattle.integer.specs.Difference.{<-parts}
-use Rattle.integer.specs.Order.{pos-le}
 use Rattle.integer.specs.Machine.{abs-fits, fits-widens, signed-needs}
 use Rattle.chebyshev.specs.Coefficients.{weight as weightOf}
 use Rattle.chebyshev.specs.Weight.{weight-at, weight-take}
@@ -115,7 +114,7 @@ loop-holds : tie.Need-loop-holds Inv-loop μ-loop
 loop-holds c = begins (ds c) (c .args .degree + 1) (length-ds c) (omega (arith, c .pre))
 
 near-requires : tie.Need-near-requires Inv-loop μ-loop
-near-requires b κs = rw (divisor-is b) (<-parts (pos 0) (pos (2 * k (l b))) .1 (omega arith), pos-le _ _ (omega (arith, inside (l b), s (l b) .pre)))
+near-requires b κs = rw (divisor-is b) (<-parts (pos 0) (pos (2 * k (l b))) .1 (omega arith))
 
 loop-again : tie.Need-loop-again Inv-loop μ-loop
 loop-again m =

@@ -8,7 +8,7 @@ use native.Mathlib.Omega.{arith}
 use lib.IntN.{ℤ, pos, natAbs, _-ℤ_, _*ℤ_}
 use lib.ListN.{length, getD, take, drop, set, length-drop}
 use lib.Seq.{length-take-le, getD-take, take-all}
-use lib.Signed.{leZ-yes, ltZ-yes}
+use lib.Signed.{ltZ-yes}
 use mir.Syntax.{w64, w32}
 use mir.Val.{SFits}
 use mir.Facts.{toZ-ofZ}
@@ -132,7 +132,7 @@ round-spec =
     tie.close (tie.spec
     Inv-loop μ-loop (λ c. search signed-needs) (λ c. search signed-needs) (λ c. search signed-needs) (λ c. search signed-needs)
     weigh-requires loop-holds (λ c. search signed-needs) (λ c. omega (arith, c .before .before .before .before .pre))
-    (λ c κs. (ltZ-yes tt, leZ-yes tt)) (λ c. simp (toZ-ofZ (fits-q c)) (fits-product c))
+    (λ c κs. ltZ-yes tt) (λ c. simp (toZ-ofZ (fits-q c)) (fits-product c))
     (λ c. simp (toZ-ofZ (fits-x c), toZ-ofZ (fits-q c), toZ-ofZ (fits-product c)) (fits-loss c)) (λ c κs. tt) add-loss
     (λ c κs. tt) add-weight (λ t. simp (toZ-ofZ (fits-q (c (t .before)))) (narrows (t .before) (t .if1 .taken)))
     (λ c. search signed-needs) (λ c. search signed-needs) (λ c. search signed-needs) (λ c. search signed-needs) loop-again

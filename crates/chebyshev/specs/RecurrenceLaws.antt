@@ -6,9 +6,11 @@ use Prim.Native.Nat.{ℕ, zero, suc, _+_, _≤_}
 use native.Mathlib.Omega.{arith}
 use native.Mathlib.Decide.{decLe}
 use lib.IntN.{pos}
-use Rattle.integer.specs.Ring.{CommutativeRing, reify, solve}
-use Rattle.integer.specs.OrderedRing.{OrderedRing, by-certificate, gap, _⊠_, sq-nonneg, zero-one, root-abs, abs-square}
-use Rattle.chebyshev.specs.Kinds.{firstKind, secondKind}
+use Rattle.integer.specs.Ring.{CommutativeRing}
+use Rattle.integer.specs.Solver.{reify, solve}
+use Rattle.integer.specs.OrderedRing.{OrderedRing}
+use Rattle.integer.specs.OrderedRingLaws.{by-certificate, gap, _⊠_, sq-nonneg, zero-one, root-abs, abs-square}
+use Rattle.chebyshev.specs.Recurrences.{firstKind, secondKind, sign}
 use Rattle.chebyshev.specs.Product.{distance}
 
 module _ (R : CommutativeRing) where
@@ -51,19 +53,14 @@ module _ (R : CommutativeRing) where
   first-one (suc zero) = refl
   first-one (suc (suc k)) = rw (first-one (suc k), first-one k) (solve R [] (search reify depth 20) (search reify depth 20) tt)
 
-  -- (−1)^k
-  unfoldable pub sign : ℕ → A
-  sign zero = ι (pos 1)
-  sign (suc k) = ⊖ sign k
-
   -- T_k(−1) = (−1)^k
-  pub first-minus-one : (k : ℕ) → firstKind R (⊖ ι (pos 1)) k ≡ sign k
+  pub first-minus-one : (k : ℕ) → firstKind R (⊖ ι (pos 1)) k ≡ sign R k
   unfolding firstKind sign
   first-minus-one zero = refl
   first-minus-one (suc zero) = refl
   first-minus-one (suc (suc k)) =
       ap₂ (λ a b. ι (pos 2) ⊗ ⊖ ι (pos 1) ⊗ a ⊕ ⊖ b) (first-minus-one (suc k)) (first-minus-one k)
-      ∙ solve R (sign k ∷ []) (search reify depth 20) (search reify depth 20) tt
+      ∙ solve R (sign R k ∷ []) (search reify depth 20) (search reify depth 20) tt
 
   -- with i = d + j; the sums are given by equations
   product-above : (x : A) (j d i s : ℕ) → i ≡ d + j → s ≡ i + j → ι (pos 2) ⊗ firstKind R x i ⊗ firstKind R x j ≡ firstKind R x s ⊕ firstKind R x d

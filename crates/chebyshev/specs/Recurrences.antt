@@ -1,4 +1,4 @@
--- The Chebyshev polynomials, over any commutative ring.
+-- The Chebyshev polynomials T_k and U_k by their recurrences, over any commutative ring.
 use Prim.Native.Nat.{ℕ, zero, suc}
 use lib.IntN.{pos}
 use Rattle.integer.specs.Ring.{CommutativeRing}
@@ -20,3 +20,8 @@ module _ (R : CommutativeRing) where
   secondKind x zero = ι (pos 0)
   secondKind x (suc zero) = ι (pos 1)
   secondKind x (suc (suc k)) = ι (pos 2) ⊗ x ⊗ secondKind x (suc k) ⊕ ⊖ secondKind x k
+
+  -- (−1)^k
+  unfoldable pub sign : ℕ → A
+  sign zero = ι (pos 1)
+  sign (suc k) = ⊖ sign k
