@@ -12,7 +12,7 @@ use Rattle.job.specs.Commands.{maxResults}
 use Rattle.job.specs.Work.{checkOf, Answer, answerOf, answered}
 use Rattle.job.specs.declared.types.Report.{Report}
 use Rattle.job.specs.declared.types.Report.the-variants.{Accepted, Refused}
-use Rattle.ferruntzo.specs.JobAnswers.{answerPlaces}
+use Rattle.ferruntzo.specs.JobAnswers.{answerSize}
 use Rattle.ferruntzo.proofs.JobAnswering.{checked, unchecked, none-required}
 use Rattle.ferruntzo.proofs.jobs.ferruntzo_check.Statement.{statement}
 use Rattle.ferruntzo.proofs.jobs.ferruntzo_check.Tie as tie
@@ -40,7 +40,7 @@ returns c =
     let n = c .before .report .given .0 .0 in
     let g = k .before .before .before .before .before .before .args in
     let o = k .check .ensures in
-    let w : set (set (now (g .answer)) 0 n) 1 0 ≡ (n ∷ 0 ∷ []) ++ drop answerPlaces (now (g .answer)) =
+    let w : set (set (now (g .answer)) 0 n) 1 0 ≡ (n ∷ 0 ∷ []) ++ drop answerSize (now (g .answer)) =
     sets-eq (n ∷ 0 ∷ []) (now (g .answer)) 0 (k .before .before .before .if1 .taken) in (
       checked (now (g .job)) (now (g .work)) (now (g .scratch)) (now (g .answer)) (Accepted n) (k .before .before .before .if1 .taken)
           (same k (Accepted n) (c .before .report .given .1)) refl (o .1 .0) (o .1 .1 .0) w,
@@ -53,7 +53,7 @@ returns-2 c =
     let r = c .before .before .report2 .given in
     let g = k .before .before .before .before .before .before .args in
     let o = k .check .ensures in
-    let w : set (set (now (g .answer)) 0 0) 1 (r .0 .1 .0) ≡ (0 ∷ r .0 .1 .0 ∷ []) ++ drop answerPlaces (now (g .answer)) =
+    let w : set (set (now (g .answer)) 0 0) 1 (r .0 .1 .0) ≡ (0 ∷ r .0 .1 .0 ∷ []) ++ drop answerSize (now (g .answer)) =
     sets-eq (0 ∷ r .0 .1 .0 ∷ []) (now (g .answer)) 0 (k .before .before .before .if1 .taken) in (
       checked (now (g .job)) (now (g .work)) (now (g .scratch)) (now (g .answer)) (Refused (r .0 .0) (r .0 .1 .0))
           (k .before .before .before .if1 .taken) (same k (Refused (r .0 .0) (r .0 .1 .0)) (r .1)) (c .number-of .ensures)
