@@ -23,14 +23,14 @@ def check_examples():
     assert o.integrate(constant(S)) == (0, model([S, S], 1))                   # P5
     assert o.evaluate(t2, 524288) == (0, -524289, -524287)                     # P6
     third = constant(349525)
-    assert o.quotient(65, constant(S), constant(3 * S), third, third) == (
+    assert o.quotient(constant(S), constant(3 * S), third, third) == (
         0, constant(349525, 2), 1, 1, 1)                                       # P7
     h, w = constant(2 * S), constant(S // 4)
-    number, result = o.root(65, constant(2097152), h, w)[:2]
+    number, result = o.root(constant(2097152), h, w)[:2]
     assert (number, result) == (0, constant(2 * S, S))                         # P8
     refused_8 = (8, o.ZERO_MODEL, 0, 0, 0)
-    assert o.root(65, constant(2097151), h, w) == refused_8                    # P9
-    assert o.root(65, constant(S), h, w) == refused_8                          # P10
+    assert o.root(constant(2097151), h, w) == refused_8                    # P9
+    assert o.root(constant(S), h, w) == refused_8                          # P10
     assert o.check_job(b'') == ('refused', 10, 0)                              # P11
 
     # The other borders that document 01 states.
@@ -43,14 +43,14 @@ def check_examples():
         assert o.evaluate(t1, sign * (S + 1)) == (4, 0, 0)
 
     # The first slip: the negative pair for the root of 4S.
-    assert o.root(65, constant(4 * S), constant(-2 * S), constant(-S // 4))[0] == 7
+    assert o.root(constant(4 * S), constant(-2 * S), constant(-S // 4))[0] == 7
     # 8 b M past 64 bits (blueprint B8.1), signed and unsigned.
     for radius in (0, 4):
-        assert o.root(65, constant(1 << 28, radius), constant(1 << 11),
+        assert o.root(constant(1 << 28, radius), constant(1 << 11),
                       constant(1 << 28))[0] == 8
     # f longer than C(g, h) (blueprint A-7).
     one = constant(S)
-    number, result, m, n, b = o.quotient(65, model([S, 0, 0, 0, 0, S]), one, one, one)
+    number, result, m, n, b = o.quotient(model([S, 0, 0, 0, 0, S]), one, one, one)
     assert (number, m, n, b, result.radius) == (0, 0, S, S, S)
     # The example job and its text.
     job = example_job()

@@ -22,9 +22,9 @@ from threading import Timer
 import jobs
 import oracle as o
 from examples_of_01 import check_examples, example_job
+from header import MAX_RESULTS, PROGRAM_JOB_BYTES as LONGEST
 from job_cases import RandomJobs, fixed_check
 
-LONGEST = 65536
 TIME_LIMIT = 20             # seconds for one run
 
 
@@ -122,12 +122,12 @@ def fixed_runs(feed):
 def random_runs(feed, count, rng):
     """Random jobs and a draw from the fixed job cases of compare.py."""
     draw = RandomJobs()
-    fixed = [case.inputs[0] for case in fixed_check() if not case.short]
+    fixed = [case.inputs[0] for case in fixed_check()]
     for _ in range(count):
         job = draw(rng).inputs[0] if rng.random() < 0.7 else rng.choice(fixed)
         yield 'random', rng.choice((feed.at_once, feed.at_once, feed.from_file)), job
     for _ in range(10):
-        job = jobs.random_builder(rng, rng.choice((3, 8, 20, 32))).job()
+        job = jobs.random_builder(rng, rng.choice((3, 8, 20, MAX_RESULTS))).job()
         yield 'random, slow', lambda job: feed.in_pieces(job, (97, 5, 311), 0.001), job
 
 

@@ -1,15 +1,16 @@
--- What the lengths of areas tell, and the steps from a callee's answer to the definitions of specs/Answers.antt.
+-- What the lengths of areas tell, and what an area that has its numbers, or is too short, holds afterwards.
 use mathlib.Core.Path.{_≡_, refl, ap, _∙_}
 use mathlib.Core.Bool.{Bool, true, false, false≢true, _&&_}
 use mathlib.Core.List.{List, _++_}
-use Prim.Native.Nat.{ℕ, _≤_}
-use borrow.Author.Tests.{leb-true}
+use Prim.Native.Nat.{ℕ, _≤_, _<_}
+use borrow.Author.Tests.{leb-true, le-leb, lt-leb}
 use lib.IntN.{ℤ}
 use lib.ListN.{length, drop}
-use Rattle.model.specs.Models.{numberOf, Outcome, outcomeOf}
-use Rattle.model.specs.Areas.{modelSize, words, Storable}
-use Rattle.model.specs.declared.types.Answer.{Answer}
-use Rattle.ferruntzo.specs.Answers.{fits, numberOut, areaOut, modelOut}
+use Rattle.model.specs.Areas.{modelSize, candidateSize}
+use Rattle.certificate.specs.Tests.{scratchSize, scratchAfter, Test, testOf}
+use Rattle.certificate.specs.declared.types.TestOutcome.{TestOutcome}
+use Rattle.ferruntzo.specs.Answers.{fits, areaOut}
+use Rattle.ferruntzo.specs.TestAnswers.{numbersSize, testAnswer, testIn, testFits}
 
 -- ---- areas that have their numbers
 
@@ -26,30 +27,34 @@ three-fit k m n a b c h =
     let q = two-fit k m a b (p .0) in
     (q .0, q .1, p .1)
 
--- ---- what is answered and left
+-- a test's areas
+pub test-fits : (models : Bool) (h w scratch out : List ℤ) (numbers : List ℕ) → testFits models h w scratch out numbers ≡ true
+    → (models ≡ true) × (candidateSize ≤ length h) × (candidateSize ≤ length w)
+test-fits models h w scratch out numbers e =
+    let t = models && fits candidateSize h in
+    let u = t && fits candidateSize w in
+    let v = u && fits scratchSize scratch in
+    let o = fit-last (v && fits modelSize out) numbersSize numbers e in
+    let q = fit-last t candidateSize w (fit-last u scratchSize scratch (fit-last v modelSize out (o .0) .0) .0) in
+    let p = fit-last models candidateSize h (q .0) in
+    (p .0, p .1, q .1)
 
-pub number-given : {fit : Bool} {n m : ℕ} → fit ≡ true → n ≡ m → n ≡ numberOut fit m
-unfolding numberOut
-number-given h e = rw h e
+-- ---- what an area holds afterwards
 
-pub area-given : {A : Type 0} {fit : Bool} (k : ℕ) (new old : List A) {now : List A} → fit ≡ true → now ≡ new ++ drop k old → now ≡ areaOut fit k new old
-unfolding areaOut
-area-given k new old h e = rw h e
+module _ {A : Type 0} (n : ℕ) (new old : List A) where
+  pub filled : n ≤ length old → new ++ drop n old ≡ areaOut n new old
+  unfolding areaOut
+  filled h = rw (le-leb n (length old) h)
 
-pub untouched : {A : Type 0} {fit : Bool} (m k : ℕ) (new old : List A) → fit ≡ false → (1 ≡ numberOut fit m) × (old ≡ areaOut fit k new old)
-unfolding numberOut areaOut
-untouched m k new old h = (rw h, rw h)
+  pub untouched : length old < n → old ≡ areaOut n new old
+  unfolding areaOut
+  untouched h = rw (lt-leb n (length old) h)
 
--- ---- an operation's answer
+-- ---- what a test answers over its areas
 
-module _ (r : Answer) (o : Outcome) (same : outcomeOf r ≡ o) where
-  pub answer-storable : Storable (o .model) → Storable (r .model)
-  answer-storable s = rw (ap (λ (a : Outcome). a .model) same) s
-
-  pub answered : {fit : Bool} {n : ℕ} {now : List ℤ} (out : List ℤ) → fit ≡ true
-      → n ≡ numberOf (r .verdict) → now ≡ words (r .model) ++ drop modelSize out
-      → (n ≡ numberOut fit (o .number)) × (now ≡ modelOut fit (o .model) out)
-  answered out h number area = (
-    number-given h (number ∙ ap (λ (a : Outcome). a .number) same),
-    area-given modelSize (words (o .model)) out h (area ∙ ap (λ (a : Outcome). words (a .model) ++ drop modelSize out) same),
-  )
+module _ (test : Test) (scratch out : List ℤ) (numbers : List ℕ) where
+  pub test-given : {n : ℕ} {s o : List ℤ} {k : List ℕ} (t : TestOutcome) → s ≡ scratchAfter scratch
+      → ((x : List ℤ) → testAnswer n (scratchAfter x) o k ≡ testIn (testOf t) x out numbers) → testOf t ≡ test
+      → testAnswer n s o k ≡ testIn test scratch out numbers
+  test-given {n} {s} {o} {k} t cleared stored same =
+      ap (λ (x : List ℤ). testAnswer n x o k) cleared ∙ stored scratch ∙ ap (λ (x : Test). testIn x scratch out numbers) same

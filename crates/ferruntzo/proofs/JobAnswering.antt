@@ -9,8 +9,8 @@ use lib.ListN.{length, drop}
 use Rattle.job.specs.Boxes.{Requirement3}
 use Rattle.job.specs.Work.{checkOf, workAfter, scratchAfterJob, Answer, answerOf, answered}
 use Rattle.job.specs.declared.types.Report.{Report}
+use Rattle.ferruntzo.specs.Answers.{areaOut}
 use Rattle.ferruntzo.specs.JobAnswers.{answerSize, jobAnswer, checkAnswer}
-use Rattle.ferruntzo.proofs.Answering.{number-given, area-given, untouched}
 
 module _ (job : List ℕ) (work scratch : List ℤ) (answer : List ℕ) where
   abbrev a : Answer
@@ -21,20 +21,16 @@ module _ (job : List ℕ) (work scratch : List ℤ) (answer : List ℕ) where
       → n ≡ answerOf r .number → w ≡ workAfter job work scratch → s ≡ scratchAfterJob work scratch
       → m ≡ (answerOf r .count ∷ answerOf r .command ∷ []) ++ drop answerSize answer
       → jobAnswer n w s m ≡ checkAnswer job work scratch answer
-  unfolding checkAnswer
+  unfolding checkAnswer areaOut
   checked r h same en ew es em =
-      let fit = le-leb answerSize (length answer) h in
-      let f = number-given fit (en ∙ ap (λ (x : Answer). x .number) same) in
-      let g = area-given answerSize (a .count ∷ a .command ∷ []) answer fit (em ∙ ap (λ (x : Answer). (x .count ∷ x .command ∷ []) ++ drop answerSize answer) same) in
-      (λ k. jobAnswer (f k) (ew k) (es k) (g k)) ∙ rw fit
+      let f = en ∙ ap (λ (x : Answer). x .number) same in
+      let g = em ∙ ap (λ (x : Answer). (x .count ∷ x .command ∷ []) ++ drop answerSize answer) same in
+      rw (le-leb answerSize (length answer) h) (λ k. jobAnswer (f k) (ew k) (es k) (g k))
 
   -- it is too short
   pub unchecked : length answer < answerSize → jobAnswer 1 work scratch answer ≡ checkAnswer job work scratch answer
-  unfolding checkAnswer
-  unchecked h =
-      let fit = lt-leb answerSize (length answer) h in
-      let u = untouched (a .number) answerSize (a .count ∷ a .command ∷ []) answer fit in
-      (λ k. jobAnswer (u .0 k) work scratch (u .1 k)) ∙ rw fit
+  unfolding checkAnswer areaOut
+  unchecked h = rw (lt-leb answerSize (length answer) h)
 
 -- of no results nothing is claimed
 pub none-required : (job : List ℕ) (work : List ℤ) → Requirement3 job 0 work

@@ -1,3 +1,2 @@
 pub mod Answering
-pub mod TestAnswering
 pub mod JobAnswering

@@ -1,14 +1,14 @@
--- What an exported function answers and leaves in its areas. Every function takes areas of every length: one that is too
--- short for its numbers is refusal 1, before all else, and then no area is touched. Numbers behind those in use stay.
+-- What an exported operation answers and leaves in its areas. Every function takes areas of every length: one that is too short
+-- for its numbers is refusal 1, before all else. What an area holds afterwards depends on its own length alone.
 use mathlib.Core.Bool.{Bool, cond, _&&_}
 use mathlib.Core.List.{List, [], _∷_, _++_}
 use Prim.Native.Nat.{ℕ}
 use lib.Dec.{leb}
-use lib.IntN.{ℤ}
+use lib.IntN.{ℤ, pos}
 use lib.ListN.{length, drop}
-use Rattle.model.specs.Areas.{modelSize, words}
-use Rattle.model.specs.Evaluation.{Enclosure}
-use Rattle.model.specs.Models.{Outcome}
+use Rattle.model.specs.Areas.{modelSize, words, areaModel}
+use Rattle.model.specs.Evaluation.{Enclosure, evaluation}
+use Rattle.model.specs.Models.{Outcome, zeroModel}
 use Rattle.model.specs.Operations.{addition, subtraction, multiplication}
 use Rattle.model.specs.declared.types.Model.{Model}
 use Rattle.ferruntzo.specs.declared.operations.Operation.{Operation}
@@ -18,41 +18,70 @@ use Rattle.ferruntzo.specs.declared.operations.Operation.the-variants.{A
 abbrev pub boundsSize : ℕ
 boundsSize = 2
 
--- ---- whether every area has its numbers
+-- ---- areas
 
+-- whether an area has its n numbers
 abbrev pub fits : {A : Type 0} → ℕ → List A → Bool
 fits n s = leb n (length s)
 
--- two models and a result
-abbrev pub binaryFits : List ℤ → List ℤ → List ℤ → Bool
-binaryFits a b out = fits modelSize a && fits modelSize b && fits modelSize out
+-- an area afterwards: the new numbers stand in its n, and numbers behind stay; one that is itself too short is not touched
+unfoldable pub areaOut : {A : Type 0} → ℕ → List A → List A → List A
+areaOut n new old = cond (fits n old) (new ++ drop n old) old
 
--- a model and a result
-abbrev pub unaryFits : List ℤ → List ℤ → Bool
-unaryFits a out = fits modelSize a && fits modelSize out
+-- ---- refusal 1, whichever area is too short
 
--- a model and bounds
-abbrev pub boundsFit : List ℤ → List ℤ → Bool
-boundsFit a bounds = fits modelSize a && fits boundsSize bounds
+-- "A refused operation gives its number beside the zero model (degree 0, all zero)"
+abbrev pub shortOutcome : Outcome
+shortOutcome = record { number = 1; model = zeroModel }
 
--- ---- the answer, and what an area holds afterwards
+-- "refused evaluation gives bounds 0 and 0"
+abbrev pub shortEnclosure : Enclosure
+shortEnclosure = record { number = 1; low = pos 0; high = pos 0 }
 
-unfoldable pub numberOut : Bool → ℕ → ℕ
-numberOut fit number = cond fit number 1
+-- ---- add, subtract, multiply, integrate
 
--- the first n numbers are replaced
-unfoldable pub areaOut : {A : Type 0} → Bool → ℕ → List A → List A → List A
-areaOut fit n new old = cond fit (new ++ drop n old) old
+-- the number, and what the area of the result holds afterwards
+pub record OperationAnswer : Type 0 where
+  pub number : ℕ
+  pub out : List ℤ
 
-abbrev pub modelOut : Bool → Model → List ℤ → List ℤ
-modelOut fit m out = areaOut fit modelSize (words m) out
+abbrev pub operationAnswer : ℕ → List ℤ → OperationAnswer
+operationAnswer n o = record { number = n; out = o }
 
-abbrev pub boundsOut : Bool → Enclosure → List ℤ → List ℤ
-boundsOut fit e bounds = areaOut fit boundsSize (e .low ∷ e .high ∷ []) bounds
+-- an outcome, answered over an area
+unfoldable pub outcomeIn : Outcome → List ℤ → OperationAnswer
+outcomeIn o out = operationAnswer (o .number) (areaOut modelSize (words (o .model)) out)
 
--- ---- the operations on two models
+-- of two models
+abbrev pub binaryAnswer : (Model → Model → Outcome) → List ℤ → List ℤ → List ℤ → OperationAnswer
+binaryAnswer f a b out =
+    outcomeIn
+    (cond (fits modelSize a && fits modelSize b && fits modelSize out) (f (areaModel a) (areaModel b)) shortOutcome)
+    out
 
+-- of one model
+abbrev pub unaryAnswer : (Model → Outcome) → List ℤ → List ℤ → OperationAnswer
+unaryAnswer f a out = outcomeIn (cond (fits modelSize a && fits modelSize out) (f (areaModel a)) shortOutcome) out
+
+-- the operations on two models
 abbrev pub operationOf : Operation → Model → Model → Outcome
 operationOf Add a b = addition a b
 operationOf Subtract a b = subtraction a b
 operationOf (Multiply kept) a b = multiplication kept a b
+
+-- ---- evaluate
+
+-- the number, and what the area of the bounds holds afterwards
+pub record EvaluationAnswer : Type 0 where
+  pub number : ℕ
+  pub bounds : List ℤ
+
+abbrev pub evaluationAnswer : ℕ → List ℤ → EvaluationAnswer
+evaluationAnswer n b = record { number = n; bounds = b }
+
+unfoldable pub enclosureIn : Enclosure → List ℤ → EvaluationAnswer
+enclosureIn e bounds = evaluationAnswer (e .number) (areaOut boundsSize (e .low ∷ e .high ∷ []) bounds)
+
+abbrev pub evaluateAnswer : List ℤ → ℤ → List ℤ → EvaluationAnswer
+evaluateAnswer a p bounds =
+    enclosureIn (cond (fits modelSize a && fits boundsSize bounds) (evaluation (areaModel a) p) shortEnclosure) bounds

@@ -4,7 +4,7 @@ use mathlib.Core.List.{List, [], _∷_}
 use Prim.Native.Nat.{ℕ}
 use lib.IntN.{ℤ}
 use Rattle.job.specs.Work.{checkOf, workAfter, scratchAfterJob, answered}
-use Rattle.ferruntzo.specs.Answers.{fits, numberOut, areaOut}
+use Rattle.ferruntzo.specs.Answers.{fits, areaOut}
 
 -- how many numbers an answer has: the count of results, and the number of the refused command
 abbrev pub answerSize : ℕ
@@ -20,13 +20,13 @@ pub record JobAnswer : Type 0 where
 abbrev pub jobAnswer : ℕ → List ℤ → List ℤ → List ℕ → JobAnswer
 jobAnswer n w s a = record { number = n; work = w; scratch = s; answer = a }
 
--- an area for the answer that is too short is refusal 1, and then no area is touched; otherwise what the definitions of the
--- check say, also of a work area or a scratch that is too short: refusal 1 at command 0
+-- What the definitions of the check say, also of a work area or a scratch that is too short: refusal 1 at command 0, "too short;
+-- neither is touched", the answer 0 and 0. An area for the answer that is too short is refusal 1 too, and touches none.
 unfoldable pub checkAnswer : List ℕ → List ℤ → List ℤ → List ℕ → JobAnswer
 checkAnswer job work scratch answer =
     let a = answered (checkOf job work scratch) in
     jobAnswer
-    (numberOut (fits answerSize answer) (a .number))
+    (cond (fits answerSize answer) (a .number) 1)
     (cond (fits answerSize answer) (workAfter job work scratch) work)
     (cond (fits answerSize answer) (scratchAfterJob work scratch) scratch)
-    (areaOut (fits answerSize answer) answerSize (a .count ∷ a .command ∷ []) answer)
+    (areaOut answerSize (a .count ∷ a .command ∷ []) answer)

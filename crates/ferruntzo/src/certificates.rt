@@ -1,37 +1,52 @@
-// The quotient test and the root test over lent areas.
+// The quotient test and the root test over lent areas; if an area is too short, refusal 1 and zeros.
 ghost use mathlib.Core.Path.{_≡_};
-ghost use mathlib.Core.List.{[], _∷_, _++_};
-ghost use Prim.Native.Nat.{_≤_};
-ghost use lib.ListN.{length, drop};
-ghost use Rattle.model.specs.Models.{numberOf};
-ghost use Rattle.model.specs.Areas.{modelSize, words, Storable};
-ghost use Rattle.ferruntzo.specs.TestAnswers.{numbersSize, testAnswer, quotientAnswer, rootAnswer};
-use crate::areas::SHORT_AREA;
+ghost use mathlib.Core.List.{List};
+ghost use lib.IntN.{ℤ};
+ghost use Rattle.model.specs.Areas.{Storable};
+ghost use Rattle.certificate.specs.Tests.{scratchAfter, testOf};
+ghost use Rattle.ferruntzo.specs.TestAnswers.{shortTest, testIn, testAnswer, quotientAnswer, rootAnswer};
+use crate::areas::NUMBERS_SIZE;
 use crate::areas::candidate_in;
+use crate::areas::clear_scratch;
 use crate::areas::model_in;
-use crate::areas::write_answer;
+use crate::areas::store_model;
+use crate::areas::store_numbers;
 use certificate::quotient::quotient;
 use certificate::root::root;
-use certificate::types::SCRATCH_SIZE;
 use certificate::types::TestOutcome;
+use certificate::types::SCRATCH_SIZE;
 use model::area::CANDIDATE_SIZE;
 use model::area::MODEL_SIZE;
+use model::types::Model;
+use model::types::Verdict;
+use model::types::number_of;
 
-// Document 01's m, N and b.
-const NUMBERS_SIZE: usize = 3;
-
-// Writes a test's model and its m, N and b into areas, and gives the number of its verdict.
-fn write_test(test: TestOutcome, out: &mut [i32], report: &mut [u64]) -> u32
-    requires { ⌜ (modelSize ≤ length (now out)) × (numbersSize ≤ length (now report)) × Storable (test .model) ⌝ }
-    ensures { λ r. ⌜ r ≡ numberOf (test .verdict) ⌝ }
-    ensures { λ _. ⌜ now (out .exit) ≡ words (test .model) ++ drop modelSize (now (out .entry)) ⌝ }
-    ensures { λ _. ⌜ now (report .exit) ≡ (test .contraction ∷ test .residual ∷ test .displacement ∷ []) ++ drop numbersSize (now (report .entry)) ⌝ }
+// Stores what a test answers, and gives the number of its verdict; s is the scratch of the test.
+fn answer_test(test: TestOutcome, out: &mut [i32], numbers: &mut [u64]) -> u32
+    requires { ⌜ Storable (test .model) ⌝ }
+    ensures { λ r. ⌜ ((s : List ℤ) → testAnswer r (scratchAfter s) (now (out .exit)) (now (numbers .exit))
+        ≡ testIn (testOf test) s (now (out .entry)) (now (numbers .entry))) ⌝ }
 {
-    report[0] = test.contraction;
-    report[1] = test.residual;
-    report[2] = test.displacement;
     let verdict = test.verdict;
-    write_answer(out, verdict, test.model)
+    store_model(out, test.model);
+    store_numbers(numbers, test.contraction, test.residual, test.displacement);
+    number_of(verdict)
+}
+
+// Refusal 1 of a test.
+fn refuse_test(scratch: &mut [i64], out: &mut [i32], numbers: &mut [u64]) -> u32
+    ensures { λ r. ⌜ testAnswer r (now (scratch .exit)) (now (out .exit)) (now (numbers .exit))
+        ≡ testIn shortTest (now (scratch .entry)) (now (out .entry)) (now (numbers .entry)) ⌝ }
+{
+    clear_scratch(scratch);
+    let test = TestOutcome {
+        verdict: Verdict::ShortArea,
+        model: Model::zero(),
+        contraction: 0,
+        residual: 0,
+        displacement: 0,
+    };
+    answer_test(test, out, numbers)
 }
 
 // Is h a quotient f/g, with w as a helper?
@@ -43,9 +58,11 @@ pub extern "C" fn ferruntzo_quotient(
     w: &[i32],
     scratch: &mut [i64],
     out: &mut [i32],
-    report: &mut [u64],
+    numbers: &mut [u64],
 ) -> u32
-    ensures { λ r. ⌜ testAnswer r (now (scratch .exit)) (now (out .exit)) (now (report .exit)) ≡ quotientAnswer (now (f .entry)) (now (g .entry)) (now (h .entry)) (now (w .entry)) (now (scratch .entry)) (now (out .entry)) (now (report .entry)) ⌝ }
+    ensures { λ r. ⌜ testAnswer r (now (scratch .exit)) (now (out .exit)) (now (numbers .exit))
+        ≡ quotientAnswer (now (f .entry)) (now (g .entry)) (now (h .entry)) (now (w .entry))
+        (now (scratch .entry)) (now (out .entry)) (now (numbers .entry)) ⌝ }
 {
     if (MODEL_SIZE <= f.len())
         & (MODEL_SIZE <= g.len())
@@ -53,7 +70,7 @@ pub extern "C" fn ferruntzo_quotient(
         & (CANDIDATE_SIZE <= w.len())
         & (SCRATCH_SIZE <= scratch.len())
         & (MODEL_SIZE <= out.len())
-        & (NUMBERS_SIZE <= report.len())
+        & (NUMBERS_SIZE <= numbers.len())
     {
         let test = quotient(
             model_in(f),
@@ -62,9 +79,9 @@ pub extern "C" fn ferruntzo_quotient(
             candidate_in(w),
             scratch,
         );
-        write_test(test, out, report)
+        answer_test(test, out, numbers)
     } else {
-        SHORT_AREA
+        refuse_test(scratch, out, numbers)
     }
 }
 
@@ -76,20 +93,22 @@ pub extern "C" fn ferruntzo_root(
     w: &[i32],
     scratch: &mut [i64],
     out: &mut [i32],
-    report: &mut [u64],
+    numbers: &mut [u64],
 ) -> u32
-    ensures { λ r. ⌜ testAnswer r (now (scratch .exit)) (now (out .exit)) (now (report .exit)) ≡ rootAnswer (now (f .entry)) (now (h .entry)) (now (w .entry)) (now (scratch .entry)) (now (out .entry)) (now (report .entry)) ⌝ }
+    ensures { λ r. ⌜ testAnswer r (now (scratch .exit)) (now (out .exit)) (now (numbers .exit))
+        ≡ rootAnswer (now (f .entry)) (now (h .entry)) (now (w .entry))
+        (now (scratch .entry)) (now (out .entry)) (now (numbers .entry)) ⌝ }
 {
     if (MODEL_SIZE <= f.len())
         & (CANDIDATE_SIZE <= h.len())
         & (CANDIDATE_SIZE <= w.len())
         & (SCRATCH_SIZE <= scratch.len())
         & (MODEL_SIZE <= out.len())
-        & (NUMBERS_SIZE <= report.len())
+        & (NUMBERS_SIZE <= numbers.len())
     {
         let test = root(model_in(f), candidate_in(h), candidate_in(w), scratch);
-        write_test(test, out, report)
+        answer_test(test, out, numbers)
     } else {
-        SHORT_AREA
+        refuse_test(scratch, out, numbers)
     }
 }

@@ -3,13 +3,15 @@ ghost use mathlib.Core.Path.{_≡_};
 ghost use lib.ListN.{getD};
 ghost use Rattle.job.specs.Boxes.{Requirement3};
 ghost use Rattle.ferruntzo.specs.JobAnswers.{jobAnswer, checkAnswer};
-use crate::areas::SHORT_AREA;
 use job::run::check;
 use job::types::Report;
 use model::types::number_of;
 
 // The count of results, and the number of the refused command.
 const ANSWER_SIZE: usize = 2;
+
+// Document 01's number of an area that is too short.
+const SHORT_AREA: u32 = 1;
 
 // Checks a job. The last clause is requirement 3.
 #[no_mangle]
@@ -19,7 +21,8 @@ pub extern "C" fn ferruntzo_check(
     scratch: &mut [i64],
     answer: &mut [u32],
 ) -> u32
-    ensures { λ r. ⌜ jobAnswer r (now (work .exit)) (now (scratch .exit)) (now (answer .exit)) ≡ checkAnswer (now (job .entry)) (now (work .entry)) (now (scratch .entry)) (now (answer .entry)) ⌝ }
+    ensures { λ r. ⌜ jobAnswer r (now (work .exit)) (now (scratch .exit)) (now (answer .exit))
+        ≡ checkAnswer (now (job .entry)) (now (work .entry)) (now (scratch .entry)) (now (answer .entry)) ⌝ }
     ensures { λ r. ⌜ (r ≡ 0 → Requirement3 (now (job .entry)) (getD (now (answer .exit)) 0 0) (now (work .exit))) ⌝ }
 {
     if ANSWER_SIZE <= answer.len() {

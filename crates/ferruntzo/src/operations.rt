@@ -1,15 +1,17 @@
 // Add, subtract, multiply, integrate and evaluate over lent areas. Each answers and writes what the definition gives for the
-// models that the areas hold, unless an area is too short.
+// models that the areas hold; if an area is too short, refusal 1 and zeros.
 ghost use mathlib.Core.Path.{_≡_};
 ghost use Rattle.model.specs.Models.{outcomeOf};
-ghost use Rattle.model.specs.Areas.{areaModel};
+ghost use Rattle.model.specs.Areas.{Storable};
 ghost use Rattle.model.specs.Operations.{addition, subtraction, multiplication};
 ghost use Rattle.model.specs.Integral.{integration};
-ghost use Rattle.model.specs.Evaluation.{evaluation};
-ghost use Rattle.ferruntzo.specs.Answers.{operationOf, binaryFits, unaryFits, boundsFit, numberOut, modelOut, boundsOut};
-use crate::areas::SHORT_AREA;
+ghost use Rattle.model.specs.Evaluation.{enclosureOf};
+ghost use Rattle.ferruntzo.specs.Answers.{operationOf, shortOutcome, outcomeIn, operationAnswer, binaryAnswer, unaryAnswer};
+ghost use Rattle.ferruntzo.specs.Answers.{enclosureIn, evaluationAnswer, evaluateAnswer};
+use crate::areas::BOUNDS_SIZE;
 use crate::areas::model_in;
-use crate::areas::write_answer;
+use crate::areas::store_bounds;
+use crate::areas::store_model;
 use model::add::add;
 use model::add::subtract;
 use model::area::MODEL_SIZE;
@@ -17,11 +19,10 @@ use model::evaluate::evaluate;
 use model::integrate::integrate;
 use model::multiply::multiply;
 use model::types::Answer;
+use model::types::Bounds;
 use model::types::Model;
+use model::types::Verdict;
 use model::types::number_of;
-
-// The low and the high bound of an evaluation.
-const BOUNDS_SIZE: usize = 2;
 
 // An operation on two models; multiply with its kept degree.
 enum Operation {
@@ -30,7 +31,7 @@ enum Operation {
     Multiply(u32),
 }
 
-fn perform(operation: Operation, a: Model, b: Model) -> Answer
+fn operate(operation: Operation, a: Model, b: Model) -> Answer
     ensures { λ (r : Answer). ⌜ outcomeOf r ≡ operationOf operation a b ⌝ }
 {
     match operation {
@@ -40,77 +41,102 @@ fn perform(operation: Operation, a: Model, b: Model) -> Answer
     }
 }
 
+// Stores what an operation answers, and gives the number of its verdict.
+fn answer_operation(answer: Answer, out: &mut [i32]) -> u32
+    requires { ⌜ Storable (answer .model) ⌝ }
+    ensures { λ r. ⌜ operationAnswer r (now (out .exit)) ≡ outcomeIn (outcomeOf answer) (now (out .entry)) ⌝ }
+{
+    let verdict = answer.verdict;
+    store_model(out, answer.model);
+    number_of(verdict)
+}
+
+// Refusal 1 of an operation.
+fn refuse_operation(out: &mut [i32]) -> u32
+    ensures { λ r. ⌜ operationAnswer r (now (out .exit)) ≡ outcomeIn shortOutcome (now (out .entry)) ⌝ }
+{
+    let answer = Answer {
+        verdict: Verdict::ShortArea,
+        model: Model::zero(),
+    };
+    answer_operation(answer, out)
+}
+
 // An operation over lent areas.
-fn operate(operation: Operation, a: &[i32], b: &[i32], out: &mut [i32]) -> u32
-    ensures { λ r. ⌜ r ≡ numberOut (binaryFits (now (a .entry)) (now (b .entry)) (now (out .entry))) (operationOf operation (areaModel (now (a .entry))) (areaModel (now (b .entry))) .number) ⌝ }
-    ensures { λ _. ⌜ now (out .exit) ≡ modelOut (binaryFits (now (a .entry)) (now (b .entry)) (now (out .entry))) (operationOf operation (areaModel (now (a .entry))) (areaModel (now (b .entry))) .model) (now (out .entry)) ⌝ }
+fn perform(operation: Operation, a: &[i32], b: &[i32], out: &mut [i32]) -> u32
+    ensures { λ r. ⌜ operationAnswer r (now (out .exit))
+        ≡ binaryAnswer (operationOf operation) (now (a .entry)) (now (b .entry)) (now (out .entry)) ⌝ }
 {
     if (MODEL_SIZE <= a.len()) & (MODEL_SIZE <= b.len()) & (MODEL_SIZE <= out.len()) {
-        let answer = perform(operation, model_in(a), model_in(b));
-        let verdict = answer.verdict;
-        write_answer(out, verdict, answer.model)
+        answer_operation(operate(operation, model_in(a), model_in(b)), out)
     } else {
-        SHORT_AREA
+        refuse_operation(out)
     }
 }
 
 // a + b.
 #[no_mangle]
 pub extern "C" fn ferruntzo_add(a: &[i32], b: &[i32], out: &mut [i32]) -> u32
-    ensures { λ r. ⌜ r ≡ numberOut (binaryFits (now (a .entry)) (now (b .entry)) (now (out .entry))) (addition (areaModel (now (a .entry))) (areaModel (now (b .entry))) .number) ⌝ }
-    ensures { λ _. ⌜ now (out .exit) ≡ modelOut (binaryFits (now (a .entry)) (now (b .entry)) (now (out .entry))) (addition (areaModel (now (a .entry))) (areaModel (now (b .entry))) .model) (now (out .entry)) ⌝ }
+    ensures { λ r. ⌜ operationAnswer r (now (out .exit))
+        ≡ binaryAnswer addition (now (a .entry)) (now (b .entry)) (now (out .entry)) ⌝ }
 {
-    operate(Operation::Add, a, b, out)
+    perform(Operation::Add, a, b, out)
 }
 
 // a - b.
 #[no_mangle]
 pub extern "C" fn ferruntzo_subtract(a: &[i32], b: &[i32], out: &mut [i32]) -> u32
-    ensures { λ r. ⌜ r ≡ numberOut (binaryFits (now (a .entry)) (now (b .entry)) (now (out .entry))) (subtraction (areaModel (now (a .entry))) (areaModel (now (b .entry))) .number) ⌝ }
-    ensures { λ _. ⌜ now (out .exit) ≡ modelOut (binaryFits (now (a .entry)) (now (b .entry)) (now (out .entry))) (subtraction (areaModel (now (a .entry))) (areaModel (now (b .entry))) .model) (now (out .entry)) ⌝ }
+    ensures { λ r. ⌜ operationAnswer r (now (out .exit))
+        ≡ binaryAnswer subtraction (now (a .entry)) (now (b .entry)) (now (out .entry)) ⌝ }
 {
-    operate(Operation::Subtract, a, b, out)
+    perform(Operation::Subtract, a, b, out)
 }
 
 // a times b, to a kept degree from 0 to 32; 255 means 32.
 #[no_mangle]
 pub extern "C" fn ferruntzo_multiply(a: &[i32], b: &[i32], kept: u32, out: &mut [i32]) -> u32
-    ensures { λ r. ⌜ r ≡ numberOut (binaryFits (now (a .entry)) (now (b .entry)) (now (out .entry))) (multiplication kept (areaModel (now (a .entry))) (areaModel (now (b .entry))) .number) ⌝ }
-    ensures { λ _. ⌜ now (out .exit) ≡ modelOut (binaryFits (now (a .entry)) (now (b .entry)) (now (out .entry))) (multiplication kept (areaModel (now (a .entry))) (areaModel (now (b .entry))) .model) (now (out .entry)) ⌝ }
+    ensures { λ r. ⌜ operationAnswer r (now (out .exit))
+        ≡ binaryAnswer (multiplication kept) (now (a .entry)) (now (b .entry)) (now (out .entry)) ⌝ }
 {
-    operate(Operation::Multiply(kept), a, b, out)
+    perform(Operation::Multiply(kept), a, b, out)
 }
 
 // The integral of a from -1.
 #[no_mangle]
 pub extern "C" fn ferruntzo_integrate(a: &[i32], out: &mut [i32]) -> u32
-    ensures { λ r. ⌜ r ≡ numberOut (unaryFits (now (a .entry)) (now (out .entry))) (integration (areaModel (now (a .entry))) .number) ⌝ }
-    ensures { λ _. ⌜ now (out .exit) ≡ modelOut (unaryFits (now (a .entry)) (now (out .entry))) (integration (areaModel (now (a .entry))) .model) (now (out .entry)) ⌝ }
+    ensures { λ r. ⌜ operationAnswer r (now (out .exit)) ≡ unaryAnswer integration (now (a .entry)) (now (out .entry)) ⌝ }
 {
     if (MODEL_SIZE <= a.len()) & (MODEL_SIZE <= out.len()) {
-        let answer = integrate(model_in(a));
-        let verdict = answer.verdict;
-        write_answer(out, verdict, answer.model)
+        answer_operation(integrate(model_in(a)), out)
     } else {
-        SHORT_AREA
+        refuse_operation(out)
     }
+}
+
+// Stores what an evaluation answers, and gives the number of its verdict.
+fn answer_evaluation(answer: Bounds, bounds: &mut [i64]) -> u32
+    ensures { λ r. ⌜ evaluationAnswer r (now (bounds .exit)) ≡ enclosureIn (enclosureOf answer) (now (bounds .entry)) ⌝ }
+{
+    let verdict = answer.verdict;
+    let low = answer.low;
+    let high = answer.high;
+    store_bounds(bounds, low, high);
+    number_of(verdict)
 }
 
 // Bounds of the values that a allows at p/S.
 #[no_mangle]
 pub extern "C" fn ferruntzo_evaluate(a: &[i32], p: i32, bounds: &mut [i64]) -> u32
-    ensures { λ r. ⌜ r ≡ numberOut (boundsFit (now (a .entry)) (now (bounds .entry))) (evaluation (areaModel (now (a .entry))) p .number) ⌝ }
-    ensures { λ _. ⌜ now (bounds .exit) ≡ boundsOut (boundsFit (now (a .entry)) (now (bounds .entry))) (evaluation (areaModel (now (a .entry))) p) (now (bounds .entry)) ⌝ }
+    ensures { λ r. ⌜ evaluationAnswer r (now (bounds .exit)) ≡ evaluateAnswer (now (a .entry)) p (now (bounds .entry)) ⌝ }
 {
     if (MODEL_SIZE <= a.len()) & (BOUNDS_SIZE <= bounds.len()) {
-        let enclosure = evaluate(model_in(a), p);
-        let verdict = enclosure.verdict;
-        let low = enclosure.low;
-        let high = enclosure.high;
-        bounds[0] = low;
-        bounds[1] = high;
-        number_of(verdict)
+        answer_evaluation(evaluate(model_in(a), p), bounds)
     } else {
-        SHORT_AREA
+        let answer = Bounds {
+            verdict: Verdict::ShortArea,
+            low: 0,
+            high: 0,
+        };
+        answer_evaluation(answer, bounds)
     }
 }

@@ -1,40 +1,39 @@
 -- `ferruntzo_integrate` meets its contract.
 use borrow.Author.Needs.{needs}
 use mathlib.Core.Path.{ap, _∙_}
+use Prim.Native.Nat.{_≤_}
+use lib.ListN.{length}
 use denote.Ref.{now}
 use Rattle.model.specs.Models.{Outcome}
-use Rattle.model.specs.Areas.{modelSize, words, areaModel}
+use Rattle.model.specs.Areas.{modelSize}
 use Rattle.model.specs.Integral.{integration}
 use Rattle.model.specs.OutcomeFits.{integration-storable}
-use Rattle.ferruntzo.proofs.Answering.{two-fit, answer-storable, answered, untouched}
+use Rattle.ferruntzo.specs.Answers.{outcomeIn}
+use Rattle.ferruntzo.proofs.Answering.{two-fit}
 use Rattle.ferruntzo.proofs.operations.ferruntzo_integrate.Statement.{statement}
 use Rattle.ferruntzo.proofs.operations.ferruntzo_integrate.Tie as tie
 
 model-in-requires : tie.Need-model-in-requires
 model-in-requires c κs = let g = c .before .args in two-fit modelSize modelSize (now (g .a)) (now (g .out)) (c .if1 .taken) .0
 
-write-answer-requires : tie.Need-write-answer-requires
-write-answer-requires c κs =
+answer-operation-requires : tie.Need-answer-operation-requires
+answer-operation-requires c κs =
     let i = c .before .integrate in
-    let d = c .before .before .before in
-    let g = d .before .args in
-    (two-fit modelSize modelSize (now (g .a)) (now (g .out)) (d .if1 .taken) .1, answer-storable (i .result) _ (i .ensures) (integration-storable _))
+    rw (ap (λ (a : Outcome). a .model) (i .ensures)) (integration-storable _)
 
 returns : tie.Need-returns
 returns c =
-    let p = c .before .before .before in
-    let d = p .before .before in
-    let g = d .before .args in
-    answered (p .integrate .result) (integration (areaModel (now (g .a)))) (p .integrate .ensures ∙ ap integration (p .before .model-in .ensures))
-    (now (g .out)) (d .if1 .taken) (c .before .write-answer .ensures .0) (c .before .write-answer .ensures .1)
+    let i = c .before .before .before in
+    let d = i .before .before in
+    rw (d .if1 .taken)
+    (c .before .answer-operation .ensures
+    ∙ ap (λ (x : Outcome). outcomeIn x (now (d .before .args .out))) (i .integrate .ensures ∙ ap integration (i .before .model-in .ensures)))
 
 returns-2 : tie.Need-returns-2
-returns-2 c =
-    let g = c .before .args in
-    let o : Outcome = integration (areaModel (now (g .a))) in
-    untouched (o .number) modelSize (words (o .model)) (now (g .out)) (c .if1 .left)
+returns-2 c = rw (c .before .before .before .if1 .left) (c .before .refuse-operation .ensures)
 
 pub ferruntzo-integrate-spec : {M : Type 1} → statement M
 ferruntzo-integrate-spec =
     tie.close (tie.spec
-    model-in-requires (λ c κs. search needs) write-answer-requires (λ c. search needs) returns returns-2)
+    model-in-requires (λ c κs. search needs) answer-operation-requires (λ c κs. search needs) (λ c. search needs) returns
+    (λ c. search needs) returns-2)

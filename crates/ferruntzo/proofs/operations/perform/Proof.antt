@@ -1,19 +1,55 @@
--- `operations::perform` meets its contract, case by case.
+-- `operations::perform` meets its contract.
 use borrow.Author.Needs.{needs}
+use mathlib.Core.Path.{ap, ap₂, _∙_}
+use Prim.Native.Nat.{_≤_}
+use lib.ListN.{length}
+use denote.Ref.{now}
+use Rattle.model.specs.Models.{Outcome}
+use Rattle.model.specs.Areas.{modelSize, areaModel, Storable}
+use Rattle.model.specs.OutcomeFits.{addition-storable, subtraction-storable, multiplication-storable}
+use Rattle.model.specs.declared.types.Model.{Model}
+use Rattle.ferruntzo.specs.Answers.{operationOf, outcomeIn}
+use Rattle.ferruntzo.specs.declared.operations.Operation.{Operation}
+use Rattle.ferruntzo.specs.declared.operations.Operation.the-variants.{Add, Subtract, Multiply}
+use Rattle.ferruntzo.proofs.Answering.{three-fit}
 use Rattle.ferruntzo.proofs.operations.perform.Statement.{statement}
 use Rattle.ferruntzo.proofs.operations.perform.Tie as tie
 
+operation-storable : (o : Operation) (a b : Model) → Storable (operationOf o a b .model)
+operation-storable Add a b = addition-storable a b
+operation-storable Subtract a b = subtraction-storable a b
+operation-storable (Multiply kept) a b = multiplication-storable kept a b
+
+long : (c : tie.Then1) → let g = c .before .args in
+    (modelSize ≤ length (now (g .a))) × (modelSize ≤ length (now (g .b))) × (modelSize ≤ length (now (g .out)))
+long c = let g = c .before .args in three-fit modelSize modelSize modelSize (now (g .a)) (now (g .b)) (now (g .out)) (c .if1 .taken)
+
+model-in-requires : tie.Need-model-in-requires
+model-in-requires c κs = long c .0
+
+model-in-requires-2 : tie.Need-model-in-requires-2
+model-in-requires-2 c κs = long (c .before) .1
+
+answer-operation-requires : tie.Need-answer-operation-requires
+answer-operation-requires c κs =
+    let o = c .before .operate in
+    rw (ap (λ (a : Outcome). a .model) (o .ensures)) (operation-storable (c .before .before .before .before .before .args .operation) _ _)
+
 returns : tie.Need-returns
-returns c = rw (c .before .enum-told .given .1) (c .add .ensures)
+returns c =
+    let o = c .before .before .before in
+    let d = o .before .before .before in
+    let g = d .before .args in
+    rw (d .if1 .taken)
+    (c .before .answer-operation .ensures
+    ∙ ap (λ (x : Outcome). outcomeIn x (now (g .out)))
+    (o .operate .ensures ∙ ap₂ (operationOf (g .operation)) (o .before .before .model-in .ensures) (o .before .model-in2 .ensures)))
 
 returns-2 : tie.Need-returns-2
-returns-2 c = rw (c .before .enum-told2 .given .1) (c .subtract .ensures)
-
-returns-3 : tie.Need-returns-3
-returns-3 c = rw (c .before .before .operation .given .1) (c .multiply .ensures)
+returns-2 c = rw (c .before .before .before .if1 .left) (c .before .refuse-operation .ensures)
 
 pub perform-spec : {M : Type 1} → statement M
 perform-spec =
     tie.close (tie.spec
-    (λ c. search needs) (λ c κs. search needs) (λ c. search needs) (λ c κs. search needs) (λ c. search needs)
-    (λ c κs. search needs) returns returns-2 returns-3)
+    model-in-requires model-in-requires-2 (λ c κs. search needs) answer-operation-requires (λ c κs. search needs)
+    (λ c. search needs) returns (λ c. search needs) returns-2)

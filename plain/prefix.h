@@ -1,5 +1,5 @@
 /* Gives the entries of plain.c another prefix, so that several builds of it can
-   be linked into one program:  gcc -DPREFIX=plain2_ -include prefix.h -c plain.c */
+   be linked into one program:  gcc -DPREFIX=plain2_ -include plain/prefix.h -c plain/plain.c */
 #define PREFIXED_(prefix, name) prefix##name
 #define PREFIXED(prefix, name) PREFIXED_(prefix, name)
 #define plain_add PREFIXED(PREFIX, add)

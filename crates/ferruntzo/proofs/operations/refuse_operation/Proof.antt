@@ -1,0 +1,21 @@
+-- `operations::refuse_operation` meets its contract.
+use borrow.Author.Needs.{needs}
+use mathlib.Core.Path.{ap, _∙_}
+use denote.Ref.{now}
+use Rattle.model.specs.OutcomeFits.{zero-storable}
+use Rattle.model.specs.declared.types.Model.{Model}
+use Rattle.ferruntzo.specs.Answers.{outcomeIn}
+use Rattle.ferruntzo.proofs.operations.refuse_operation.Statement.{statement}
+use Rattle.ferruntzo.proofs.operations.refuse_operation.Tie as tie
+
+answer-operation-requires : tie.Need-answer-operation-requires
+answer-operation-requires c κs = rw (c .before .zero .ensures) zero-storable
+
+returns : tie.Need-returns
+returns c =
+    let d = c .before .before .before in
+    c .before .answer-operation .ensures
+    ∙ ap (λ (m : Model). outcomeIn (record { number = 1; model = m }) (now (d .before .args .out))) (d .zero .ensures)
+
+pub refuse-operation-spec : {M : Type 1} → statement M
+refuse-operation-spec = tie.close (tie.spec (λ c κs. search needs) answer-operation-requires (λ c. search needs) returns)
