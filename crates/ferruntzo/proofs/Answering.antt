@@ -1,13 +1,17 @@
 -- What the lengths of areas tell, and what an area that has its numbers, or is too short, holds afterwards.
-use mathlib.Core.Path.{_≡_, refl, ap, _∙_}
+use mathlib.Core.Path.{_≡_, refl, sym, ap, subst, _∙_}
 use mathlib.Core.Bool.{Bool, true, false, false≢true, _&&_}
 use mathlib.Core.List.{List, _++_}
 use Prim.Native.Nat.{ℕ, _≤_, _<_}
 use borrow.Author.Tests.{leb-true, le-leb, lt-leb}
 use lib.IntN.{ℤ}
 use lib.ListN.{length, drop}
-use Rattle.model.specs.Areas.{modelSize, candidateSize}
-use Rattle.certificate.specs.Tests.{scratchSize, scratchAfter, Test, testOf}
+use Rattle.model.specs.Areas.{modelSize, candidateSize, Storable}
+use Rattle.model.specs.Outcomes.{Outcome, values, outcomeOf}
+use Rattle.model.specs.OutcomeLaws.{values-judged}
+use Rattle.model.specs.declared.types.Model.{Model}
+use Rattle.model.specs.declared.types.ModelOutcome.{ModelOutcome}
+use Rattle.certificate.specs.Tests.{scratchSize, scratchAfter, Certificate, testOf}
 use Rattle.certificate.specs.declared.types.TestOutcome.{TestOutcome}
 use Rattle.ferruntzo.specs.Answers.{fits, areaOut}
 use Rattle.ferruntzo.specs.TestAnswers.{numbersSize, testAnswer, testIn, testFits}
@@ -50,11 +54,20 @@ module _ {A : Type 0} (n : ℕ) (new old : List A) where
   unfolding areaOut
   untouched h = rw (lt-leb n (length old) h)
 
+-- ---- the model beside a verdict
+
+pub outcome-storable : (r : ModelOutcome) {o : Outcome Model} → outcomeOf r ≡ o → Storable (values o) → Storable (r .model)
+outcome-storable r e h = subst Storable (ap values (sym e) ∙ values-judged (r .verdict) (r .model)) h
+
+pub test-storable : (r : TestOutcome) {o : Outcome Certificate} → testOf r ≡ o → Storable (values o .model) → Storable (r .model)
+test-storable r e h =
+    subst (λ (c : Certificate). Storable (c .model)) (ap values (sym e) ∙ values-judged (r .verdict) _) h
+
 -- ---- what a test answers over its areas
 
-module _ (test : Test) (scratch out : List ℤ) (numbers : List ℕ) where
+module _ (test : Outcome Certificate) (scratch out : List ℤ) (numbers : List ℕ) where
   pub test-given : {n : ℕ} {s o : List ℤ} {k : List ℕ} (t : TestOutcome) → s ≡ scratchAfter scratch
       → ((x : List ℤ) → testAnswer n (scratchAfter x) o k ≡ testIn (testOf t) x out numbers) → testOf t ≡ test
       → testAnswer n s o k ≡ testIn test scratch out numbers
   test-given {n} {s} {o} {k} t cleared stored same =
-      ap (λ (x : List ℤ). testAnswer n x o k) cleared ∙ stored scratch ∙ ap (λ (x : Test). testIn x scratch out numbers) same
+      ap (λ (x : List ℤ). testAnswer n x o k) cleared ∙ stored scratch ∙ ap (λ (x : Outcome Certificate). testIn x scratch out numbers) same

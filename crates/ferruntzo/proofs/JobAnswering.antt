@@ -1,37 +1,62 @@
--- The step from what the check of a job answers and leaves to the definitions of specs/JobAnswers.antt.
-use mathlib.Core.Path.{_≡_, ap, _∙_}
+-- The step from what the check of a job answers and leaves to the definitions of specs/JobAnswers.antt, and to requirement 3 over
+-- one more lent area.
+use mathlib.Core.Path.{_≡_, refl, ap, sym, subst, _∙_}
+use mathlib.Core.Bool.{true, not}
 use mathlib.Core.List.{List, [], _∷_, _++_}
+use mathlib.Core.Logic.{inl}
 use Prim.Native.Nat.{ℕ, _≤_, _<_}
 use native.Mathlib.Omega.{arith}
-use borrow.Author.Tests.{le-leb, lt-leb}
+use borrow.Author.Tests.{le-leb, lt-leb, ne-eqb}
 use lib.IntN.{ℤ}
 use lib.ListN.{length, drop}
-use Rattle.job.specs.Boxes.{Requirement3}
-use Rattle.job.specs.Work.{checkOf, workAfter, scratchAfterJob, Answer, answerOf, answered}
-use Rattle.job.specs.declared.types.Report.{Report}
+use Rattle.model.specs.Outcomes.{numberOf}
+use Rattle.model.specs.OutcomeLaws.{numberOf-positive}
+use Rattle.job.specs.Outcomes.{JobOutcome, jobOutcomeOf, counted, refusalNumber, refusedCommand, resultCount}
+use Rattle.job.specs.Work.{areaPlaces, checkOf, workAfter, scratchAfterJob}
+use Rattle.job.specs.Order.{here}
+use Rattle.job.specs.Requirement.{Requirement3}
+use Rattle.job.specs.RequirementLaws.{refused-required, required-behind}
+use Rattle.job.specs.declared.types.JobOutcome.{JobOutcome as CodeOutcome}
+use Rattle.job.specs.declared.types.JobOutcome.the-variants.{Accepted, Refused}
 use Rattle.ferruntzo.specs.Answers.{areaOut}
-use Rattle.ferruntzo.specs.JobAnswers.{answerSize, jobAnswer, checkAnswer}
+use Rattle.ferruntzo.specs.JobAnswers.{answerSize, jobAnswer, checkAnswer, answerIn, exportedPlaces}
+
+-- the numbers of an answer, in an area that has room for them
+abbrev pub answerOver : CodeOutcome → List ℕ → List ℕ
+answerOver r answer = (resultCount (jobOutcomeOf r) ∷ refusedCommand (jobOutcomeOf r) ∷ []) ++ drop answerSize answer
+
+-- what they mean is what was answered
+answer-means : (r : CodeOutcome) (answer : List ℕ) → answerIn (refusalNumber (jobOutcomeOf r)) (answerOver r answer) ≡ jobOutcomeOf r
+answer-means (Accepted count) answer = refl
+answer-means (Refused v k) answer = rw (ne-eqb (numberOf v) 0 (omega (arith, numberOf-positive v)))
 
 module _ (job : List ℕ) (work scratch : List ℤ) (answer : List ℕ) where
-  abbrev a : Answer
-  a = answered (checkOf job work scratch)
+  abbrev o : JobOutcome ℕ
+  o = counted (checkOf job work scratch)
 
   -- the area of the answer has its numbers
-  pub checked : (r : Report) {n : ℕ} {w s : List ℤ} {m : List ℕ} → answerSize ≤ length answer → answerOf r ≡ a
-      → n ≡ answerOf r .number → w ≡ workAfter job work scratch → s ≡ scratchAfterJob work scratch
-      → m ≡ (answerOf r .count ∷ answerOf r .command ∷ []) ++ drop answerSize answer
-      → jobAnswer n w s m ≡ checkAnswer job work scratch answer
-  unfolding checkAnswer areaOut
-  checked r h same en ew es em =
-      let f = en ∙ ap (λ (x : Answer). x .number) same in
-      let g = em ∙ ap (λ (x : Answer). (x .count ∷ x .command ∷ []) ++ drop answerSize answer) same in
-      rw (le-leb answerSize (length answer) h) (λ k. jobAnswer (f k) (ew k) (es k) (g k))
+  module _ (r : CodeOutcome) {n : ℕ} {w s : List ℤ} {m : List ℕ} (long : answerSize ≤ length answer)
+      (number-is : n ≡ refusalNumber (jobOutcomeOf r)) (answer-is : m ≡ answerOver r answer) where
+    pub checked : jobOutcomeOf r ≡ o → w ≡ workAfter job work scratch → s ≡ scratchAfterJob work scratch
+        → jobAnswer n w s m ≡ checkAnswer job work scratch answer
+    unfolding checkAnswer areaOut
+    checked same ew es =
+        let f = number-is ∙ ap refusalNumber same in
+        let g = answer-is ∙ ap (λ (x : JobOutcome ℕ). (resultCount x ∷ refusedCommand x ∷ []) ++ drop answerSize answer) same in
+        rw (le-leb answerSize (length answer) long) (λ k. jobAnswer (f k) (ew k) (es k) (g k))
+
+    pub required : Requirement3 (areaPlaces work scratch) job (jobOutcomeOf r) w
+        → Requirement3 (exportedPlaces work scratch answer) job (answerIn n m) w
+    required claim =
+        subst (λ (x : JobOutcome ℕ). Requirement3 (exportedPlaces work scratch answer) job x w)
+        (sym ((λ k. answerIn (number-is k) (answer-is k)) ∙ answer-means r answer))
+        (required-behind (_ ∷ []) (ap not (le-leb answerSize (length answer) long), tt) claim)
 
   -- it is too short
-  pub unchecked : length answer < answerSize → jobAnswer 1 work scratch answer ≡ checkAnswer job work scratch answer
-  unfolding checkAnswer areaOut
-  unchecked h = rw (lt-leb answerSize (length answer) h)
+  module _ (short : length answer < answerSize) where
+    pub unchecked : jobAnswer 1 work scratch answer ≡ checkAnswer job work scratch answer
+    unfolding checkAnswer areaOut
+    unchecked = rw (lt-leb answerSize (length answer) short)
 
--- of no results nothing is claimed
-pub none-required : (job : List ℕ) (work : List ℤ) → Requirement3 job 0 work
-none-required job work = record { vouched = λ i h x on. absurd (omega arith) }
+    pub unrequired : Requirement3 (exportedPlaces work scratch answer) job (answerIn 1 answer) work
+    unrequired = refused-required (inl (here (ap not (lt-leb answerSize (length answer) short)) refl, refl)) 1 _ work

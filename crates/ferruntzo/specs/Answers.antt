@@ -4,11 +4,12 @@ use mathlib.Core.Bool.{Bool, cond, _&&_}
 use mathlib.Core.List.{List, [], _∷_, _++_}
 use Prim.Native.Nat.{ℕ}
 use lib.Dec.{leb}
-use lib.IntN.{ℤ, pos}
+use lib.IntN.{ℤ}
 use lib.ListN.{length, drop}
 use Rattle.model.specs.Areas.{modelSize, words, areaModel}
-use Rattle.model.specs.Evaluation.{Enclosure, evaluation}
-use Rattle.model.specs.Models.{Outcome, zeroModel}
+use Rattle.model.specs.Evaluation.{Bounds, zeroBounds, evaluation}
+use Rattle.model.specs.Models.{zeroModel}
+use Rattle.model.specs.Outcomes.{Outcome, refused, number, values}
 use Rattle.model.specs.Operations.{addition, subtraction, multiplication}
 use Rattle.model.specs.declared.types.Model.{Model}
 use Rattle.ferruntzo.specs.declared.operations.Operation.{Operation}
@@ -31,12 +32,12 @@ areaOut n new old = cond (fits n old) (new ++ drop n old) old
 -- ---- refusal 1, whichever area is too short
 
 -- "A refused operation gives its number beside the zero model (degree 0, all zero)"
-abbrev pub shortOutcome : Outcome
-shortOutcome = record { number = 1; model = zeroModel }
+abbrev pub shortOutcome : Outcome Model
+shortOutcome = refused 1 zeroModel
 
 -- "refused evaluation gives bounds 0 and 0"
-abbrev pub shortEnclosure : Enclosure
-shortEnclosure = record { number = 1; low = pos 0; high = pos 0 }
+abbrev pub shortBounds : Outcome Bounds
+shortBounds = refused 1 zeroBounds
 
 -- ---- add, subtract, multiply, integrate
 
@@ -49,22 +50,22 @@ abbrev pub operationAnswer : ℕ → List ℤ → OperationAnswer
 operationAnswer n o = record { number = n; out = o }
 
 -- an outcome, answered over an area
-unfoldable pub outcomeIn : Outcome → List ℤ → OperationAnswer
-outcomeIn o out = operationAnswer (o .number) (areaOut modelSize (words (o .model)) out)
+unfoldable pub outcomeIn : Outcome Model → List ℤ → OperationAnswer
+outcomeIn o out = operationAnswer (number o) (areaOut modelSize (words (values o)) out)
 
 -- of two models
-abbrev pub binaryAnswer : (Model → Model → Outcome) → List ℤ → List ℤ → List ℤ → OperationAnswer
+abbrev pub binaryAnswer : (Model → Model → Outcome Model) → List ℤ → List ℤ → List ℤ → OperationAnswer
 binaryAnswer f a b out =
     outcomeIn
     (cond (fits modelSize a && fits modelSize b && fits modelSize out) (f (areaModel a) (areaModel b)) shortOutcome)
     out
 
 -- of one model
-abbrev pub unaryAnswer : (Model → Outcome) → List ℤ → List ℤ → OperationAnswer
+abbrev pub unaryAnswer : (Model → Outcome Model) → List ℤ → List ℤ → OperationAnswer
 unaryAnswer f a out = outcomeIn (cond (fits modelSize a && fits modelSize out) (f (areaModel a)) shortOutcome) out
 
 -- the operations on two models
-abbrev pub operationOf : Operation → Model → Model → Outcome
+abbrev pub operationOf : Operation → Model → Model → Outcome Model
 operationOf Add a b = addition a b
 operationOf Subtract a b = subtraction a b
 operationOf (Multiply kept) a b = multiplication kept a b
@@ -79,9 +80,9 @@ pub record EvaluationAnswer : Type 0 where
 abbrev pub evaluationAnswer : ℕ → List ℤ → EvaluationAnswer
 evaluationAnswer n b = record { number = n; bounds = b }
 
-unfoldable pub enclosureIn : Enclosure → List ℤ → EvaluationAnswer
-enclosureIn e bounds = evaluationAnswer (e .number) (areaOut boundsSize (e .low ∷ e .high ∷ []) bounds)
+unfoldable pub boundsIn : Outcome Bounds → List ℤ → EvaluationAnswer
+boundsIn o bounds = evaluationAnswer (number o) (areaOut boundsSize (values o .low ∷ values o .high ∷ []) bounds)
 
 abbrev pub evaluateAnswer : List ℤ → ℤ → List ℤ → EvaluationAnswer
 evaluateAnswer a p bounds =
-    enclosureIn (cond (fits modelSize a && fits boundsSize bounds) (evaluation (areaModel a) p) shortEnclosure) bounds
+    boundsIn (cond (fits modelSize a && fits boundsSize bounds) (evaluation (areaModel a) p) shortBounds) bounds

@@ -4,9 +4,9 @@ use mathlib.Core.List.{List, [], _∷_}
 use Prim.Native.Nat.{ℕ}
 use lib.IntN.{ℤ}
 use lib.ListN.{length}
-use Rattle.model.specs.Models.{zeroModel}
+use Rattle.model.specs.Outcomes.{Outcome, refused, number, values}
 use Rattle.model.specs.Areas.{modelSize, candidateSize, words, areaModel, areaCandidate}
-use Rattle.certificate.specs.Tests.{scratchSize, scratchAfter, Test, quotientTest, rootTest}
+use Rattle.certificate.specs.Tests.{scratchSize, scratchAfter, Certificate, zeroCertificate, quotientTest, rootTest}
 use Rattle.ferruntzo.specs.Answers.{fits, areaOut}
 
 -- how many numbers m, N and b are
@@ -14,8 +14,8 @@ abbrev pub numbersSize : ℕ
 numbersSize = 3
 
 -- refusal 1, whichever area is too short: "Any other number an entry answers … is zero on refusal too"
-abbrev pub shortTest : Test
-shortTest = record { number = 1; model = zeroModel; m = 0; N = 0; b = 0 }
+abbrev pub shortTest : Outcome Certificate
+shortTest = refused 1 zeroCertificate
 
 -- the number, and what the scratch, the area of the result and that of m, N and b hold afterwards
 pub record TestAnswer : Type 0 where
@@ -29,13 +29,13 @@ testAnswer n s o k = record { number = n; scratch = s; out = o; numbers = k }
 
 -- a test, answered over its areas. Of the scratch: "These are zero after every call, unless the scratch itself or a work area
 -- was too short"; a test has no work area.
-unfoldable pub testIn : Test → List ℤ → List ℤ → List ℕ → TestAnswer
+unfoldable pub testIn : Outcome Certificate → List ℤ → List ℤ → List ℕ → TestAnswer
 testIn t scratch out numbers =
     testAnswer
-    (t .number)
+    (number t)
     (scratchAfter scratch)
-    (areaOut modelSize (words (t .model)) out)
-    (areaOut numbersSize (t .m ∷ t .N ∷ t .b ∷ []) numbers)
+    (areaOut modelSize (words (values t .model)) out)
+    (areaOut numbersSize (values t .m ∷ values t .N ∷ values t .b ∷ []) numbers)
 
 -- whether every area has its numbers: those of the models, of h and w, the scratch, the result, and m, N and b
 abbrev pub testFits : Bool → List ℤ → List ℤ → List ℤ → List ℤ → List ℕ → Bool

@@ -18,8 +18,9 @@ use certificate::types::SCRATCH_SIZE;
 use model::area::CANDIDATE_SIZE;
 use model::area::MODEL_SIZE;
 use model::types::Model;
+use model::types::Refusal;
 use model::types::Verdict;
-use model::types::number_of;
+use model::types::verdict_number;
 
 // Stores what a test answers, and gives the number of its verdict; s is the scratch of the test.
 fn answer_test(test: TestOutcome, out: &mut [i32], numbers: &mut [u64]) -> u32
@@ -30,7 +31,7 @@ fn answer_test(test: TestOutcome, out: &mut [i32], numbers: &mut [u64]) -> u32
     let verdict = test.verdict;
     store_model(out, test.model);
     store_numbers(numbers, test.contraction, test.residual, test.displacement);
-    number_of(verdict)
+    verdict_number(verdict)
 }
 
 // Refusal 1 of a test.
@@ -40,7 +41,7 @@ fn refuse_test(scratch: &mut [i64], out: &mut [i32], numbers: &mut [u64]) -> u32
 {
     clear_scratch(scratch);
     let test = TestOutcome {
-        verdict: Verdict::ShortArea,
+        verdict: Verdict::Refused(Refusal::ShortArea),
         model: Model::zero(),
         contraction: 0,
         residual: 0,

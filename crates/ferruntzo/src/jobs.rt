@@ -1,10 +1,9 @@
 // The check of a job over lent areas.
 ghost use mathlib.Core.Path.{_≡_};
-ghost use lib.ListN.{getD};
-ghost use Rattle.job.specs.Boxes.{Requirement3};
-ghost use Rattle.ferruntzo.specs.JobAnswers.{jobAnswer, checkAnswer};
+ghost use Rattle.job.specs.Requirement.{Requirement3};
+ghost use Rattle.ferruntzo.specs.JobAnswers.{jobAnswer, checkAnswer, answerIn, exportedPlaces};
 use job::run::check;
-use job::types::Report;
+use job::types::JobOutcome;
 use model::types::number_of;
 
 // The count of results, and the number of the refused command.
@@ -23,20 +22,21 @@ pub extern "C" fn ferruntzo_check(
 ) -> u32
     ensures { λ r. ⌜ jobAnswer r (now (work .exit)) (now (scratch .exit)) (now (answer .exit))
         ≡ checkAnswer (now (job .entry)) (now (work .entry)) (now (scratch .entry)) (now (answer .entry)) ⌝ }
-    ensures { λ r. ⌜ (r ≡ 0 → Requirement3 (now (job .entry)) (getD (now (answer .exit)) 0 0) (now (work .exit))) ⌝ }
+    ensures { λ r. ⌜ Requirement3 (exportedPlaces (now (work .entry)) (now (scratch .entry)) (now (answer .entry)))
+        (now (job .entry)) (answerIn r (now (answer .exit))) (now (work .exit)) ⌝ }
 {
     if ANSWER_SIZE <= answer.len() {
-        let report = check(job, work, scratch);
-        match report {
-            Report::Accepted(count) => {
+        let outcome = check(job, work, scratch);
+        match outcome {
+            JobOutcome::Accepted(count) => {
                 answer[0] = count as u32;
                 answer[1] = 0;
                 0
             }
-            Report::Refused(verdict, command) => {
+            JobOutcome::Refused(refusal, command) => {
                 answer[0] = 0;
                 answer[1] = command as u32;
-                number_of(verdict)
+                number_of(refusal)
             }
         }
     } else {

@@ -1,13 +1,13 @@
 // Add, subtract, multiply, integrate and evaluate over lent areas. Each answers and writes what the definition gives for the
 // models that the areas hold; if an area is too short, refusal 1 and zeros.
 ghost use mathlib.Core.Path.{_≡_};
-ghost use Rattle.model.specs.Models.{outcomeOf};
+ghost use Rattle.model.specs.Outcomes.{outcomeOf};
 ghost use Rattle.model.specs.Areas.{Storable};
 ghost use Rattle.model.specs.Operations.{addition, subtraction, multiplication};
 ghost use Rattle.model.specs.Integral.{integration};
-ghost use Rattle.model.specs.Evaluation.{enclosureOf};
+ghost use Rattle.model.specs.Evaluation.{boundsOf};
 ghost use Rattle.ferruntzo.specs.Answers.{operationOf, shortOutcome, outcomeIn, operationAnswer, binaryAnswer, unaryAnswer};
-ghost use Rattle.ferruntzo.specs.Answers.{enclosureIn, evaluationAnswer, evaluateAnswer};
+ghost use Rattle.ferruntzo.specs.Answers.{boundsIn, evaluationAnswer, evaluateAnswer};
 use crate::areas::BOUNDS_SIZE;
 use crate::areas::model_in;
 use crate::areas::store_bounds;
@@ -18,11 +18,12 @@ use model::area::MODEL_SIZE;
 use model::evaluate::evaluate;
 use model::integrate::integrate;
 use model::multiply::multiply;
-use model::types::Answer;
-use model::types::Bounds;
+use model::types::ModelOutcome;
+use model::types::BoundsOutcome;
 use model::types::Model;
+use model::types::Refusal;
 use model::types::Verdict;
-use model::types::number_of;
+use model::types::verdict_number;
 
 // An operation on two models; multiply with its kept degree.
 enum Operation {
@@ -31,8 +32,8 @@ enum Operation {
     Multiply(u32),
 }
 
-fn operate(operation: Operation, a: Model, b: Model) -> Answer
-    ensures { λ (r : Answer). ⌜ outcomeOf r ≡ operationOf operation a b ⌝ }
+fn operate(operation: Operation, a: Model, b: Model) -> ModelOutcome
+    ensures { λ (r : ModelOutcome). ⌜ outcomeOf r ≡ operationOf operation a b ⌝ }
 {
     match operation {
         Operation::Add => add(a, b),
@@ -42,21 +43,21 @@ fn operate(operation: Operation, a: Model, b: Model) -> Answer
 }
 
 // Stores what an operation answers, and gives the number of its verdict.
-fn answer_operation(answer: Answer, out: &mut [i32]) -> u32
+fn answer_operation(answer: ModelOutcome, out: &mut [i32]) -> u32
     requires { ⌜ Storable (answer .model) ⌝ }
     ensures { λ r. ⌜ operationAnswer r (now (out .exit)) ≡ outcomeIn (outcomeOf answer) (now (out .entry)) ⌝ }
 {
     let verdict = answer.verdict;
     store_model(out, answer.model);
-    number_of(verdict)
+    verdict_number(verdict)
 }
 
 // Refusal 1 of an operation.
 fn refuse_operation(out: &mut [i32]) -> u32
     ensures { λ r. ⌜ operationAnswer r (now (out .exit)) ≡ outcomeIn shortOutcome (now (out .entry)) ⌝ }
 {
-    let answer = Answer {
-        verdict: Verdict::ShortArea,
+    let answer = ModelOutcome {
+        verdict: Verdict::Refused(Refusal::ShortArea),
         model: Model::zero(),
     };
     answer_operation(answer, out)
@@ -114,17 +115,17 @@ pub extern "C" fn ferruntzo_integrate(a: &[i32], out: &mut [i32]) -> u32
 }
 
 // Stores what an evaluation answers, and gives the number of its verdict.
-fn answer_evaluation(answer: Bounds, bounds: &mut [i64]) -> u32
-    ensures { λ r. ⌜ evaluationAnswer r (now (bounds .exit)) ≡ enclosureIn (enclosureOf answer) (now (bounds .entry)) ⌝ }
+fn answer_evaluation(answer: BoundsOutcome, bounds: &mut [i64]) -> u32
+    ensures { λ r. ⌜ evaluationAnswer r (now (bounds .exit)) ≡ boundsIn (boundsOf answer) (now (bounds .entry)) ⌝ }
 {
     let verdict = answer.verdict;
     let low = answer.low;
     let high = answer.high;
     store_bounds(bounds, low, high);
-    number_of(verdict)
+    verdict_number(verdict)
 }
 
-// Bounds of the values that a allows at p/S.
+// BoundsOutcome of the values that a allows at p/S.
 #[no_mangle]
 pub extern "C" fn ferruntzo_evaluate(a: &[i32], p: i32, bounds: &mut [i64]) -> u32
     ensures { λ r. ⌜ evaluationAnswer r (now (bounds .exit)) ≡ evaluateAnswer (now (a .entry)) p (now (bounds .entry)) ⌝ }
@@ -132,8 +133,8 @@ pub extern "C" fn ferruntzo_evaluate(a: &[i32], p: i32, bounds: &mut [i64]) -> u
     if (MODEL_SIZE <= a.len()) & (BOUNDS_SIZE <= bounds.len()) {
         answer_evaluation(evaluate(model_in(a), p), bounds)
     } else {
-        let answer = Bounds {
-            verdict: Verdict::ShortArea,
+        let answer = BoundsOutcome {
+            verdict: Verdict::Refused(Refusal::ShortArea),
             low: 0,
             high: 0,
         };

@@ -1,10 +1,11 @@
 -- Two answers of the code with one meaning are the same answer.
 use mathlib.Core.Path.{_≡_, refl, sym, _∙_, ap}
 use mathlib.Core.Bool.{cond}
-use Prim.Native.Nat.{ℕ}
+use Prim.Native.Nat.{ℕ, _<_}
+use native.Mathlib.Omega.{arith}
 use lib.Dec.{eqb}
 use lib.IntN.{ℤ}
-use Rattle.model.specs.Outcomes.{Outcome, accepted, refused, values, numberOf, judged, outcomeOf}
+use Rattle.model.specs.Outcomes.{Outcome, accepted, refused, number, values, numberOf, verdictNumber, judged, outcomeOf}
 use Rattle.model.specs.Evaluation.{Bounds, boundsOf}
 use Rattle.model.specs.declared.types.Model.{Model}
 use Rattle.model.specs.declared.types.ModelOutcome.{ModelOutcome}
@@ -45,6 +46,22 @@ named-number BytesAfterEnd = refl
 named-number NotAResult = refl
 named-number TooManyResults = refl
 
+-- no refusal has the number of an acceptance
+pub numberOf-positive : (r : Refusal) → 0 < numberOf r
+numberOf-positive ShortArea = omega arith
+numberOf-positive BadModel = omega arith
+numberOf-positive LargeResult = omega arith
+numberOf-positive PointOutside = omega arith
+numberOf-positive NotContracting = omega arith
+numberOf-positive LargeResidual = omega arith
+numberOf-positive HelperNotPositive = omega arith
+numberOf-positive NegativeDiscriminant = omega arith
+numberOf-positive BadValue = omega arith
+numberOf-positive JobEnds = omega arith
+numberOf-positive BytesAfterEnd = omega arith
+numberOf-positive NotAResult = omega arith
+numberOf-positive TooManyResults = omega arith
+
 pub numberOf-injective : (r s : Refusal) → numberOf r ≡ numberOf s → r ≡ s
 numberOf-injective r s e = sym (named-number r) ∙ ap named e ∙ named-number s
 
@@ -60,6 +77,10 @@ module _ {A : Type 0} where
   pub values-judged : (v : Verdict) (a : A) → values (judged v a) ≡ a
   values-judged Accepted a = refl
   values-judged (Refused r) a = refl
+
+  pub number-judged : (v : Verdict) (a : A) → number (judged v a) ≡ verdictNumber v
+  number-judged Accepted a = refl
+  number-judged (Refused r) a = refl
 
   pub judged-injective : (u v : Verdict) (a b : A) → judged u a ≡ judged v b → (u ≡ v) × (a ≡ b)
   judged-injective u v a b e = (

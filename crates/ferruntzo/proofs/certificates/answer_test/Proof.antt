@@ -1,7 +1,13 @@
 -- `certificates::answer_test` meets its contract.
 use borrow.Author.Needs.{needs}
-use Rattle.certificate.specs.Tests.{scratchAfter}
-use Rattle.ferruntzo.specs.TestAnswers.{testAnswer, testIn}
+use mathlib.Core.Path.{sym, ap, _∙_}
+use mathlib.Core.List.{[], _∷_}
+use denote.Ref.{now}
+use Rattle.model.specs.Areas.{modelSize, words}
+use Rattle.model.specs.OutcomeLaws.{number-judged, values-judged}
+use Rattle.certificate.specs.Tests.{scratchAfter, Certificate, makeCertificate}
+use Rattle.ferruntzo.specs.Answers.{areaOut}
+use Rattle.ferruntzo.specs.TestAnswers.{numbersSize, testAnswer, testIn}
 use Rattle.ferruntzo.proofs.certificates.answer_test.Statement.{statement}
 use Rattle.ferruntzo.proofs.certificates.answer_test.Tie as tie
 
@@ -9,7 +15,15 @@ returns : tie.Need-returns
 unfolding testIn
 returns c s =
     let n = c .before .before .before in
-    λ k. testAnswer (c .number-of .ensures k) (scratchAfter s) (n .before .before .before .store-model .ensures k) (n .store-numbers .ensures k)
+    let m = n .before .before .before in
+    let g = m .before .before .before .args in
+    let t = g .test in
+    let d = makeCertificate (t .model) (t .contraction) (t .residual) (t .displacement) in
+    let same = sym (values-judged (t .verdict) d) in
+    let number = c .verdict-number .ensures ∙ sym (number-judged (t .verdict) d) in
+    let out = m .store-model .ensures ∙ ap (λ (x : Certificate). areaOut modelSize (words (x .model)) (now (g .out))) same in
+    let numbers = n .store-numbers .ensures ∙ ap (λ (x : Certificate). areaOut numbersSize (x .m ∷ x .N ∷ x .b ∷ []) (now (g .numbers))) same in
+    λ k. testAnswer (number k) (scratchAfter s) (out k) (numbers k)
 
 pub answer-test-spec : {M : Type 1} → statement M
 answer-test-spec =

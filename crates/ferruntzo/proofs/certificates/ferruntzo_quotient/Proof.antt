@@ -6,10 +6,10 @@ use Prim.Native.Nat.{_≤_}
 use denote.Ref.{now}
 use lib.ListN.{length}
 use Rattle.model.specs.Areas.{modelSize, candidateSize}
-use Rattle.certificate.specs.Tests.{Test, quotientTest}
+use Rattle.certificate.specs.Tests.{quotientTest}
 use Rattle.certificate.specs.TestFits.{quotient-storable}
 use Rattle.ferruntzo.specs.Answers.{fits}
-use Rattle.ferruntzo.proofs.Answering.{two-fit, test-fits, test-given}
+use Rattle.ferruntzo.proofs.Answering.{two-fit, test-fits, test-given, test-storable}
 use Rattle.ferruntzo.proofs.certificates.ferruntzo_quotient.Statement.{statement}
 use Rattle.ferruntzo.proofs.certificates.ferruntzo_quotient.Tie as tie
 
@@ -36,7 +36,7 @@ candidate-in-requires-2 c κs = long (c .before .before .before) .2
 
 answer-test-requires : tie.Need-answer-test-requires
 answer-test-requires c κs =
-    rw (ap (λ (t : Test). t .model) (c .before .before .before .quotient .ensures .0)) (quotient-storable _ _ _ _ _)
+    let q = c .before .before .before .quotient in test-storable (q .result) (q .ensures .0) (quotient-storable _ _ _ _ _)
 
 returns : tie.Need-returns
 returns c =

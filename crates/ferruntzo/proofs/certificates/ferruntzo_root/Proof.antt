@@ -6,10 +6,10 @@ use Prim.Native.Nat.{_≤_}
 use denote.Ref.{now}
 use lib.ListN.{length}
 use Rattle.model.specs.Areas.{modelSize, candidateSize}
-use Rattle.certificate.specs.Tests.{Test, rootTest}
+use Rattle.certificate.specs.Tests.{rootTest}
 use Rattle.certificate.specs.TestFits.{root-storable}
 use Rattle.ferruntzo.specs.Answers.{fits}
-use Rattle.ferruntzo.proofs.Answering.{test-fits, test-given}
+use Rattle.ferruntzo.proofs.Answering.{test-fits, test-given, test-storable}
 use Rattle.ferruntzo.proofs.certificates.ferruntzo_root.Statement.{statement}
 use Rattle.ferruntzo.proofs.certificates.ferruntzo_root.Tie as tie
 
@@ -30,7 +30,7 @@ candidate-in-requires-2 : tie.Need-candidate-in-requires-2
 candidate-in-requires-2 c κs = long (c .before .before) .2
 
 answer-test-requires : tie.Need-answer-test-requires
-answer-test-requires c κs = rw (ap (λ (t : Test). t .model) (c .before .before .before .root .ensures .0)) (root-storable _ _ _ _)
+answer-test-requires c κs = let q = c .before .before .before .root in test-storable (q .result) (q .ensures .0) (root-storable _ _ _ _)
 
 returns : tie.Need-returns
 returns c =

@@ -4,7 +4,9 @@ use mathlib.Core.Path.{ap, _∙_}
 use mathlib.Core.List.{List}
 use lib.IntN.{ℤ}
 use denote.Ref.{now}
-use Rattle.model.specs.OutcomeFits.{zero-storable}
+use Rattle.model.specs.ResultLaws.{zero-storable}
+use Rattle.model.specs.Outcomes.{refused}
+use Rattle.certificate.specs.Tests.{makeCertificate}
 use Rattle.model.specs.declared.types.Model.{Model}
 use Rattle.ferruntzo.specs.TestAnswers.{testAnswer, testIn}
 use Rattle.ferruntzo.proofs.certificates.refuse_test.Statement.{statement}
@@ -21,7 +23,7 @@ returns c =
     let g = s .before .before .before .args in
     ap (λ (x : List ℤ). testAnswer (t .result) x (t .last .1 .0) (t .last .1 .1 .0)) (s .clear-scratch .ensures)
     ∙ t .ensures (now (g .scratch))
-    ∙ ap (λ (m : Model). testIn (record { number = 1; model = m; m = 0; N = 0; b = 0 }) (now (g .scratch)) (now (g .out)) (now (g .numbers))) (z .zero .ensures)
+    ∙ ap (λ (m : Model). testIn (refused 1 (makeCertificate m 0 0 0)) (now (g .scratch)) (now (g .out)) (now (g .numbers))) (z .zero .ensures)
 
 pub refuse-test-spec : {M : Type 1} → statement M
 refuse-test-spec =

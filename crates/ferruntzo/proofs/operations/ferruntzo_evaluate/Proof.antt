@@ -4,9 +4,10 @@ use mathlib.Core.Path.{_≡_, ap, _∙_}
 use mir.Facts.{toZ-ofZ}
 use denote.Ref.{now}
 use Rattle.model.specs.Areas.{modelSize, areaModel}
-use Rattle.model.specs.Evaluation.{Enclosure, enclosureOf, evaluation}
+use Rattle.model.specs.Evaluation.{Bounds, boundsOf, evaluation}
+use Rattle.model.specs.Outcomes.{Outcome}
 use Rattle.model.specs.declared.types.Model.{Model}
-use Rattle.ferruntzo.specs.Answers.{boundsSize, enclosureIn}
+use Rattle.ferruntzo.specs.Answers.{boundsSize, boundsIn}
 use Rattle.ferruntzo.proofs.Answering.{two-fit}
 use Rattle.ferruntzo.proofs.operations.ferruntzo_evaluate.Statement.{statement}
 use Rattle.ferruntzo.proofs.operations.ferruntzo_evaluate.Tie as tie
@@ -19,9 +20,9 @@ returns c =
     let e = c .before .before .before in
     let d = e .before .before in
     let g = d .before .args in
-    let same : enclosureOf (e .evaluate .result) ≡ evaluation (areaModel (now (g .a))) (g .p) =
+    let same : boundsOf (e .evaluate .result) ≡ evaluation (areaModel (now (g .a))) (g .p) =
     simp (toZ-ofZ (d .before .fits .p)) at (e .evaluate .ensures) ∙ ap (λ (m : Model). evaluation m (g .p)) (e .before .model-in .ensures) in
-    rw (d .if1 .taken) (c .before .answer-evaluation .ensures ∙ ap (λ (x : Enclosure). enclosureIn x (now (g .bounds))) same)
+    rw (d .if1 .taken) (c .before .answer-evaluation .ensures ∙ ap (λ (x : Outcome Bounds). boundsIn x (now (g .bounds))) same)
 
 returns-2 : tie.Need-returns-2
 returns-2 c = rw (c .before .before .before .if1 .left) (c .before .answer-evaluation2 .ensures)

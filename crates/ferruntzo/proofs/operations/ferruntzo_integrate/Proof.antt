@@ -4,12 +4,13 @@ use mathlib.Core.Path.{ap, _∙_}
 use Prim.Native.Nat.{_≤_}
 use lib.ListN.{length}
 use denote.Ref.{now}
-use Rattle.model.specs.Models.{Outcome}
+use Rattle.model.specs.Outcomes.{Outcome}
+use Rattle.model.specs.declared.types.Model.{Model}
 use Rattle.model.specs.Areas.{modelSize}
 use Rattle.model.specs.Integral.{integration}
-use Rattle.model.specs.OutcomeFits.{integration-storable}
+use Rattle.model.specs.ResultLaws.{integration-storable}
 use Rattle.ferruntzo.specs.Answers.{outcomeIn}
-use Rattle.ferruntzo.proofs.Answering.{two-fit}
+use Rattle.ferruntzo.proofs.Answering.{two-fit, outcome-storable}
 use Rattle.ferruntzo.proofs.operations.ferruntzo_integrate.Statement.{statement}
 use Rattle.ferruntzo.proofs.operations.ferruntzo_integrate.Tie as tie
 
@@ -19,7 +20,7 @@ model-in-requires c κs = let g = c .before .args in two-fit modelSize modelSize
 answer-operation-requires : tie.Need-answer-operation-requires
 answer-operation-requires c κs =
     let i = c .before .integrate in
-    rw (ap (λ (a : Outcome). a .model) (i .ensures)) (integration-storable _)
+    outcome-storable (i .result) (i .ensures) (integration-storable _)
 
 returns : tie.Need-returns
 returns c =
@@ -27,7 +28,7 @@ returns c =
     let d = i .before .before in
     rw (d .if1 .taken)
     (c .before .answer-operation .ensures
-    ∙ ap (λ (x : Outcome). outcomeIn x (now (d .before .args .out))) (i .integrate .ensures ∙ ap integration (i .before .model-in .ensures)))
+    ∙ ap (λ (x : Outcome Model). outcomeIn x (now (d .before .args .out))) (i .integrate .ensures ∙ ap integration (i .before .model-in .ensures)))
 
 returns-2 : tie.Need-returns-2
 returns-2 c = rw (c .before .before .before .if1 .left) (c .before .refuse-operation .ensures)

@@ -4,18 +4,18 @@ use mathlib.Core.Path.{ap, ap₂, _∙_}
 use Prim.Native.Nat.{_≤_}
 use lib.ListN.{length}
 use denote.Ref.{now}
-use Rattle.model.specs.Models.{Outcome}
+use Rattle.model.specs.Outcomes.{Outcome, values}
 use Rattle.model.specs.Areas.{modelSize, areaModel, Storable}
-use Rattle.model.specs.OutcomeFits.{addition-storable, subtraction-storable, multiplication-storable}
+use Rattle.model.specs.ResultLaws.{addition-storable, subtraction-storable, multiplication-storable}
 use Rattle.model.specs.declared.types.Model.{Model}
 use Rattle.ferruntzo.specs.Answers.{operationOf, outcomeIn}
 use Rattle.ferruntzo.specs.declared.operations.Operation.{Operation}
 use Rattle.ferruntzo.specs.declared.operations.Operation.the-variants.{Add, Subtract, Multiply}
-use Rattle.ferruntzo.proofs.Answering.{three-fit}
+use Rattle.ferruntzo.proofs.Answering.{three-fit, outcome-storable}
 use Rattle.ferruntzo.proofs.operations.perform.Statement.{statement}
 use Rattle.ferruntzo.proofs.operations.perform.Tie as tie
 
-operation-storable : (o : Operation) (a b : Model) → Storable (operationOf o a b .model)
+operation-storable : (o : Operation) (a b : Model) → Storable (values (operationOf o a b))
 operation-storable Add a b = addition-storable a b
 operation-storable Subtract a b = subtraction-storable a b
 operation-storable (Multiply kept) a b = multiplication-storable kept a b
@@ -33,7 +33,7 @@ model-in-requires-2 c κs = long (c .before) .1
 answer-operation-requires : tie.Need-answer-operation-requires
 answer-operation-requires c κs =
     let o = c .before .operate in
-    rw (ap (λ (a : Outcome). a .model) (o .ensures)) (operation-storable (c .before .before .before .before .before .args .operation) _ _)
+    outcome-storable (o .result) (o .ensures) (operation-storable (c .before .before .before .before .before .args .operation) _ _)
 
 returns : tie.Need-returns
 returns c =
@@ -42,7 +42,7 @@ returns c =
     let g = d .before .args in
     rw (d .if1 .taken)
     (c .before .answer-operation .ensures
-    ∙ ap (λ (x : Outcome). outcomeIn x (now (g .out)))
+    ∙ ap (λ (x : Outcome Model). outcomeIn x (now (g .out)))
     (o .operate .ensures ∙ ap₂ (operationOf (g .operation)) (o .before .before .model-in .ensures) (o .before .model-in2 .ensures)))
 
 returns-2 : tie.Need-returns-2

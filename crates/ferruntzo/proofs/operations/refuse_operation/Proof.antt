@@ -2,7 +2,8 @@
 use borrow.Author.Needs.{needs}
 use mathlib.Core.Path.{ap, _∙_}
 use denote.Ref.{now}
-use Rattle.model.specs.OutcomeFits.{zero-storable}
+use Rattle.model.specs.ResultLaws.{zero-storable}
+use Rattle.model.specs.Outcomes.{refused}
 use Rattle.model.specs.declared.types.Model.{Model}
 use Rattle.ferruntzo.specs.Answers.{outcomeIn}
 use Rattle.ferruntzo.proofs.operations.refuse_operation.Statement.{statement}
@@ -15,7 +16,7 @@ returns : tie.Need-returns
 returns c =
     let d = c .before .before .before in
     c .before .answer-operation .ensures
-    ∙ ap (λ (m : Model). outcomeIn (record { number = 1; model = m }) (now (d .before .args .out))) (d .zero .ensures)
+    ∙ ap (λ (m : Model). outcomeIn (refused 1 m) (now (d .before .args .out))) (d .zero .ensures)
 
 pub refuse-operation-spec : {M : Type 1} → statement M
 refuse-operation-spec = tie.close (tie.spec (λ c κs. search needs) answer-operation-requires (λ c. search needs) returns)
