@@ -10,7 +10,8 @@ use Rattle.job.specs.Work.{checkOf, Answer, answerOf, answered}
 use Rattle.job.specs.declared.types.Report.{Report}
 use Rattle.job.specs.declared.types.Report.the-variants.{Accepted}
 
-pub count-small : (job : List ℕ) (w s : List ℤ) (r : Report) (n : ℕ) → answerOf r ≡ answered (checkOf job w s) → r ≡ Accepted n → n ≤ maxResults
+pub count-small : (job : List ℕ) (w s : List ℤ) (r : Report) (n : ℕ)
+    → answerOf r ≡ answered (checkOf job w s) → r ≡ Accepted n → n ≤ maxResults
 count-small job w s r n a e =
     let same : n ≡ answered (checkOf job w s) .count = ap (λ (x : Answer). x .count) (ap answerOf (sym e) ∙ a) in
     omega (arith, same, answer-small job w s .results)

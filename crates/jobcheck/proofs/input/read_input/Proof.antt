@@ -39,7 +39,9 @@ module _ (c : tie.After-read-of Inv-loop μ-loop) where
   after = putMid done (length buffer - done) buffer (c .before .before .before .read .last .1 .0)
 
   kept : length after ≡ length buffer
-  kept = same-len-mid done (length buffer - done) buffer (c .before .before .before .read .last .1 .0) (c .before .before .before .read .kept .1 .0)
+  kept =
+      let g = c .before .before .before .read in
+      same-len-mid done (length buffer - done) buffer (g .last .1 .0) (g .kept .1 .0)
 
   room : (n : ℕ) → c .read-of .result ≡ Bytes n → (0 < n) × (n ≤ length buffer - done)
   room n e =
@@ -49,25 +51,22 @@ module _ (c : tie.After-read-of Inv-loop μ-loop) where
       let b = brought (g .result) n (length (midOf done (length buffer - done) buffer)) (sym a ∙ e) (g .ensures) in
       (b .0, omega (arith, b .1, mid-len done (length buffer) buffer (omega arith)))
 
+-- a turn in which bytes came
+module _ (c : tie.After-known-told Inv-loop μ-loop) where
+  abbrev k : tie.After-read-of Inv-loop μ-loop
+  k = c .before .before .before
+
+  came : (0 < c .before .read2 .given .0 .0) × (c .before .read2 .given .0 .0 ≤ length (buffer k) - done k)
+  came = room k (c .before .read2 .given .0 .0) (c .before .read2 .given .1)
+
 add-done : tie.Need-add-done Inv-loop μ-loop
-add-done c =
-    let k = c .before .before .before in
-    let r = room k _ (c .before .read2 .given .1) in
-    record { fits = omega (arith, r) }
+add-done c = record { fits = omega (arith, came c) }
 
 loop-less : tie.Need-loop-less Inv-loop μ-loop
-loop-less c =
-    let k = c .before .before .before in
-    let r = room k _ (c .before .read2 .given .1) in
-    let e = kept k in
-    omega (arith, r, e)
+loop-less c = omega (arith, came c, kept (k c))
 
 loop-again : tie.Need-loop-again Inv-loop μ-loop
-loop-again c =
-    let k = c .before .before .before in
-    let r = room k _ (c .before .read2 .given .1) in
-    let e = kept k in
-    (omega arith, omega (arith, r, e))
+loop-again c = (omega (arith, kept (k c)), omega (arith, came c, kept (k c)))
 
 same-length : tie.Need-same-length Inv-loop μ-loop
 same-length c = omega (arith, kept (c .before .before))
