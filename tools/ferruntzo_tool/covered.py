@@ -1,7 +1,7 @@
 """What a verdict covers: the loaded curves with their radii, and nothing beyond them."""
 
 from .reading import split
-from .tables import in_micrometres
+from .tables import MAX_DEGREE, in_micrometres
 
 LEAST_DEGREE = 4                # a curve of a lower degree is hardly ever cut
 ROUNDING = 17                   # half a unit for each of 33 coefficients
@@ -17,22 +17,26 @@ def loads(job):
     return found
 
 
-def last_size(m):
-    """The largest of the last three coefficients up to the degree."""
-    return max(map(abs, m.coefficients[max(m.degree - 2, 0):m.degree + 1]))
+def beyond(m):
+    """About how large the first coefficients beyond the degree would be if the series went on as its
+    last two pairs do. Pairs, since every other coefficient may be zero."""
+    if not LEAST_DEGREE <= m.degree <= MAX_DEGREE:
+        return 0
+    last, former = (max(map(abs, m.coefficients[k - 1:k + 1])) for k in (m.degree, m.degree - 2))
+    return last if last >= former else last * last // former
 
 
 def cut(m):
-    """Whether a load looks like a series cut off early: its last coefficients are larger than
-    its radius and the rounding together."""
-    return LEAST_DEGREE <= m.degree <= 32 and last_size(m) > m.radius + ROUNDING
+    """Whether a load looks like a series that was cut off early: what seems to lie beyond its degree
+    is much larger than its radius and the rounding together (a guess from four coefficients)."""
+    return beyond(m) > 8 * m.radius + ROUNDING
 
 
 def cautions(job):
     """A line for each load that looks cut without a radius for it."""
-    return [f'result {i} is loaded with radius {m.radius:,} ({in_micrometres(m.radius)}), but its last '
-            f'coefficients are still {last_size(m):,} units ({in_micrometres(last_size(m))}): if the '
-            'curve was cut there, what was cut is NOT covered'
+    return [f'result {i} is loaded with radius {m.radius:,} ({in_micrometres(m.radius)}), but its '
+            f'coefficients fall so slowly that {beyond(m):,} units ({in_micrometres(beyond(m))}) and more '
+            'may lie beyond its degree; if the curve was cut there, that is NOT covered'
             for i, m in loads(job) if cut(m)]
 
 

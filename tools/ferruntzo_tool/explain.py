@@ -13,8 +13,8 @@ def share(n, d):
     return f'{100 * n / d:.3g} %'
 
 
-def mm(units):
-    return f'{units / S:.6g} mm'
+def plain(units):
+    return f'{units / S:.6g}'
 
 
 def head(outcome):
@@ -40,7 +40,7 @@ def head(outcome):
 def block_line(name, m):
     what = 'loaded curve' if name == 'model' else name
     return (f'{what}: degree {m.degree}, weight {ar.weight(m.coefficients):,} of at most {LIMIT:,} '
-            f'({mm(ar.weight(m.coefficients))})')
+            f'(values up to {plain(ar.weight(m.coefficients))})')
 
 
 def test_lines(outcome):
@@ -54,7 +54,7 @@ def test_lines(outcome):
     yield (f'm = {n["m"]:,}, must be below S = {S:,}: {passes(n["m"] < S)} ({inverse} is at most '
            f'{share(n["m"], S)})')
     yield (f'N = {n["N"]:,}, must be at most {LIMIT:,}: {passes(n["N"] <= LIMIT)} '
-           f'({"|h² - f|" if root else "|g·h - f|"} is at most {mm(n["N"])})')
+           f'({"|h² - f|" if root else "|g·h - f|"} is at most {plain(n["N"])})')
     if 'b' in n:
         yield f'b = {n["b"]:,} (M, the weight of w, is {n["M"]:,})'
     if 'right' in n:

@@ -9,6 +9,7 @@ from .reading import Checked, split, write_step
 from .tables import COEFFICIENTS, MAX_DEGREE, S
 
 NODES = [cos(pi * (i + 0.5) / 24) for i in range(24)]
+TINY = 2000                     # units; a curve below it is 2 µm in all
 FITS = 0.05                     # a ratio that varies less than this over the stretch is a factor
 
 
@@ -49,6 +50,11 @@ def power(m):
     return clipped([round(v) for v in row])
 
 
+def sizable(row):
+    """Coefficients that still mean something after a division, or none at all."""
+    return row if ar.weight(row) > TINY else None
+
+
 def last_place(m):
     return max((k for k, c in enumerate(m.coefficients) if c), default=0)
 
@@ -65,7 +71,7 @@ CHANGES = [
     ('has c_0 halved; here c_0 counts whole', lambda m: clipped([2 * m.coefficients[0], *m.coefficients[1:]])),
     ('is in millimetres; it must be in units of 2^-20 mm',
      lambda m: clipped([c * S for c in m.coefficients])),
-    ('was multiplied by 2^20 twice', lambda m: [round(c / S) for c in m.coefficients]),
+    ('was multiplied by 2^20 twice', lambda m: sizable([round(c / S) for c in m.coefficients])),
     ('holds 32-bit floating-point numbers; it must hold whole numbers of units', floats),
     ('holds coefficients of powers of x; they must be those of T_k', power),
     ('runs the other way (x for -x)', lambda m: [c * (-1) ** k for k, c in enumerate(m.coefficients)]),
@@ -139,10 +145,11 @@ def edits(at):
 
 
 def score(checked, at):
-    """How well a job goes at and behind a command: accepted, commands passed, the radius there."""
+    """How well a job goes at and behind a command: passed there, accepted, commands passed, the
+    largest radius at the end, the radius there."""
     radius = next((o.model.radius for o in checked.outcomes if o.step.number == at and o.model), None)
-    passed = radius is not None
-    return passed, checked.accepted, checked.command, -(radius or 0)
+    last = max((checked.results[i].radius for i in checked.last_results()), default=0)
+    return radius is not None, checked.accepted, checked.command, -last, -(radius or 0)
 
 
 def tried(job, checked, at, enough):
@@ -154,16 +161,23 @@ def tried(job, checked, at, enough):
         if other is None:
             continue
         result = score(Checked(other), at)
-        if result[0] and enough(-result[3]):
+        if result[0] and enough(-result[4]):
             found.append((result, text))
     found.sort(key=lambda pair: pair[0], reverse=True)
     best = found[0][0] if found else None
     return [text for result, text in found if result[:3] == best[:3]
-            and -result[3] <= 2 * -best[3] + 16][:3]
+            and all(-mine <= 2 * -theirs + 16 for mine, theirs in zip(result[3:], best[3:]))][:3]
 
 
 def sampled(m):
     return [ar.value(m.coefficients[:max(last_place(m), 1) + 1], x) / S for x in NODES]
+
+
+def lowest(m, signed):
+    """The least value of a curve (of its size, unless signed) at 401 points, and where."""
+    row = m.coefficients[:last_place(m) + 1]
+    found = ((ar.value(row, i / 200) / S, i / 200) for i in range(-200, 201))
+    return min(found if signed else ((abs(v), x) for v, x in found))
 
 
 def factor(tops, bottoms):
@@ -196,19 +210,22 @@ def fit_lines(step, results):
         told = ' (the factor 2 was forgotten: w must be 1/(2h), not 1/h)' if root and abs(d - 2) < 0.1 else ''
         yield f'w is about {figures(d)} times {inverse} all along the stretch{told}'
     for name, m, wanted in (('h', step.values['h'], f), ('w', step.values['w'], None)):
-        if ar.weight(m.coefficients) < 2000 and (wanted is None or max(map(abs, wanted)) > 0.05):
+        if ar.weight(m.coefficients) < TINY and (wanted is None or max(map(abs, wanted)) > 0.05):
             yield (f'the weight of {name} is only {ar.weight(m.coefficients)} units: it may be in '
                    'millimetres, and must be in units of 2^-20 mm')
-    low = min(f if root else map(abs, under))
+    low, place = lowest(results[step.values['f' if root else 'g']], root)
     if low < (0.02 if root else 1 / 128):
-        yield (f'{"f" if root else "the divisor g"} comes down to about {figures(low)} mm² on the stretch'
-               if root else f'the divisor g comes down to about {figures(low)} on the stretch') + (
-               '; it must stay well above zero: take a shorter stretch or a larger scale')
+        what = 'f, the number under the root,' if root else 'the divisor g'
+        yield (f'{what} comes down to about {figures(low)} near x = {figures(place)}; it must stay well away from '
+               'zero: take a shorter stretch or a larger scale')
 
 
 def causes(job, checked):
     """Lines about a refused command, or about tests of an accepted job that fit badly."""
-    lines = []
+    lines = [f'result {outcome.result} is loaded with a weight of only {ar.weight(outcome.model.coefficients):,} '
+             'units: it may be in millimetres, and must be in units of 2^-20 mm'
+             for outcome in checked.outcomes if outcome.step.command.name == 'load' and outcome.model
+             and outcome.model.degree and ar.weight(outcome.model.coefficients) < TINY]
     if checked.refusal in (2, 3, 5, 6, 7, 8) and checked.outcomes:
         step = checked.outcomes[-1].step
         lines += tried(job, checked, step.number, lambda radius: True)

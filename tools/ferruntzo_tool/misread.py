@@ -1,7 +1,5 @@
 """Likely causes when a job does not read: other ways of writing it are tried on the bytes."""
 
-import struct
-
 from .reading import Checked, split, write_step
 from .tables import BY_BYTE, WIDTH
 
@@ -74,7 +72,7 @@ def after_end(job, checked):
     if behind.strip(b'\r\n') == b'':
         yield 'a newline was written behind the end'
     elif behind.strip(b'\0') == b'':
-        yield f'{len(behind)} zero bytes follow: two ends, or a job padded to a fixed length'
+        yield 'only zero bytes follow: two ends, or a job padded to a fixed length'
     elif len(split(behind)[0]) > 1 and behind[0] == 1:
         yield 'another job follows: two jobs were joined into one file'
 
@@ -90,12 +88,6 @@ def counted_from_one(job):
         for step in steps) + job[offset:]
 
 
-def big_endian_radius(job, step):
-    at = step.offsets['radius']
-    number = struct.unpack('>I', job[at:at + 4])[0]
-    return number if number <= 1 << 28 else None
-
-
 def causes(job, checked):
     """Lines that name a likely mistake of writing, for a refused job."""
     found = list(whole_file(job))
@@ -105,8 +97,9 @@ def causes(job, checked):
         found.append('the end is missing: a job ends with the byte 00')
     if checked.refusal in (2, 9, 10, 11, 12, 13) or checked.command < 3:
         found += other_layouts(job)
-    if checked.refusal == 12:
+    if checked.refusal in (3, 5, 6, 8, 12):
         lowered = counted_from_one(job)
-        if lowered is not None and Checked(lowered).command > checked.command:
+        other = Checked(lowered) if lowered is not None else checked
+        if other.accepted or (checked.refusal == 12 and other.command > checked.command):
             found.append('results seem to be counted from 1; they are counted from 0')
     return found

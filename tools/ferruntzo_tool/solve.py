@@ -123,8 +123,12 @@ class Job:
     def load(self, m):
         return self._made('load', {'model': m, 'radius': m.radius}, m)
 
-    def add(self, a, b):
-        return self._made('add', {'a': a, 'b': b}, add(self.results[a], self.results[b]))
+    def add(self, a, b, name='add'):
+        sign = 1 if name == 'add' else -1
+        return self._made(name, {'a': a, 'b': b}, add(self.results[a], self.results[b], sign))
+
+    def subtract(self, a, b):
+        return self.add(a, b, 'subtract')
 
     def multiply(self, a, b, kept=MAX_DEGREE):
         return self._made('multiply', {'a': a, 'b': b, 'kept': kept},
@@ -305,8 +309,8 @@ def main(options):
     except OSError as error:
         print(f'ferruntzo: {options.output}: cannot be written: {error.strerror}', file=sys.stderr)
         return 2
-    print(f'{number} stretches; jobcheck accepts each; largest radius {worst:,} units = {in_micrometres(worst)}, '
-          'against the margin itself.')
+    print(f'{number} stretch{"es" if number > 1 else ""}, accepted by jobcheck; largest radius {worst:,} units = '
+          f'{in_micrometres(worst)}, against the margin itself.')
     if options.limit_um is not None and worst * 1000 > options.limit_um * S:
         print(f'BEYOND the limit of {options.limit_text} µm: take more stretches or a higher degree.')
         return 1
