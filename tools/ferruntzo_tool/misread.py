@@ -21,8 +21,9 @@ LAYOUTS = [
 ]
 
 
-def walk(job, block_bytes, radius_bytes):
-    """Commands read in another layout, and whether the last byte is then the end."""
+def walk(job, block_bytes, radius_bytes, chosen):
+    """Commands read in another layout at the chosen commands and blocks, and whether the last byte is
+    then the end."""
     at = number = 0
     while at < len(job):
         command = BY_BYTE.get(job[at])
@@ -31,20 +32,29 @@ def walk(job, block_bytes, radius_bytes):
         if command.name == 'end':
             return number, at == len(job) - 1
         at += 1
-        for kind, _ in command.operands:
+        for kind, name in command.operands:
             if at >= len(job):
                 return number, False
-            at += (block_bytes(job, at) if kind == 'block' else
-                   radius_bytes if kind == 'radius' else WIDTH[kind])
+            other = chosen(number, name)
+            at += (block_bytes(job, at) if kind == 'block' and other else
+                   radius_bytes if kind == 'radius' and other else WIDTH[kind])
         number += 1
     return number, False
 
 
-def other_layouts(job):
+def other_layouts(job, at):
+    """Layouts with which the job ends well: everywhere, else at the refused command or the one before."""
     for name, block_bytes, radius_bytes in LAYOUTS:
-        number, ended = walk(job, block_bytes, radius_bytes)
+        number, ended = walk(job, block_bytes, radius_bytes, lambda number, name: True)
         if ended and number > 1:
             yield f'read so, the job ends well: {name}'
+            return
+    for place in (at, at - 1):
+        for block in ('h', 'w', 'model', 'radius'):
+            for name, block_bytes, radius_bytes in LAYOUTS:
+                if walk(job, block_bytes, radius_bytes, lambda number, name: (number, name) == (place, block))[1]:
+                    yield f'read so at block {block} of command {place} alone, the job ends well: {name}'
+                    return
 
 
 def whole_file(job):
@@ -84,8 +94,8 @@ def counted_from_one(job):
            for kind, name in step.command.operands if kind == 'result'):
         return None
     return b''.join(write_step(step.command, {
-        name: step.values[name] - (kind == 'result') for kind, name in step.command.operands})
-        for step in steps) + job[offset:]
+        name: step.values[name] - 1 if kind == 'result' else step.values[name]
+        for kind, name in step.command.operands}) for step in steps) + job[offset:]
 
 
 def causes(job, checked):
@@ -96,7 +106,7 @@ def causes(job, checked):
     if checked.refusal == 10 and checked.offset == len(job) and Checked(job + b'\0').accepted:
         found.append('the end is missing: a job ends with the byte 00')
     if checked.refusal in (2, 9, 10, 11, 12, 13) or checked.command < 3:
-        found += other_layouts(job)
+        found += other_layouts(job, checked.command)
     if checked.refusal in (3, 5, 6, 8, 12):
         lowered = counted_from_one(job)
         other = Checked(lowered) if lowered is not None else checked
