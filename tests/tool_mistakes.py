@@ -142,7 +142,7 @@ MISTAKES = [
     ('sign of h and w', everywhere(lambda r, n: [-c for c in r], [H, W]), 'positive root'),
     ('short blocks', shorter(lambda kind, raw: raw[:1 + 4 * (raw[0] + 1)] if kind == 'block' else raw),
      'only its degree + 1 coefficients'),
-    ('one short block', GOOD[:H] + GOOD[H:H + 1 + 4 * (GOOD[H] + 1)] + GOOD[W:], 'block h of command 9 alone'),
+    ('one short block', GOOD[:H] + GOOD[H:H + 1 + 4 * (GOOD[H] + 1)] + GOOD[W:], 'h of command 9 alone'),
     ('radius of a load left out', shorter(lambda kind, raw: b'' if kind == 'radius' else raw),
      'the radius of each load is missing'),
     ('radius of one load left out', GOOD[:136] + GOOD[140:], 'radius of command 1 alone'),

@@ -50,10 +50,10 @@ def other_layouts(job, at):
             yield f'read so, the job ends well: {name}'
             return
     for place in (at, at - 1):
-        for block in ('h', 'w', 'model', 'radius'):
+        for block in ('radius', 'h', 'w', 'model'):
             for name, block_bytes, radius_bytes in LAYOUTS:
                 if walk(job, block_bytes, radius_bytes, lambda number, name: (number, name) == (place, block))[1]:
-                    yield f'read so at block {block} of command {place} alone, the job ends well: {name}'
+                    yield f'read so at {block} of command {place} alone, the job ends well: {name}'
                     return
 
 
