@@ -29,6 +29,7 @@ tr.end td { font-weight: 600; }
 .scroll { overflow-x: auto; }
 figure { margin: 1.2rem 0; break-inside: avoid; } figcaption { margin-bottom: .3rem; }
 .pair { display: grid; grid-template-columns: repeat(auto-fit, minmax(20rem, 1fr)); gap: .5rem 1rem; align-items: start; }
+.path svg { max-width: 36rem; }
 svg { width: 100%; height: auto; display: block; }
 svg text { fill: var(--soft); font: 11px system-ui, sans-serif; }
 .left { text-anchor: end; } .below { text-anchor: middle; } svg .word { fill: var(--text); paint-order: stroke; stroke: var(--back); stroke-width: 4px; }
@@ -110,7 +111,7 @@ def page(name, job, checked, options):
         ends = checked.last_results()
         body += ['<h2>Results</h2>', *table(checked, ends)]
         if len(ends) == 2:
-            body += ['<h2>The path</h2>', '<figure><figcaption>'
+            body += ['<h2>The path</h2>', '<figure class="path"><figcaption>'
                      f'Results {ends[0]} and {ends[1]} against each other, in mm; its band is far thinner than the '
                      'line unless the radius is large.</figcaption>'
                      + svg.path(*(checked.results[i] for i in ends),
