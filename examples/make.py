@@ -14,7 +14,7 @@ sys.path[:0] = [str(HERE.parent / 'tests'), str(HERE.parent / 'tools')]
 
 import jobs                                                             # noqa: E402
 import oracle as o                                                      # noqa: E402
-from candidates import from_samples, root_candidates, samples           # noqa: E402
+from candidates import from_samples, quotient_candidates, root_candidates, samples  # noqa: E402
 from examples_of_01 import example_job                                  # noqa: E402
 from ferruntzo_tool import exact                                        # noqa: E402
 from ferruntzo_tool import solve as solver                              # noqa: E402
@@ -101,6 +101,19 @@ def most_work():
     return builder.job()
 
 
+def most_quotients():
+    """A load and 31 quotients by it, every block of degree 32 and without a zero: the longest job that
+    can be accepted, and the most work by instructions."""
+    f = model([4 * S] + [round(0.8 * S * (-0.7) ** k) for k in range(1, 33)])
+    builder = Builder()
+    must(builder.load(f))
+    h, w = (model([c or 1 for c in found.coefficients]) for found in quotient_candidates(f, f, 32))
+    assert h.degree == w.degree == 32
+    for _ in range(31):
+        must(builder.quotient(0, 0, found=(h, w)))
+    return builder.job()
+
+
 def refused():
     """The first slip of document 01: the negative pair for the root of 4S."""
     return (jobs.EDITION_1 + jobs.load(constant(4 * S))
@@ -120,7 +133,7 @@ def between_instants():
 
 EXAMPLES = {'root_of_4': example_job, 'stretch': stretch, 'stretch32': stretch32, 'accident': accident,
             'accident_honest': accident_honest, 'accident_degree_12': accident_degree_12,
-            'most_work': most_work, 'refused': refused, 'between_instants': between_instants}
+            'most_work': most_work, 'most_quotients': most_quotients, 'refused': refused, 'between_instants': between_instants}
 
 
 def main():
