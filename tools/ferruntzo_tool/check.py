@@ -22,6 +22,12 @@ def ends(job):
     return [i for i in range(made) if i not in named]
 
 
+def place(job, number):
+    """The byte at which a command begins."""
+    steps, offset = split(job)
+    return steps[number].offset if number < len(steps) else offset
+
+
 def plural(numbers):
     return f'result{"s" if len(numbers) != 1 else ""} {covered.numbers_text(numbers)}'
 
@@ -31,8 +37,8 @@ def verdict(name, job, answer, options):
     if not answer.accepted:
         refusal = REFUSAL.get(answer.refusal)
         meaning = refusal.meaning if refusal else 'not known to this tool'
-        return BEYOND, (f'{name}: REFUSED with {answer.refusal} at command {answer.command}: '
-                        f'{meaning}. Do not mill. `ferruntzo explain` says more.')
+        return BEYOND, (f'{name}: REFUSED with {answer.refusal} at command {answer.command} (byte '
+                        f'{place(job, answer.command)}): {meaning}. Do not mill. `ferruntzo explain` says more.')
     if options.results is not None:
         results = options.results
         missing = [i for i in results if i >= len(answer.radii)]

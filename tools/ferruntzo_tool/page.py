@@ -18,7 +18,7 @@ STYLE = '''
   --limit: #b00020; --good: #1b6e2c; --bad: #b00020; --mark: #fff; --warn: #8a5a00; } body { max-width: none; font-size: 10pt; } }
 body { background: var(--back); color: var(--text); font: 16px/1.5 system-ui, sans-serif; max-width: 62rem;
   margin: 0 auto; padding: 1.5rem; }
-h1 { font-size: 1.4rem; overflow-wrap: anywhere; } h2 { font-size: 1.1rem; margin-top: 2rem; }
+h1 { font-size: 1.4rem; overflow-wrap: anywhere; } h2 { font-size: 1.1rem; margin-top: 2rem; break-after: avoid; }
 .verdict { font-size: 1.25rem; font-weight: 600; border-left: .4rem solid; padding: .4rem .9rem; margin: 1rem 0; }
 .good { color: var(--good); } .bad { color: var(--bad); } .warn { color: var(--warn); }
 .caution { background: var(--mark); border: 1px solid var(--band); padding: .5rem .9rem; }
@@ -90,6 +90,8 @@ def table(checked, ends):
                f'<td>{escape(words)}</td><td>{m.degree}</td><td>{m.radius:,}</td>'
                f'<td>{escape(in_micrometres(m.radius)[:-3])}</td><td>{escape(", ".join(remarks))}</td></tr>')
     yield '</tbody></table></div>'
+    yield paragraph('A step that is not a length (a square, a quotient, a scaled normal) has its radius in thousandths of '
+                    'its own unit.')
 
 
 def figures(checked, ends, options):
@@ -97,7 +99,7 @@ def figures(checked, ends, options):
         m = checked.results[i]
         told = f'Result {i}: radius {in_micrometres(m.radius)}'
         yield (f'<figure id="result-{i}"><figcaption><strong>{escape(told)}</strong></figcaption><div class="pair">'
-               + svg.curve(m, f'Result {i} along the stretch, with its band')
+               + svg.curve(m, f'Result {i} along the stretch, with its band', 'mm' if i in ends else 'value')
                + svg.strip(m.radius, options.limit_um if i in ends else None,
                            f'The band of result {i} alone, in micrometres') + '</div></figure>')
 

@@ -159,27 +159,32 @@ def bur_load(bur):
     return model([near], up(missed.numerator, missed.denominator))
 
 
-def add_stretch(job, bur, stretch, side, degree=None, scale=None):
-    """The commands of one stretch, `bur` being the result with the bur's radius. Gives the results of
-    the centre's x and y, the loads and the scale."""
+def add_loads(job, bur, loads, kept=MAX_DEGREE):
+    """The commands of one stretch from its four loads, x, y and the normal's two; `bur` is the result with the
+    bur's radius, `kept` the kept degree of the squares. Gives the results of the centre's x and y."""
+    x, y, normal_x, normal_y = map(job.load, loads)
+    squares = job.add(job.multiply(normal_x, normal_x, kept), job.multiply(normal_y, normal_y, kept))
+    length = job.root(squares)
+    ratio_x, ratio_y = job.quotient(normal_x, length), job.quotient(normal_y, length)
+    offset_x, offset_y = job.multiply(bur, ratio_x), job.multiply(bur, ratio_y)
+    return job.add(x, offset_x), job.add(y, offset_y)
+
+
+def add_stretch(job, bur, stretch, side, degree=None, scale=None, kept=MAX_DEGREE):
+    """One stretch with honest loads. Gives the results of the centre's x and y, the loads and the scale."""
     degree = MAX_DEGREE if degree is None else degree
     scale = largest_scale(stretch, degree) if scale is None else scale
     sign = 1 if side == 'left' else -1
     loads = [honest(stretch, plain(stretch, 0), degree), honest(stretch, plain(stretch, 1), degree),
              honest(stretch, derived(stretch, 1, scale, -sign), degree),
              honest(stretch, derived(stretch, 0, scale, sign), degree)]
-    x, y, normal_x, normal_y = map(job.load, loads)
-    squares = job.add(job.multiply(normal_x, normal_x), job.multiply(normal_y, normal_y))
-    length = job.root(squares)
-    ratio_x, ratio_y = job.quotient(normal_x, length), job.quotient(normal_y, length)
-    offset_x, offset_y = job.multiply(bur, ratio_x), job.multiply(bur, ratio_y)
-    return (job.add(x, offset_x), job.add(y, offset_y)), loads, scale
+    return add_loads(job, bur, loads, kept), loads, scale
 
 
-def solve_stretch(stretch, bur, side, degree=None, scale=None):
+def solve_stretch(stretch, bur, side, degree=None, scale=None, kept=MAX_DEGREE):
     job = Job()
     at = job.load(bur_load(bur))
-    _, loads, scale = add_stretch(job, at, stretch, side, degree, scale)
+    _, loads, scale = add_stretch(job, at, stretch, side, degree, scale, kept)
     return Solved(stretch, job, job.results, loads, scale, bur, 1 if side == 'left' else -1)
 
 

@@ -1,14 +1,14 @@
 """Curves with their bands as SVG without scripts; colours come from the page's style."""
 
 from html import escape
-from math import ceil, cos, floor, log10, pi
+from math import ceil, cos, floor, hypot, log10, pi
 
 from .arithmetic import value
 from .tables import S
 
 POINTS = 121
 WIDTH, HEIGHT = 560, 210
-LEFT, RIGHT, TOP, BOTTOM = 78, 12, 12, 30
+LEFT, RIGHT, TOP, BOTTOM = 90, 12, 12, 30
 
 
 def ticks(low, high, wanted=6):
@@ -70,14 +70,14 @@ def samples(m):
     return [(x, value(row, x) / S) for x in places()]
 
 
-def curve(m, title):
+def curve(m, title, unit):
     """The curve of a result with the band of its radius; the band may be thinner than the line."""
     pairs, e = samples(m), m.radius / S
     values = [v for _, v in pairs]
     frame = Frame((-1, 1), (min(values) - e, max(values) + e))
     band = [(x, v + e) for x, v in pairs] + [(x, v - e) for x, v in reversed(pairs)]
     return frame.drawing(title, [
-        *frame.axes('place x on the stretch', 'mm'),
+        *frame.axes('place x on the stretch', unit),
         f'<polygon class="band" points="{frame.points(band)}"/>',
         f'<polyline class="curve" points="{frame.points(pairs)}"/>'])
 
@@ -106,13 +106,15 @@ def path(first, second, title):
     height = 360
     middle_u, middle_v = (min(us) + max(us)) / 2, (min(vs) + max(vs)) / 2
     per_mm = min((WIDTH - LEFT - RIGHT) / (max(us) - min(us) or 1e-3),
-                 (height - TOP - BOTTOM) / (max(vs) - min(vs) or 1e-3)) * 0.88
+                 (height - TOP - BOTTOM) / (max(vs) - min(vs) or 1e-3)) * 0.8
     half_u, half_v = (WIDTH - LEFT - RIGHT) / per_mm / 2, (height - TOP - BOTTOM) / per_mm / 2
     frame = Frame((middle_u - half_u, middle_u + half_u), (middle_v - half_v, middle_v + half_v), height)
     frame.y_low, frame.y_high = middle_v - half_v, middle_v + half_v
-    (u0, v0), (u1, v1) = pairs[0], pairs[-1]
-    return frame.drawing(title, [
-        *frame.axes('mm', 'mm'), f'<polyline class="curve" points="{frame.points(pairs)}"/>',
-        f'<circle class="dot" cx="{frame.x(u0):.1f}" cy="{frame.y(v0):.1f}" r="4"/>',
-        f'<text class="word" x="{frame.x(u0) + 7:.1f}" y="{frame.y(v0) - 7:.1f}">x = -1</text>',
-        f'<text class="word" x="{frame.x(u1) + 7:.1f}" y="{frame.y(v1) - 7:.1f}">x = 1</text>'])
+    parts = [*frame.axes('mm', 'mm'), f'<polyline class="curve" points="{frame.points(pairs)}"/>']
+    for name, end, inner in (('x = -1', pairs[0], pairs[3]), ('x = 1', pairs[-1], pairs[-4])):
+        x, y = frame.x(end[0]), frame.y(end[1])
+        dx, dy = x - frame.x(inner[0]), y - frame.y(inner[1])
+        far = 22 / (hypot(dx, dy) or 1)         # the name stands beyond the end, away from the curve
+        parts.append(f'<circle class="dot" cx="{x:.1f}" cy="{y:.1f}" r="3"/>'
+                     f'<text class="word below" x="{x + far * dx:.1f}" y="{y + far * dy + 4:.1f}">{name}</text>')
+    return frame.drawing(title, parts)
