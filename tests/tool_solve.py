@@ -173,7 +173,8 @@ def commands(run, folder):
            ('{"series_mm": [{"x": [900], "y": [1]}]}', '256 mm'), ('{"series_mm": [{"x": [1], "y": [1]}]}', 'does not move'),
            ('{"side": "up", "series_mm": [{"x": [1, 1], "y": [1]}]}', '"side"'), ('{"points_mm": 3}', 'list of [x, y]'),
            ('{"series_mm": [{"x": [0, 0, 1], "y": [0, 0, 1]}]}', 'turn back'), ('{"series_mm": [{"x": [NaN], "y": [1]}]}', 'no number'),
-           ('[1]', 'line 1')]
+           ('[1]', 'line 1'), ('{"series_mm": [{"x": [1e999999999], "y": [1]}]}', 'no number'),
+           ('{"series_mm": [{"x": [' + '9' * 6000 + '], "y": [1]}]}', 'no number'), ('{"points_mm": [[true, 1]]}', 'no number')]
     for content, words in bad:
         text.write_text(content)
         done = run('solve', text, '--bur-mm', '0.5')

@@ -3,9 +3,9 @@
 import argparse
 import os
 import sys
-from fractions import Fraction
 
 from . import __version__
+from .tables import decimal
 
 DEFAULT_LIMIT = '2'
 
@@ -20,9 +20,9 @@ def limit(text):
     if text == 'none':
         return None
     try:
-        found = Fraction(text)
-    except (ValueError, ZeroDivisionError):
-        found = Fraction(-1)
+        found = decimal(text)
+    except ValueError:
+        found = -1
     if found < 0:
         raise argparse.ArgumentTypeError(f'{text!r} is neither a number of micrometres nor "none"')
     return found
@@ -40,9 +40,9 @@ def results(text):
 
 def positive(text):
     try:
-        found = Fraction(text)
-    except (ValueError, ZeroDivisionError):
-        found = Fraction(0)
+        found = decimal(text)
+    except ValueError:
+        found = 0
     if found <= 0:
         raise argparse.ArgumentTypeError(f'{text!r} is no positive number')
     return found

@@ -8,8 +8,8 @@ from fractions import Fraction
 from math import hypot, lcm
 
 from .exact import Series
-from .program import NotChecked, read_job
-from .tables import LIMIT, S
+from .program import NotChecked, read_file
+from .tables import LIMIT, S, decimal
 
 SPAN = 1 << 20                  # parameters of a run that is one series
 SLOPE = 1 << 40                 # slopes of a curve through points are multiples of 1/SLOPE
@@ -24,13 +24,11 @@ class BadCurve(Exception):
 
 
 def exact(number, where):
-    """A JSON number or decimal as a fraction."""
-    if isinstance(number, bool) or not isinstance(number, (int, str, Fraction)):
-        raise BadCurve(f'{where}: {number!r} is no number')
+    """A number of the file, which is kept as its text until here, as a fraction."""
     try:
-        return Fraction(number)
-    except (ValueError, ZeroDivisionError):
-        raise BadCurve(f'{where}: {number!r} is no number') from None
+        return decimal(number)
+    except (TypeError, ValueError):
+        raise BadCurve(f'{where}: {str(number)[:40]!r} is no number') from None
 
 
 def series(numbers, factor, where):
@@ -157,7 +155,7 @@ KEYS = {'name', 'story', 'bur_mm', 'side', 'closed', 'points_mm', 'series_mm', '
 
 def read_curve(name):
     try:
-        text = read_job(name).decode('utf-8')
+        text = read_file(name).decode('utf-8')
     except UnicodeDecodeError as error:
         raise BadCurve(f'{name}: byte {error.start} is no UTF-8 text; a curve is JSON or lines of '
                        'x y') from error
@@ -166,7 +164,7 @@ def read_curve(name):
     if not text.lstrip().startswith('{'):
         return Curve(name, None, None, from_points(text_points(text, name), False, name))
     try:
-        given = json.loads(text, parse_float=Fraction, parse_constant=str)
+        given = json.loads(text, parse_float=str, parse_int=str, parse_constant=str)
     except (json.JSONDecodeError, RecursionError) as error:
         raise BadCurve(f'{name}: no JSON: {error}') from error
     unknown = sorted(set(given) - KEYS)

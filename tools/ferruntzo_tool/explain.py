@@ -6,7 +6,7 @@ from . import arithmetic as ar
 from . import covered, misfit, misread, program
 from .program import NotChecked
 from .reading import Checked, blocks_of
-from .tables import LIMIT, PROGRAM_BYTES, REFUSAL, S, in_micrometres
+from .tables import LIMIT, REFUSAL, S, in_micrometres
 
 
 def share(n, d):
@@ -124,9 +124,6 @@ def main(options):
     name = options.job
     try:
         job = program.read_job(name)
-        if len(job) > PROGRAM_BYTES:
-            raise NotChecked(f'{name}: {len(job):,} bytes; a job has at most 8,480, and the program reads '
-                             f'at most {PROGRAM_BYTES:,}')
         checked = Checked(job)
         for line in explanation(job, checked):
             print(line)

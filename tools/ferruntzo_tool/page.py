@@ -7,7 +7,7 @@ from pathlib import Path
 from . import __version__, covered, explain, program, svg
 from .program import NotChecked
 from .reading import Checked
-from .tables import PROGRAM_BYTES, REFUSAL, S, in_micrometres
+from .tables import REFUSAL, S, in_micrometres
 
 STYLE = '''
 :root { color-scheme: light dark; --back: #fff; --text: #1a1a1a; --soft: #5c5c5c; --line: #d0d0d0;
@@ -137,8 +137,6 @@ def main(options):
     name = options.job
     try:
         job = program.read_job(name)
-        if len(job) > PROGRAM_BYTES:
-            raise NotChecked(f'{name}: {len(job):,} bytes; the program reads at most {PROGRAM_BYTES:,}')
         answer = program.run(program.find(options.jobcheck), job, name)
         checked = Checked(job)
         if answer.text != checked.text():

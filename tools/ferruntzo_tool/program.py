@@ -36,12 +36,27 @@ def find(named=None):
                      'jobcheck), or name it with --jobcheck')
 
 
-def read_job(name):
-    """The bytes of a job file; - is standard input."""
+def read_file(name):
+    """The bytes of a file; - is standard input."""
     try:
         return sys.stdin.buffer.read() if name == '-' else Path(name).read_bytes()
     except OSError as error:
         raise NotChecked(f'{name}: cannot be read: {error.strerror or error}') from error
+
+
+def read_job(name):
+    """The bytes of a job, and no more of a larger file than shows that it is too long."""
+    try:
+        if name == '-':
+            job = sys.stdin.buffer.read(PROGRAM_BYTES + 1)
+        else:
+            with open(name, 'rb') as file:
+                job = file.read(PROGRAM_BYTES + 1)
+    except OSError as error:
+        raise NotChecked(f'{name}: cannot be read: {error.strerror or error}') from error
+    if len(job) > PROGRAM_BYTES:
+        raise NotChecked(f'{name}: more than the {PROGRAM_BYTES:,} bytes that the program reads; a job has at most 8,480')
+    return job
 
 
 def _lines(text):

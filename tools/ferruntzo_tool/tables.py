@@ -1,6 +1,8 @@
 """The tables of the job format: commands, refusals and limits. docs/FORMAT.md is their text."""
 
+import re
 from collections import namedtuple
+from fractions import Fraction
 
 S = 1 << 20                     # one unit is 1/S mm
 LIMIT = 1 << 28                 # of weight, radius and N, in units
@@ -74,9 +76,15 @@ REFUSALS = [
 REFUSAL = {refusal.number: refusal for refusal in REFUSALS}
 
 
-def micrometres(units):
-    """Units as a number of micrometres; one unit is 1000/S, about 0.00095."""
-    return units * 1000 / S
+# Digits are limited, so that no text can stand for a number of millions of digits.
+DECIMAL = re.compile(r'[+-]?(\d{1,40}(\.\d{0,80})?|\.\d{1,80})([eE][+-]?\d{1,2})?')
+
+
+def decimal(text):
+    """A decimal number exactly, or ValueError."""
+    if not DECIMAL.fullmatch(text):
+        raise ValueError(text)
+    return Fraction(text)
 
 
 def in_micrometres(units):

@@ -14,7 +14,7 @@ import sys
 from pathlib import Path
 
 from .arithmetic import Model
-from .program import NotChecked, read_job
+from .program import NotChecked, read_file
 from .reading import split, write_operand
 from .tables import BY_NAME, COEFFICIENTS, DEFAULT_KEPT
 
@@ -203,7 +203,7 @@ def write(name, data):
 
 def list_main(options):
     try:
-        job = read_job(options.job)
+        job = read_file(options.job)
     except NotChecked as error:
         print(f'ferruntzo: {error}', file=sys.stderr)
         return 2
@@ -212,7 +212,7 @@ def list_main(options):
 
 def assemble_main(options):
     try:
-        text = read_job(options.text)
+        text = read_file(options.text)
         job = assemble(text.decode('utf-8'), options.text)
     except UnicodeDecodeError as error:
         print(f'ferruntzo: {options.text}: byte {error.start} is no UTF-8 text; is it a job and not '
