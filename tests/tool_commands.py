@@ -60,7 +60,9 @@ def explain_agrees(jobs, checker, plant):
 
 def explained(jobs, rng):
     """A whole explanation of a draw of jobs: it never fails and names the refusal."""
-    for job in rng.sample(jobs, 250) + [path.read_bytes() for path in EXAMPLES]:
+    good = (ROOT / 'examples/stretch.job').read_bytes()
+    spoiled = [good[:at] + b'\0\0\0\x80' + good[at + 4:] for at in (4, 144, 706, 843, 980)]     # a coefficient -2^31
+    for job in rng.sample(jobs, 250) + spoiled + [path.read_bytes() for path in EXAMPLES]:
         checked = Checked(job)
         text = '\n'.join(explain.explanation(job, checked))
         expect('explanation names the refusal', checked.accepted or f'REFUSED with {checked.refusal}' in text,

@@ -19,8 +19,9 @@ ROOT = Path(__file__).resolve().parent.parent
 sys.path.insert(0, str(ROOT / 'tools'))
 
 import oracle                                                           # noqa: E402
-from ferruntzo_tool import exact                                        # noqa: E402
+from ferruntzo_tool import covered, exact                               # noqa: E402
 from ferruntzo_tool import solve as solver                              # noqa: E402
+from ferruntzo_tool.arithmetic import Refused                           # noqa: E402
 from ferruntzo_tool.curve import read_curve                             # noqa: E402
 from ferruntzo_tool.reading import Checked                              # noqa: E402
 from ferruntzo_tool.tables import S                                     # noqa: E402
@@ -74,22 +75,22 @@ def shipped(samples):
     rows = [('stretch', margin, first, (13, 14), True), ('stretch32', margin, first, (13, 14), True),
             ('stretch32', margin, second, (27, 28), True), ('accident_honest', accident, whole, (13, 14), True),
             ('accident_degree_12', accident, whole, (13, 14), True), ('accident', accident, whole, (13, 14), False)]
-    for name, curve, stretch, results, covered in rows:
+    for name, curve, stretch, results, good in rows:
         job = (ROOT / 'examples' / f'{name}.job').read_bytes()
         models = oracle.check_job(job)[2]
         solved = solver.Solved(stretch, None, Checked(job).results, [], 0, curve.bur, 1 if curve.side == 'left' else -1)
         error, radius = solver.verified(solved, samples, results), max(models[i].radius for i in results)
         print(f'{name} {results}: radius {radius}, error against the margin {error:.1f} units')
-        expect('radius of a shipped stretch', (error <= radius) == covered, name)
-        if not covered:
+        expect('radius of a shipped stretch', (error <= radius) == good, name)
+        if not good:
             expect('the accident is 49 µm off', 49 < error * 1000 / S < 50, str(error))
 
 
 # ---- Random margins ----
 
-def random_series(rng):
+def random_series(rng, degrees=(6, 14, 40)):
     """A piece of a wavy oval as a series, with decimals that are no whole units."""
-    degree, low, width = rng.choice((6, 14, 40)), rng.uniform(0, 6), rng.uniform(0.2, 1.4)
+    degree, low, width = rng.choice(degrees), rng.uniform(0, 6), rng.uniform(0.2, 1.4)
     waves = [(rng.uniform(-0.06, 0.06), rng.randrange(2, 9), rng.uniform(0, 6)) for _ in range(3)]
 
     def point(a):
@@ -143,6 +144,33 @@ def random_margins(rng, samples, folder, count):
             expect('radius of its loads', load_error(solved, samples))
             text = solved.job.text()
             expect('the oracle agrees', oracle.report_text(solved.job.ended()) == text)
+
+
+def cautions(rng, samples, folder, count):
+    """A margin that was cut and loaded as exact gets a caution where the path is more than 2 µm off; an honest job
+    gets none."""
+    path, honest, cut = folder / 'curve.json', 0, 0
+    for _ in range(count):
+        path.write_text(json.dumps(random_series(rng, (40,))))
+        curve = read_curve(str(path))
+        run = curve.runs[0]
+        whole = solver.cut_out(run, run[0].low, run[0].high)
+        solved = solver.solve_stretch(whole, curve.bur, curve.side)
+        honest += 1
+        expect('an honest job gets no caution', not covered.cautions(solved.job.ended()))
+        for degree in (6, 8, 12, 16):
+            rows = [exact.Series(exact.nearest(whole.parts[0][2 + axis], degree), 1) for axis in (0, 1)]
+            job = solver.Job()
+            bur = job.load(solver.bur_load(curve.bur))
+            try:
+                solver.add_stretch(job, bur, whole._replace(parts=[(whole.low, whole.high, *rows)]), curve.side)
+            except Refused:
+                continue
+            error = solver.verified(solved._replace(results=job.results), samples)
+            if error * 1000 > 2 * S:
+                cut += 1
+                expect('a cut job gets a caution', covered.cautions(job.ended()), f'{error * 1000 / S} µm, degree {degree}')
+    print(f'cautions: {honest} honest jobs, {cut} cut jobs')
 
 
 # ---- The command ----
@@ -201,6 +229,7 @@ def main():
     shipped(options.samples)
     with tempfile.TemporaryDirectory() as name:
         random_margins(rng, 14, Path(name), options.margins)
+        cautions(rng, 14, Path(name), options.margins // 2)
         commands(run, Path(name))
     print(f'solve: {len(wrong)} wrong')
     sys.exit(1 if wrong else 0)

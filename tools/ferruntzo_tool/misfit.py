@@ -13,18 +13,14 @@ TINY = 2000                     # units; a curve below it is 2 µm in all
 FITS = 0.05                     # a ratio that varies less than this over the stretch is a factor
 
 
-def padded(coefficients):
-    return list(coefficients)[:COEFFICIENTS] + [0] * (COEFFICIENTS - len(coefficients))
-
-
 def clipped(row):
-    """Coefficients that fit 32 bits, or none at all."""
-    row = padded(row)
+    """33 coefficients that fit 32 bits, or none at all."""
+    row = list(row)[:COEFFICIENTS] + [0] * (COEFFICIENTS - len(row))
     return row if all(-1 << 31 <= c < 1 << 31 for c in row) else None
 
 
 def swapped(m):
-    return clipped(struct.unpack(f'<{COEFFICIENTS}i', struct.pack(f'>{COEFFICIENTS}i', *m.coefficients)))
+    return struct.unpack(f'<{COEFFICIENTS}i', struct.pack(f'>{COEFFICIENTS}i', *m.coefficients))
 
 
 def floats(m):
@@ -32,7 +28,7 @@ def floats(m):
     row = struct.unpack(f'<{COEFFICIENTS}f', struct.pack(f'<{COEFFICIENTS}i', *m.coefficients))
     if any(c != c or abs(c) > 1000 or 0 < abs(c) < 1e-12 for c in row):
         return None
-    return clipped([round(c * S) for c in row])
+    return [round(c * S) for c in row]
 
 
 def power(m):
@@ -47,7 +43,7 @@ def power(m):
                 shifted[k - 1] += v / 2
         shifted[0] += c
         row = shifted
-    return clipped([round(v) for v in row])
+    return [round(v) for v in row]
 
 
 def sizable(row):
@@ -63,21 +59,21 @@ def last_place(m):
 CHANGES = [
     ('has its coefficients big-endian; they must be little-endian', swapped),
     ('has its coefficients in reverse (T_n first); T_0 comes first',
-     lambda m: padded(m.coefficients[:min(m.degree, MAX_DEGREE) + 1][::-1])),
+     lambda m: m.coefficients[:min(m.degree, MAX_DEGREE) + 1][::-1]),
     ('has its 33 coefficients in reverse (T_32 first); T_0 comes first',
      lambda m: m.coefficients[::-1]),
     ('has c_0 doubled (the convention c_0/2 + ...); here c_0 counts whole',
      lambda m: [m.coefficients[0] // 2, *m.coefficients[1:]]),
-    ('has c_0 halved; here c_0 counts whole', lambda m: clipped([2 * m.coefficients[0], *m.coefficients[1:]])),
+    ('has c_0 halved; here c_0 counts whole', lambda m: [2 * m.coefficients[0], *m.coefficients[1:]]),
     ('is in millimetres; it must be in units of 2^-20 mm',
-     lambda m: clipped([c * S for c in m.coefficients])),
+     lambda m: [c * S for c in m.coefficients]),
     ('was multiplied by 2^20 twice', lambda m: sizable([round(c / S) for c in m.coefficients])),
     ('holds 32-bit floating-point numbers; it must hold whole numbers of units', floats),
     ('holds coefficients of powers of x; they must be those of T_k', power),
     ('runs the other way (x for -x)', lambda m: [c * (-1) ** k for k, c in enumerate(m.coefficients)]),
-    ('has the wrong sign', lambda m: clipped([-c for c in m.coefficients])),
+    ('has the wrong sign', lambda m: [-c for c in m.coefficients]),
     ('is twice what it should be', lambda m: [round(c / 2) for c in m.coefficients]),
-    ('is half of what it should be', lambda m: clipped([2 * c for c in m.coefficients])),
+    ('is half of what it should be', lambda m: [2 * c for c in m.coefficients]),
     ('has too low a degree byte (the degree, not less)', lambda m: m.coefficients),
 ]
 
@@ -97,6 +93,7 @@ SCOPES = [
 
 def changed(m, change):
     row = change(m)
+    row = None if row is None else clipped(row)
     if row is None:
         return None
     found = Model(m.degree, row, 0)
