@@ -133,7 +133,8 @@ def between_instants():
 
 EXAMPLES = {'root_of_4': example_job, 'stretch': stretch, 'stretch32': stretch32, 'accident': accident,
             'accident_honest': accident_honest, 'accident_degree_12': accident_degree_12,
-            'most_work': most_work, 'most_quotients': most_quotients, 'refused': refused, 'between_instants': between_instants}
+            'most_work': most_work, 'most_quotients': most_quotients, 'refused': refused,
+            'between_instants': between_instants}
 
 
 def main():

@@ -129,7 +129,8 @@ def statuses(run, folder, checker):
         (0, 'explain', example), (1, 'explain', refused), (2, 'explain', folder / 'nosuch'),
         (2, 'explain', example, '--jobcheck', folder / 'liar'), (2, 'explain', folder / 'long.job'),
         (2, 'explain', example, '--jobcheck', folder / 'silent'),
-        (0, 'list', example), (2, 'list', folder / 'nosuch'), (2, 'assemble', example), (2, 'assemble', folder / 'nosuch'),
+        (0, 'list', example), (2, 'list', folder / 'nosuch'), (2, 'assemble', example),
+        (2, 'assemble', folder / 'nosuch'),
         (2, 'show', example, '-o', folder / 'no' / 'page'), (2, 'show', folder / 'nosuch', '-o', folder / 'p'),
         (2, 'show', example, '-o', folder / 'p', '--jobcheck', folder / 'liar'), (0, '--help'), (0, '--version'),
         *((0, name, '--help') for name in ('check', 'explain', 'list', 'assemble', 'show', 'solve')),
@@ -137,7 +138,8 @@ def statuses(run, folder, checker):
     with ThreadPoolExecutor(os.cpu_count() or 1) as pool:
         for row, done in zip(rows, pool.map(lambda row: run(*row[1:]), rows)):
             told = ' '.join(map(str, row[1:]))
-            expect('exit status', done.returncode == row[0], f'{told}: {done.returncode}, not {row[0]}; {done.stderr[-200:]}')
+            expect('exit status', done.returncode == row[0],
+                   f'{told}: {done.returncode}, not {row[0]}; {done.stderr[-200:]}')
             expect('no traceback', 'Traceback' not in done.stdout + done.stderr, told)
             if row[0] == 2:
                 expect('a message', done.stderr.strip() or 'NOT checked' in done.stdout, told)
@@ -167,6 +169,13 @@ def words(run, folder):
     done = run('check', many, '--quiet')
     expect('many jobs', done.returncode == 1 and '600 jobs: 599 accepted, 1 refused' in done.stdout
            and '0077.job: REFUSED' in done.stdout, done.stdout[-300:])
+
+
+def texts():
+    """The text of a job in docs/FORMAT.md is that of its worked example."""
+    section = (ROOT / 'docs/FORMAT.md').read_text(encoding='utf-8').split('### The text of a job')[1]
+    block = [line for line in section.split('\n## ')[0].splitlines() if line.startswith('    ')]
+    expect('the text in FORMAT', assemble('\n'.join(block)) == (ROOT / 'examples/root_of_4.job').read_bytes())
 
 
 def numbers():
@@ -215,6 +224,7 @@ def main():
             words(run, folder)
             pages(run, folder)
         numbers()
+        texts()
     print(f'tool: {len(jobs)} jobs, {len(wrong)} wrong')
     sys.exit(1 if wrong else 0)
 

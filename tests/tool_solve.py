@@ -99,8 +99,12 @@ def random_series(rng, degrees=(6, 14, 40)):
 
     count = 64
     points = [point(low + width * cos(pi * (i + 0.5) / count)) for i in range(count)]
-    rows = [[round((2 - (k == 0)) / count * sum(points[i][axis] * cos(k * pi * (i + 0.5) / count)
-                                                 for i in range(count)), 9) for k in range(degree + 1)] for axis in (0, 1)]
+
+    def coefficient(k, axis):
+        total = sum(points[i][axis] * cos(k * pi * (i + 0.5) / count) for i in range(count))
+        return round((2 - (k == 0)) / count * total, 9)
+
+    rows = [[coefficient(k, axis) for k in range(degree + 1)] for axis in (0, 1)]
     return {'bur_mm': round(rng.uniform(0.15, 1.25), 3), 'side': rng.choice(('left', 'right')),
             'series_mm': [{'x': rows[0], 'y': rows[1]}]}
 
@@ -169,7 +173,8 @@ def cautions(rng, samples, folder, count):
             error = solver.verified(solved._replace(results=job.results), samples)
             if error * 1000 > 2 * S:
                 cut += 1
-                expect('a cut job gets a caution', covered.cautions(job.ended()), f'{error * 1000 / S} µm, degree {degree}')
+                expect('a cut job gets a caution', covered.cautions(job.ended()),
+                       f'{error * 1000 / S} µm, degree {degree}')
     print(f'cautions: {honest} honest jobs, {cut} cut jobs')
 
 
@@ -191,18 +196,22 @@ def commands(run, folder):
         done = run(*command)
         told = ' '.join(map(str, command))
         expect('status of solve', done.returncode == status, f'{told}: {done.returncode} {done.stderr[-300:]}')
-        expect('words of solve', words in done.stdout + done.stderr, f'{told}: {done.stdout[-200:]} {done.stderr[-200:]}')
+        expect('words of solve', words in done.stdout + done.stderr,
+               f'{told}: {done.stdout[-200:]} {done.stderr[-200:]}')
     expect('jobs of solve are the examples', (folder / 'out/accident_0000.job').read_bytes()
            == (examples / 'accident_honest.job').read_bytes())
-    bad = [('{', 'no JSON'), ('{"points_mm": [[0, 0]]}', 'different points'), ('{"series_mm": [{"x": [1]}]}', '"y"'),
-           ('{"series_mm": [{"x": ["a"], "y": [1]}]}', 'no number'), ('{"burr": 1}', "unknown key 'burr'"),
-           ('{"bur_mm": 1}', 'exactly one of'), ('1 2\n3', 'line 2'), ('1 2\nx y', 'line 2'), ('', 'different points'),
-           ('0 0\n1 0\n1 0\n2 1\n', 'less than 1 µm'), ('0 0\n900 0\n1 0\n2 1\n', 'beyond 200 mm'),
-           ('{"series_mm": [{"x": [900], "y": [1]}]}', '256 mm'), ('{"series_mm": [{"x": [1], "y": [1]}]}', 'does not move'),
-           ('{"side": "up", "series_mm": [{"x": [1, 1], "y": [1]}]}', '"side"'), ('{"points_mm": 3}', 'list of [x, y]'),
-           ('{"series_mm": [{"x": [0, 0, 1], "y": [0, 0, 1]}]}', 'turn back'), ('{"series_mm": [{"x": [NaN], "y": [1]}]}', 'no number'),
-           ('[1]', 'line 1'), ('{"series_mm": [{"x": [1e999999999], "y": [1]}]}', 'no number'),
-           ('{"series_mm": [{"x": [' + '9' * 6000 + '], "y": [1]}]}', 'no number'), ('{"points_mm": [[true, 1]]}', 'no number')]
+    piece = '{"series_mm": [{"x": [%s], "y": [%s]}]}'
+    bad = [
+        ('{', 'no JSON'), ('{"points_mm": [[0, 0]]}', 'different points'), ('{"series_mm": [{"x": [1]}]}', '"y"'),
+        ('{"burr": 1}', "unknown key 'burr'"), ('{"bur_mm": 1}', 'exactly one of'), ('1 2\n3', 'line 2'),
+        ('1 2\nx y', 'line 2'), ('', 'different points'), ('[1]', 'line 1'), ('{"points_mm": 3}', 'list of [x, y]'),
+        ('0 0\n1 0\n1 0\n2 1\n', 'less than 1 µm'), ('0 0\n900 0\n1 0\n2 1\n', 'beyond 200 mm'),
+        ('{"side": "up", "series_mm": [{"x": [1, 1], "y": [1]}]}', '"side"'), (piece % ('900', '1'), '256 mm'),
+        ('{"closed": "no", "points_mm": [[0, 0], [1, 0], [1, 1]]}', '"closed"'), (piece % ('1', '1'), 'does not move'),
+        (piece % ('0, 0, 1', '0, 0, 1'), 'turn back'), (piece % ('NaN', '1'), 'no number'),
+        (piece % ('"a"', '1'), 'no number'), (piece % ('1e999999999', '1'), 'no number'),
+        (piece % ('9' * 6000, '1'), 'no number'), ('{"points_mm": [[true, 1]]}', 'no number'),
+    ]
     for content, words in bad:
         text.write_text(content)
         done = run('solve', text, '--bur-mm', '0.5')

@@ -182,7 +182,9 @@ def read_curve(name):
             if not isinstance(point, list) or len(point) != 2:
                 raise BadCurve(f'{where}: point {i} is no [x, y]')
             points.append(tuple(exact(c, f'{where}, point {i}') for c in point))
-        runs = from_points(points, bool(given.get('closed')), where)
+        if given.get('closed', False) not in (True, False):
+            raise BadCurve(f'{name}: "closed" is true or false, not {given["closed"]!r}')
+        runs = from_points(points, given.get('closed', False), where)
     else:
         runs = from_series(given[kinds[0]], S if kinds[0] == 'series_mm' else 1, where)
     bur = exact(given['bur_mm'], f'{name}, bur_mm') if 'bur_mm' in given else None

@@ -10,15 +10,21 @@ from .reading import Checked
 from .tables import REFUSAL, S, in_micrometres
 
 STYLE = '''
-:root { color-scheme: light dark; --back: #fff; --text: #1a1a1a; --soft: #5c5c5c; --line: #d0d0d0;
-  --curve: #0b5394; --band: #f0a53a; --limit: #b00020; --good: #1b6e2c; --bad: #b00020; --mark: #fff4d6; --warn: #8a5a00; }
-@media (prefers-color-scheme: dark) { :root { --back: #16181b; --text: #e8e8e8; --soft: #a8a8a8; --line: #3c4046;
-  --curve: #7db7f0; --band: #b87818; --limit: #ff8080; --good: #7fd191; --bad: #ff8f8f; --mark: #3a3013; --warn: #f0b860; } }
-@media print { :root { --back: #fff; --text: #000; --soft: #444; --line: #bbb; --curve: #0b5394; --band: #f0a53a;
-  --limit: #b00020; --good: #1b6e2c; --bad: #b00020; --mark: #fff; --warn: #8a5a00; } body { max-width: none; font-size: 10pt; } }
+:root { color-scheme: light dark; --back: #fff; --text: #1a1a1a; --soft: #5c5c5c; --line: #d0d0d0; --curve: #0b5394;
+  --band: #f0a53a; --limit: #b00020; --good: #1b6e2c; --bad: #b00020; --mark: #fff4d6; --warn: #8a5a00; }
+@media (prefers-color-scheme: dark) {
+  :root { --back: #16181b; --text: #e8e8e8; --soft: #a8a8a8; --line: #3c4046; --curve: #7db7f0; --band: #b87818;
+    --limit: #ff8080; --good: #7fd191; --bad: #ff8f8f; --mark: #3a3013; --warn: #f0b860; }
+}
+@media print {
+  :root { --back: #fff; --text: #000; --soft: #444; --line: #bbb; --curve: #0b5394; --band: #f0a53a; --limit: #b00020;
+    --good: #1b6e2c; --bad: #b00020; --mark: #fff; --warn: #8a5a00; }
+  body { max-width: none; font-size: 10pt; }
+}
 body { background: var(--back); color: var(--text); font: 16px/1.5 system-ui, sans-serif; max-width: 62rem;
   margin: 0 auto; padding: 1.5rem; }
-h1 { font-size: 1.4rem; overflow-wrap: anywhere; } h2 { font-size: 1.1rem; margin-top: 2rem; break-after: avoid; }
+h1 { font-size: 1.4rem; overflow-wrap: anywhere; }
+h2 { font-size: 1.1rem; margin-top: 2rem; break-after: avoid; }
 .verdict { font-size: 1.25rem; font-weight: 600; border-left: .4rem solid; padding: .4rem .9rem; margin: 1rem 0; }
 .good { color: var(--good); } .bad { color: var(--bad); } .warn { color: var(--warn); }
 .caution { background: var(--mark); border: 1px solid var(--band); padding: .5rem .9rem; }
@@ -28,17 +34,20 @@ th:nth-child(2), td:nth-child(2), th:last-child, td:last-child { text-align: lef
 tr.end td { font-weight: 600; }
 .scroll { overflow-x: auto; }
 figure { margin: 1.2rem 0; break-inside: avoid; } figcaption { margin-bottom: .3rem; }
-.pair { display: grid; grid-template-columns: repeat(auto-fit, minmax(20rem, 1fr)); gap: .5rem 1rem; align-items: start; }
+.pair { display: grid; grid-template-columns: repeat(auto-fit, minmax(20rem, 1fr)); gap: .5rem 1rem;
+  align-items: start; }
 .path svg { max-width: 36rem; }
 svg { width: 100%; height: auto; display: block; }
 svg text { fill: var(--soft); font: 11px system-ui, sans-serif; }
-.left { text-anchor: end; } .below { text-anchor: middle; } svg .word { fill: var(--text); paint-order: stroke; stroke: var(--back); stroke-width: 4px; }
+.left { text-anchor: end; } .below { text-anchor: middle; }
+svg .word { fill: var(--text); paint-order: stroke; stroke: var(--back); stroke-width: 4px; }
 .frame { fill: none; stroke: var(--line); } .grid { stroke: var(--line); stroke-width: .5; }
 .curve { fill: none; stroke: var(--curve); stroke-width: 1.8; } .dot { fill: var(--curve); }
 .band { fill: var(--band); fill-opacity: .55; stroke: var(--band); stroke-width: .6; }
 .limit { stroke: var(--limit); stroke-width: 1.4; stroke-dasharray: 6 4; }
 pre { overflow-x: auto; border: 1px solid var(--line); padding: .8rem; font-size: .85rem; white-space: pre-wrap; }
-footer { margin-top: 2.5rem; color: var(--soft); font-size: .85rem; border-top: 1px solid var(--line); padding-top: .6rem; }
+footer { margin-top: 2.5rem; color: var(--soft); font-size: .85rem; border-top: 1px solid var(--line);
+  padding-top: .6rem; }
 '''
 
 
@@ -98,7 +107,8 @@ def figures(checked, ends, options):
     for i in ends + [i for i in range(len(checked.results)) if i not in ends]:
         m = checked.results[i]
         told = f'Result {i}: radius {in_micrometres(m.radius)}'
-        yield (f'<figure id="result-{i}"><figcaption><strong>{escape(told)}</strong></figcaption><div class="pair">'
+        yield (f'<figure id="result-{i}"><figcaption><strong>{escape(told)}</strong></figcaption>'
+               '<div class="pair">'
                + svg.curve(m, f'Result {i} along the stretch, with its band', 'mm' if i in ends else 'value')
                + svg.strip(m.radius, options.limit_um if i in ends else None,
                            f'The band of result {i} alone, in micrometres') + '</div></figure>')

@@ -55,7 +55,8 @@ def read_job(name):
     except OSError as error:
         raise NotChecked(f'{name}: cannot be read: {error.strerror or error}') from error
     if len(job) > PROGRAM_BYTES:
-        raise NotChecked(f'{name}: more than the {PROGRAM_BYTES:,} bytes that the program reads; a job has at most 8,480')
+        raise NotChecked(f'{name}: more than the {PROGRAM_BYTES:,} bytes that the program reads; a job has at '
+                         'most 8,480')
     return job
 
 
