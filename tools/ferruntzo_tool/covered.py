@@ -1,7 +1,7 @@
 """What a verdict covers: the loaded curves with their radii, and nothing beyond them."""
 
 from .reading import split
-from .tables import MAX_DEGREE, in_micrometres
+from .tables import MAX_DEGREE, in_micrometres, is_load
 
 LEAST_DEGREE = 4                # a curve of a lower degree is hardly ever cut
 ROUNDING = 17                   # half a unit for each of 33 coefficients
@@ -11,7 +11,7 @@ def loads(job):
     """Result number and model of each load of a job that reads."""
     number, found = 0, []
     for step in split(job)[0]:
-        if step.command.name == 'load':
+        if is_load(step):
             found.append((number, step.values['model']._replace(radius=step.values['radius'])))
         number += step.command.makes
     return found

@@ -6,7 +6,7 @@ from . import arithmetic as ar
 from . import covered, misfit, misread, program
 from .program import NotChecked
 from .reading import Checked, blocks_of
-from .tables import LIMIT, REFUSAL, S, in_micrometres
+from .tables import DEFAULT_KEPT, LIMIT, REFUSAL, S, in_micrometres, is_load, is_root
 
 
 def share(n, d):
@@ -20,21 +20,10 @@ def plain(units):
 def head(outcome):
     """The command in words."""
     step = outcome.step
-    v, name = step.values, step.command.name
     made = f' makes result {outcome.result}' if outcome.result is not None else ''
-    words = {
-        'edition': lambda: f'edition {v["edition"]}',
-        'end': lambda: 'end',
-        'load': lambda: 'load',
-        'add': lambda: f'result {v["a"]} + result {v["b"]}',
-        'subtract': lambda: f'result {v["a"]} - result {v["b"]}',
-        'multiply': lambda: f'result {v["a"]} × result {v["b"]}, kept degree '
-                            + ('open (32)' if v['kept'] == 255 else str(v['kept'])),
-        'quotient': lambda: f'quotient: result {v["f"]} over result {v["g"]}',
-        'root': lambda: f'square root of result {v["f"]}',
-    }
-    text = words[name]() if name in words else name
-    return f'command {step.number}, byte {step.offset}: {text}{made}'
+    words = {name: 'open (32)' if kind == 'kept' and step.values[name] == DEFAULT_KEPT else step.values[name]
+             for kind, name in step.command.operands}
+    return f'command {step.number}, byte {step.offset}: {step.command.words.format(**words)}{made}'
 
 
 def block_line(name, m):
@@ -45,7 +34,7 @@ def block_line(name, m):
 
 def test_lines(outcome):
     """The numbers of a test against their limits."""
-    n, root = outcome.numbers, outcome.step.command.name == 'root'
+    n, root = outcome.numbers, is_root(outcome.step)
     if not n:
         return
     def passes(good):
@@ -69,7 +58,7 @@ def outcome_lines(outcome):
     for line in test_lines(outcome):
         yield '    ' + line
     m = outcome.model
-    if outcome.step.command.name == 'load' and m:
+    if is_load(outcome.step) and m:
         yield (f'    radius {m.radius:,} ({in_micrometres(m.radius)})'
                + (': taken as exact' if m.radius == 0 else ''))
     elif m:

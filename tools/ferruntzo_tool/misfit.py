@@ -6,7 +6,7 @@ from math import cos, pi, sqrt
 from . import arithmetic as ar
 from .arithmetic import Model
 from .reading import Checked, split, write_step
-from .tables import COEFFICIENTS, MAX_DEGREE, S
+from .tables import COEFFICIENTS, MAX_DEGREE, S, is_load, is_root, is_test
 
 NODES = [cos(pi * (i + 0.5) / 24) for i in range(24)]
 TINY = 2000                     # units; a curve below it is 2 µm in all
@@ -80,11 +80,11 @@ CHANGES = [
 # Which blocks of the job are changed together: a name, and the choice by command and block.
 SCOPES = [
     ('every block', lambda step, name, at: True),
-    ('every load', lambda step, name, at: step.command.name == 'load'),
-    ('every h and w', lambda step, name, at: step.command.name != 'load'),
+    ('every load', lambda step, name, at: is_load(step)),
+    ('every h and w', lambda step, name, at: not is_load(step)),
     ('every h', lambda step, name, at: name == 'h'),
     ('every w', lambda step, name, at: name == 'w'),
-    ('w of every root', lambda step, name, at: name == 'w' and step.command.name == 'root'),
+    ('w of every root', lambda step, name, at: name == 'w' and is_root(step)),
     ('this block', lambda step, name, at: step.number == at and name == 'model'),
     ('h', lambda step, name, at: step.number == at and name == 'h'),
     ('w', lambda step, name, at: step.number == at and name == 'w'),
@@ -192,7 +192,7 @@ def figures(number):
 
 def fit_lines(step, results):
     """How h and w stand to what they should be, seen at 24 points in floating point."""
-    root = step.command.name == 'root'
+    root = is_root(step)
     f = sampled(results[step.values['f']])
     h, w = sampled(step.values['h']), sampled(step.values['w'])
     base = [v * v for v in h] if root else [a * b for a, b in zip(sampled(results[step.values['g']]), h)]
@@ -221,12 +221,12 @@ def causes(job, checked):
     """Lines about a refused command, or about tests of an accepted job that fit badly."""
     lines = [f'result {outcome.result} is loaded with a weight of only {ar.weight(outcome.model.coefficients):,} '
              'units: it may be in millimetres, and must be in units of 2^-20 mm'
-             for outcome in checked.outcomes if outcome.step.command.name == 'load' and outcome.model
+             for outcome in checked.outcomes if is_load(outcome.step) and outcome.model
              and outcome.model.degree and ar.weight(outcome.model.coefficients) < TINY]
     if checked.refusal in (2, 3, 5, 6, 7, 8) and checked.outcomes:
         step = checked.outcomes[-1].step
         lines += tried(job, checked, step.number, lambda radius: True)
-        if checked.refusal != 2 and step.command.name in ('quotient', 'root'):
+        if checked.refusal != 2 and is_test(step):
             lines += fit_lines(step, checked.results)
     for outcome in checked.outcomes:
         numbers = outcome.numbers

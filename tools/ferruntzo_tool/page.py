@@ -7,7 +7,7 @@ from pathlib import Path
 from . import __version__, covered, explain, program, svg
 from .program import NotChecked
 from .reading import Checked
-from .tables import REFUSAL, S, in_micrometres
+from .tables import REFUSAL, S, in_micrometres, is_load
 
 STYLE = '''
 :root { color-scheme: light dark; --back: #fff; --text: #1a1a1a; --soft: #5c5c5c; --line: #d0d0d0; --curve: #0b5394;
@@ -93,7 +93,7 @@ def table(checked, ends):
             continue
         words = explain.head(outcome).split(': ', 1)[1].split(' makes ')[0]
         remarks = (['read this one'] if i in ends else []) + (['may have been cut'] if i in suspects else [])
-        if outcome.step.command.name == 'load' and m.radius == 0:
+        if is_load(outcome.step) and m.radius == 0:
             remarks.append('taken as exact')
         yield (f'<tr{" class=" + chr(34) + "end" + chr(34) if i in ends else ""}><td>{i}</td>'
                f'<td>{escape(words)}</td><td>{m.degree}</td><td>{m.radius:,}</td>'

@@ -117,20 +117,19 @@ def blocks_of(step):
             for kind, name in step.command.operands if kind == 'block']
 
 
-def apply(step, results):
-    """The model and the numbers of a test that a command gives; Refused if it gives none."""
-    v, name = step.values, step.command.name
-    if name == 'load':
-        return v['model']._replace(radius=v['radius']), {}
-    if name in ('add', 'subtract'):
-        return ar.add(results[v['a']], results[v['b']], 1 if name == 'add' else -1), {}
-    if name == 'multiply':
-        return ar.multiply(results[v['a']], results[v['b']], v['kept']), {}
-    if name == 'quotient':
-        numbers = ar.quotient(results[v['f']], results[v['g']], v['h'], v['w'])
-    else:
-        numbers = ar.root(results[v['f']], v['h'], v['w'])
-    return v['h']._replace(radius=numbers['radius']), numbers
+def _tested(values, numbers):
+    return values['h']._replace(radius=numbers['radius']), numbers
+
+
+# The model and the numbers of a test that a command gives for its operands v and the results r.
+RULES = {
+    'load': lambda v, r: (v['model']._replace(radius=v['radius']), {}),
+    'add': lambda v, r: (ar.add(r[v['a']], r[v['b']]), {}),
+    'subtract': lambda v, r: (ar.add(r[v['a']], r[v['b']], -1), {}),
+    'multiply': lambda v, r: (ar.multiply(r[v['a']], r[v['b']], v['kept']), {}),
+    'quotient': lambda v, r: _tested(v, ar.quotient(r[v['f']], r[v['g']], v['h'], v['w'])),
+    'root': lambda v, r: _tested(v, ar.root(r[v['f']], v['h'], v['w'])),
+}
 
 
 class Checked:
@@ -168,7 +167,7 @@ class Checked:
             made, numbers, result = None, {}, None
             if step.command.makes:
                 try:
-                    made, numbers = apply(step, self.results)
+                    made, numbers = RULES[step.command.name](step.values, self.results)
                 except Refused as refused:
                     return self._refuse(refused.number, str(refused), step, refused.numbers)
                 result = len(self.results)

@@ -16,23 +16,39 @@ DEFAULT_KEPT = 0xFF
 # What an operand is, and its width in bytes.
 WIDTH = {'edition': 1, 'result': 1, 'kept': 1, 'block': 133, 'radius': 4}
 
-# byte, name, operands in the order of the job (kind, what it is called), and whether a result arises.
-Command = namedtuple('Command', 'byte name operands makes')
+# byte, name, operands in the order of the job (kind, what it is called), whether a result arises, and
+# its words. A new command is a row here and its rule in reading.RULES. A block called model makes a
+# load; blocks h and w make a test, of a quotient if there is an operand g and of a root if not.
+Command = namedtuple('Command', 'byte name operands makes words')
 
 COMMANDS = [
-    Command(0x00, 'end', (), False),
-    Command(0x01, 'edition', (('edition', 'edition'),), False),
-    Command(0x10, 'load', (('block', 'model'), ('radius', 'radius')), True),
-    Command(0x11, 'add', (('result', 'a'), ('result', 'b')), True),
-    Command(0x12, 'subtract', (('result', 'a'), ('result', 'b')), True),
-    Command(0x13, 'multiply', (('result', 'a'), ('result', 'b'), ('kept', 'kept')), True),
-    Command(0x20, 'quotient',
-            (('result', 'f'), ('result', 'g'), ('block', 'h'), ('block', 'w')), True),
-    Command(0x21, 'root', (('result', 'f'), ('block', 'h'), ('block', 'w')), True),
+    Command(0x00, 'end', (), False, 'end'),
+    Command(0x01, 'edition', (('edition', 'edition'),), False, 'edition {edition}'),
+    Command(0x10, 'load', (('block', 'model'), ('radius', 'radius')), True, 'load'),
+    Command(0x11, 'add', (('result', 'a'), ('result', 'b')), True, 'result {a} + result {b}'),
+    Command(0x12, 'subtract', (('result', 'a'), ('result', 'b')), True, 'result {a} - result {b}'),
+    Command(0x13, 'multiply', (('result', 'a'), ('result', 'b'), ('kept', 'kept')), True,
+            'result {a} × result {b}, kept degree {kept}'),
+    Command(0x20, 'quotient', (('result', 'f'), ('result', 'g'), ('block', 'h'), ('block', 'w')), True,
+            'quotient: result {f} over result {g}'),
+    Command(0x21, 'root', (('result', 'f'), ('block', 'h'), ('block', 'w')), True,
+            'square root of result {f}'),
 ]
 BY_BYTE = {command.byte: command for command in COMMANDS}
 BY_NAME = {command.name: command for command in COMMANDS}
 EDITIONS = (1,)
+
+
+def is_load(step):
+    return 'model' in step.values
+
+
+def is_test(step):
+    return 'h' in step.values
+
+
+def is_root(step):
+    return is_test(step) and 'g' not in step.values
 
 
 def width(command):
