@@ -1,4 +1,5 @@
-"""Prints the measured tables of docs/FORMAT.md, section 'From a margin to a job'. Nothing here is a test.
+"""Prints the measured tables of docs/FORMAT.md, section 'From a margin to a job', and the count of changed bits in
+docs/MEANING.md. Nothing here is a test.
 
   measure.py [margin.json]
 
@@ -7,6 +8,7 @@ Numbers are units of 2^-20 mm, of the worst stretch; errors are against the marg
 
 import sys
 from pathlib import Path
+from random import Random
 
 HERE = Path(__file__).resolve().parent
 sys.path.insert(0, str(HERE.parent / 'tools'))
@@ -99,7 +101,27 @@ def largest_m(solved):
     return f'{max(found) / S:.2g}'
 
 
+def changed_bits(count):
+    """Copies of stretch.job with one bit changed: accepted, of these beyond 2 µm, of these within it though the path
+    is another by more than 2 µm."""
+    job, rng, limit = (HERE / 'stretch.job').read_bytes(), Random(1), 2 * S // 1000
+    paths = [m.coefficients for m in Checked(job).results[13:]]
+    accepted = beyond = moved = 0
+    for _ in range(count):
+        spoiled, bit = bytearray(job), rng.randrange(8 * len(job))
+        spoiled[bit // 8] ^= 1 << bit % 8
+        checked = Checked(bytes(spoiled))
+        if checked.accepted:
+            accepted += 1
+            far = max(sum(abs(u - v) for u, v in zip(m.coefficients, good))
+                      for m, good in zip(checked.results[13:], paths))
+            large = max(checked.results[i].radius for i in checked.last_results()) > limit
+            beyond, moved = beyond + large, moved + (not large and far > limit)
+    return accepted, beyond, moved
+
+
 def main():
+    print('changed bits: accepted, beyond 2 µm, within it and moved', changed_bits(1500))
     print('stretches: normal rounded last: its radius, path, error; derivative of the rounded series, radius 0: path, '
           'error; with its honest radius: path; with k²/2: path')
     for n in (1, 2, 4, 8, 32):
