@@ -68,6 +68,13 @@
 extern "C" {
 #endif
 
+/* ---- Version ---- */
+
+#define FERRUNTZO_VERSION_MAJOR 1
+#define FERRUNTZO_VERSION_MINOR 0
+#define FERRUNTZO_VERSION_PATCH 0
+#define FERRUNTZO_VERSION "1.0.0"
+
 /* ---- Limits ---- */
 
 #define FERRUNTZO_S 1048576               /* one unit is 1/S */
