@@ -6,7 +6,7 @@ pub mod Outcomes
 pub mod Jobs
 pub mod JobReading
 pub mod Work
-pub mod Steps
+pub mod InnerContracts
 pub mod Order
 pub mod Requirement
 pub mod ExactValues
