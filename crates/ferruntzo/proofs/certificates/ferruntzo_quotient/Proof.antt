@@ -37,8 +37,9 @@ returns c =
     rw (d .if1 .taken)
     (test-given _ (now (a .scratch)) (now (a .out)) (now (a .numbers)) (q .quotient .result) (q .quotient .ensures .1)
     (c .before .before .before .answer-test .ensures)
-    (q .quotient .ensures .0
-    ∙ (λ k. quotientTest (length (now (a .scratch))) (g .before .model-in .ensures k) (g .model-in2 .ensures k) (h .candidate-in .ensures k) (w .candidate-in2 .ensures k))))
+    (_∙_ {b = quotientTest (length (now (a .scratch))) (g .before .model-in .result) (g .model-in2 .result) (h .candidate-in .result) (w .candidate-in2 .result)}
+    (q .quotient .ensures .0)
+    (λ k. quotientTest (length (now (a .scratch))) (g .before .model-in .ensures k) (g .model-in2 .ensures k) (h .candidate-in .ensures k) (w .candidate-in2 .ensures k))))
 
 returns-2 : tie.Need-returns-2
 returns-2 c =

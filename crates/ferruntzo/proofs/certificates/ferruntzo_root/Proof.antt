@@ -33,8 +33,9 @@ returns c =
     rw (d .if1 .taken)
     (test-given _ (now (a .scratch)) (now (a .out)) (now (a .numbers)) (q .root .result) (q .root .ensures .1)
     (c .before .before .before .answer-test .ensures)
-    (q .root .ensures .0
-    ∙ (λ k. rootTest (length (now (a .scratch))) (h .before .model-in .ensures k) (h .candidate-in .ensures k) (w .candidate-in2 .ensures k))))
+    (_∙_ {b = rootTest (length (now (a .scratch))) (h .before .model-in .result) (h .candidate-in .result) (w .candidate-in2 .result)}
+    (q .root .ensures .0)
+    (λ k. rootTest (length (now (a .scratch))) (h .before .model-in .ensures k) (h .candidate-in .ensures k) (w .candidate-in2 .ensures k))))
 
 returns-2 : tie.Need-returns-2
 returns-2 c =
