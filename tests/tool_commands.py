@@ -40,7 +40,7 @@ def corpus(cases, rng):
     """Examples, every fixed case of the job tests, random and mutated jobs, bytes that mean nothing."""
     draw = RandomJobs()
     found = [path.read_bytes() for path in EXAMPLES]
-    found += [case.inputs[0] for case in fixed_check() if not case.short]
+    found += [case.inputs[0] for case in fixed_check()]
     found += [draw(rng).inputs[0] for _ in range(cases)]
     found += [rng.randbytes(rng.randrange(500)) for _ in range(cases // 4)]
     return [job for job in dict.fromkeys(found) if len(job) <= 65536]

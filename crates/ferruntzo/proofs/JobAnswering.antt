@@ -1,7 +1,7 @@
 -- The step from what the check of a job answers and leaves to the definitions of specs/JobAnswers.antt, and to requirement 3 over
 -- one more lent area.
 use mathlib.Core.Path.{_≡_, refl, ap, sym, subst, _∙_}
-use mathlib.Core.Bool.{true, not}
+use mathlib.Core.Bool.{not}
 use mathlib.Core.List.{List, [], _∷_, _++_}
 use mathlib.Core.Logic.{inl}
 use Prim.Native.Nat.{ℕ, _≤_, _<_}

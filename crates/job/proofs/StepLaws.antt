@@ -8,7 +8,7 @@ use native.Mathlib.Omega.{arith}
 use borrow.Author.Tests.{leb-false, lt-leb}
 use lib.IntN.{ℤ}
 use lib.ListN.{length}
-use Rattle.model.specs.definitions.Outcomes.{passing, Passed}
+use Rattle.model.specs.definitions.Outcomes.{Passed}
 use Rattle.model.specs.laws.PlaceLaws.{passing-passed, passing-unrefused}
 use Rattle.model.specs.declared.types.Model.{Model}
 use Rattle.job.specs.definitions.Makers.{Maker, Row, of-none, of-one, of-two, rowOf, badIn, namesBad}

@@ -76,7 +76,8 @@ fn add(job: &[u8], at: usize, work: &[i32]) -> TestOutcome
 
 fn subtract(job: &[u8], at: usize, work: &[i32]) -> TestOutcome
     requires { ⌜ Operable Operation.Subtract (now job) at (now work) ⌝ }
-    ensures { λ (r : TestOutcome). ⌜ Performs (makerAt Operation.Subtract (now (job .entry)) at) (now (work .entry)) (testOf r) ⌝ }
+    ensures { λ (r : TestOutcome).
+        ⌜ Performs (makerAt Operation.Subtract (now (job .entry)) at) (now (work .entry)) (testOf r) ⌝ }
 {
     let o = read_operands(job, at, work);
     untested(model::add::subtract(o.first, o.second))
@@ -95,7 +96,8 @@ fn kept_degree(d: u8) -> u32
 
 fn multiply(job: &[u8], at: usize, work: &[i32]) -> TestOutcome
     requires { ⌜ Operable Operation.Multiply (now job) at (now work) ⌝ }
-    ensures { λ (r : TestOutcome). ⌜ Performs (makerAt Operation.Multiply (now (job .entry)) at) (now (work .entry)) (testOf r) ⌝ }
+    ensures { λ (r : TestOutcome).
+        ⌜ Performs (makerAt Operation.Multiply (now (job .entry)) at) (now (work .entry)) (testOf r) ⌝ }
 {
     let o = read_operands(job, at, work);
     let kept = kept_degree(job[at + 3]);
@@ -104,7 +106,8 @@ fn multiply(job: &[u8], at: usize, work: &[i32]) -> TestOutcome
 
 fn quotient(job: &[u8], at: usize, work: &[i32], scratch: &mut [i64]) -> TestOutcome
     requires { ⌜ Operable Operation.Quotient (now job) at (now work) × Clear (now scratch) ⌝ }
-    ensures { λ (r : TestOutcome). ⌜ Performs (makerAt Operation.Quotient (now (job .entry)) at) (now (work .entry)) (testOf r) ⌝ }
+    ensures { λ (r : TestOutcome).
+        ⌜ Performs (makerAt Operation.Quotient (now (job .entry)) at) (now (work .entry)) (testOf r) ⌝ }
     ensures { λ _. ⌜ now (scratch .exit) ≡ now (scratch .entry) ⌝ }
 {
     let o = read_operands(job, at, work);

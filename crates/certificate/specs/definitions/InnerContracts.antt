@@ -9,12 +9,14 @@ use Rattle.integer.specs.definitions.Integer.{ℤ-ring}
 use Rattle.integer.specs.definitions.Lists.{zeros}
 use Rattle.chebyshev.specs.definitions.Coefficients.{weight, subtractLists, scaleList}
 use Rattle.chebyshev.specs.definitions.Product.{product}
-use Rattle.model.specs.definitions.Models.{scale, coefficientCount, productSize, maxDegree, maxWeight, good, candidateModel, largePlace}
+use Rattle.model.specs.definitions.Models.{scale, coefficientCount, productSize, maxDegree, maxWeight}
+use Rattle.model.specs.definitions.Models.{good, candidateModel, largePlace}
 use Rattle.model.specs.definitions.Outcomes.{Outcome, accepted, refused, outcome, numberOf}
 use Rattle.model.specs.declared.types.Model.{Model}
 use Rattle.model.specs.declared.types.Candidate.{Candidate}
 use Rattle.certificate.specs.definitions.Tests.{Certificate, makeCertificate, zeroCertificate, withRadius}
-use Rattle.certificate.specs.definitions.Tests.{rootPlaces, rootLastPlaces, rootModel, rootContraction, rootResidual, displacement}
+use Rattle.certificate.specs.definitions.Tests.{rootPlaces, rootLastPlaces, rootModel, rootContraction}
+use Rattle.certificate.specs.definitions.Tests.{rootResidual, displacement}
 use Rattle.certificate.specs.declared.types.RootNumbers.{RootNumbers}
 use Rattle.certificate.specs.declared.types.RootNumbers.the-variants.{Refused, Reached}
 

@@ -10,7 +10,8 @@ use lib.ListN.{replicate, drop, length}
 use Rattle.integer.specs.definitions.Integer.{ℤ-ring}
 use Rattle.integer.specs.definitions.Rounding.{upℕ}
 use Rattle.chebyshev.specs.definitions.Coefficients.{weight, subtractLists, scaleList, coefficientSum}
-use Rattle.model.specs.definitions.Models.{scale, productSize, maxRadius, makeModel, zeroModel, candidateModel, badPlace, largePlace}
+use Rattle.model.specs.definitions.Models.{scale, productSize, maxRadius, makeModel, zeroModel}
+use Rattle.model.specs.definitions.Models.{candidateModel, badPlace, largePlace}
 use Rattle.model.specs.definitions.Outcomes.{Outcome, outcome, judged}
 use Rattle.model.specs.definitions.Operations.{productList}
 use Rattle.model.specs.declared.types.Model.{Model}

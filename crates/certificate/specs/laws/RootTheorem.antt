@@ -4,7 +4,7 @@
 use mathlib.Core.Path.{_≡_, _∙_, ap}
 use mathlib.Core.Logic.{_↔_}
 use mathlib.Core.Bool.{true}
-use Prim.Native.Nat.{ℕ, _-_, _^_, _≤_}
+use Prim.Native.Nat.{ℕ, _^_, _≤_}
 use Rattle.model.specs.definitions.Models.{good, makeModel}
 use Rattle.model.specs.definitions.Outcomes.{accepted}
 use Rattle.model.specs.declared.types.Model.{Model}

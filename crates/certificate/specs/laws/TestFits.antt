@@ -3,7 +3,6 @@
 use mathlib.Core.Path.{_≡_}
 use mathlib.Core.Bool.{true}
 use Prim.Native.Nat.{ℕ}
-use Rattle.chebyshev.specs.definitions.Coefficients.{weight}
 use Rattle.model.specs.definitions.Models.{good}
 use Rattle.model.specs.laws.ModelLaws.{good-is}
 use Rattle.model.specs.definitions.Outcomes.{accepted, values}

@@ -3,7 +3,7 @@ use mathlib.Core.Path.{_≡_, refl, _∙_, ap}
 use mathlib.Core.HLevel.{Π-prop}
 use mathlib.Core.List.{[], _∷_}
 use mathlib.Core.Quot.{Quotient·lift}
-use Prim.Native.Nat.{ℕ, zero, suc, _+_, _*_}
+use Prim.Native.Nat.{ℕ, zero, suc}
 use native.Mathlib.Omega.{arith}
 use lib.IntN.{ℤ, pos, negsuc, zero-*ℤ}
 use Rattle.integer.specs.definitions.Pairs.{invert}

@@ -2,7 +2,7 @@
 -- In a code proof every signed operand shows as `toZ w (ofZ w z)`; `toZ-ofZ` with `SFits w z` reads it back.
 use mathlib.Core.Path.{_≡_, refl, sym, ap, subst}
 use mathlib.Core.Bool.{true, false}
-use Prim.Native.Nat.{ℕ, suc, _+_, _-_, _*_, _/_, _%_, _≤_, _<_, _^_, zero-le}
+use Prim.Native.Nat.{ℕ, suc, _*_, _/_, _%_, _≤_, _<_, _^_, zero-le}
 use native.Mathlib.Omega.{arith}
 use native.Mathlib.Nat.{div-le-self, mod-lt, div-add-mod, lt-of-lt-of-le}
 use lib.Dec.{T, lit≤}

@@ -9,7 +9,8 @@ use Rattle.integer.specs.definitions.Fraction.{ℚ, whole, _+ℚ_, _-ℚ_, _*�
 use Rattle.model.specs.definitions.Values.{Allows}
 use Rattle.certificate.specs.definitions.Tests.{RootRule}
 use Rattle.model.specs.declared.types.Model.{Model}
-use Rattle.job.specs.definitions.Makers.{Maker, load, add, subtract, multiply, quotient, root, Row, of-none, of-one, of-two, rowOf}
+use Rattle.job.specs.definitions.Makers.{Maker, load, add, subtract, multiply, quotient, root, Row}
+use Rattle.job.specs.definitions.Makers.{of-none, of-one, of-two, rowOf}
 use Rattle.job.specs.definitions.Commands.{Command, result}
 use Rattle.job.specs.definitions.JobReading.{commandOf}
 

@@ -7,10 +7,10 @@ use Rattle.model.specs.definitions.Models.{zeroModel}
 use Rattle.model.specs.definitions.Outcomes.{Outcome, accepted, refused, values, passing, outcome}
 use Rattle.model.specs.laws.PlaceLaws.{refused-not-accepted, outcome-accepted}
 use Rattle.model.specs.definitions.Operations.{loadingPlaces, loading, addition, subtraction, multiplication}
-use Rattle.certificate.specs.definitions.Tests.{scratchSize, Certificate, zeroCertificate, quotientOf, RootRule, byDiscriminant, rootOf}
+use Rattle.certificate.specs.definitions.Tests.{scratchSize, Certificate, zeroCertificate, quotientOf, RootRule, rootOf}
 use Rattle.model.specs.declared.types.Model.{Model}
 use Rattle.job.specs.definitions.InnerContracts.{untestedOutcome}
-use Rattle.job.specs.definitions.Makers.{Maker, load, add, subtract, multiply, quotient, root, untested, resultAt, makerPlaces, operation}
+use Rattle.job.specs.definitions.Makers.{load, add, subtract, multiply, quotient, root, untested, resultAt, makerPlaces, operation}
 
 pub untested-accepted : (o : Outcome Model) {c : Certificate} → untestedOutcome o ≡ accepted c → o ≡ accepted (c .model)
 untested-accepted (accepted m) e = ap (λ (r : Outcome Certificate). accepted (values r .model)) e

@@ -11,7 +11,7 @@ use Rattle.integer.specs.laws.Order.{∣_∣, ∣∣-is, pos-le, le-pos}
 use Rattle.integer.specs.definitions.Rounding.{near}
 use Rattle.integer.specs.laws.RoundingLaws.{near-error}
 use Rattle.integer.specs.laws.OrderedRingLaws.{abs-mul, abs-mul-le, le-of-eq, _⟨≼⟩_, _⟨+⟩_, triangle, abs-scale}
-use Rattle.integer.specs.definitions.Fraction.{ℚ, _/1+_, whole, _+ℚ_, _-ℚ_, -ℚ_, _*ℚ_, _≤ℚ_, ∣_∣ℚ}
+use Rattle.integer.specs.definitions.Fraction.{ℚ, whole, _+ℚ_, _-ℚ_, -ℚ_, _*ℚ_, _≤ℚ_, ∣_∣ℚ}
 use Rattle.integer.specs.laws.FractionLaws.{*ℚ-comm, one-*ℚ, *ℚ-one, whole-add, whole-mul, fraction-num}
 use Rattle.integer.specs.laws.PairLaws.{den-is}
 use Rattle.integer.specs.definitions.FractionRing.{ℚ-ring}

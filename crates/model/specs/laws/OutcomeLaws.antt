@@ -4,10 +4,8 @@ use mathlib.Core.Bool.{cond}
 use Prim.Native.Nat.{ℕ, _<_}
 use native.Mathlib.Omega.{arith}
 use lib.Dec.{eqb}
-use lib.IntN.{ℤ}
 use Rattle.model.specs.definitions.Outcomes.{Outcome, accepted, refused, number, values, numberOf, verdictNumber, judged, outcomeOf}
-use Rattle.model.specs.definitions.Evaluation.{Bounds, boundsOf}
-use Rattle.model.specs.declared.types.Model.{Model}
+use Rattle.model.specs.definitions.Evaluation.{boundsOf}
 use Rattle.model.specs.declared.types.ModelOutcome.{ModelOutcome}
 use Rattle.model.specs.declared.types.BoundsOutcome.{BoundsOutcome}
 use Rattle.model.specs.declared.types.Refusal.{Refusal}

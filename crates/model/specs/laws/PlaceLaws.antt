@@ -1,13 +1,13 @@
 -- Lists of places (Outcomes.antt): an outcome accepts exactly if no condition holds, and then has the operation's own values.
 use mathlib.Core.Path.{_≡_, refl, sym, ap}
 use mathlib.Core.Logic.{_↔_, _≢_}
-use mathlib.Core.Bool.{Bool, true, false, not, cond, true≢false}
+use mathlib.Core.Bool.{Bool, true, false, not, cond}
 use mathlib.Core.List.{List, [], _∷_, _++_}
 use Prim.Native.Nat.{ℕ}
 use native.Mathlib.Omega.{arith}
 use borrow.Author.Tests.{not-false}
 use Rattle.model.specs.definitions.Models.{good, zeroModel, badPlace}
-use Rattle.model.specs.definitions.Outcomes.{Outcome, accepted, refused, number, values, outcome, passing, Passed}
+use Rattle.model.specs.definitions.Outcomes.{accepted, refused, number, values, outcome, passing, Passed}
 use Rattle.model.specs.definitions.Operations.{sumModel, differenceModel, productModel, addition, subtraction, multiplication}
 use Rattle.model.specs.declared.types.Model.{Model}
 

@@ -1,6 +1,6 @@
 -- `quotient::test_good` meets its contract: m is tested before N is formed, and N before b.
 use borrow.Author.Needs.{needs}
-use mathlib.Core.Path.{_≡_, sym, _∙_, ap}
+use mathlib.Core.Path.{_≡_, sym, _∙_}
 use Prim.Native.Nat.{_≤_}
 use native.Mathlib.Omega.{arith}
 use Rattle.model.specs.definitions.Models.{maxWeight, candidateModel}

@@ -1,6 +1,6 @@
 -- `quotient::test_in` meets its contract: models and candidates are measured in operand order.
 use borrow.Author.Needs.{needs}
-use mathlib.Core.Path.{_≡_, sym, _∙_, ap}
+use mathlib.Core.Path.{_≡_, sym, _∙_}
 use mathlib.Core.Logic.{⊎-elim}
 use mathlib.Core.Bool.{false, _&&_}
 use Rattle.model.specs.definitions.Models.{good, candidateModel}

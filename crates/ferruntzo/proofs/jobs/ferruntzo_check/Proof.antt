@@ -1,15 +1,15 @@
 -- `ferruntzo_check` meets its contract.
 use borrow.Author.Needs.{needs}
 use mathlib.Core.Path.{_≡_, refl, ap}
-use mathlib.Core.List.{[], _∷_, _++_}
-use Prim.Native.Nat.{ℕ, _+_, _≤_}
+use mathlib.Core.List.{[], _∷_}
+use Prim.Native.Nat.{_+_, _≤_}
 use native.Mathlib.Omega.{arith}
 use lib.ListN.{set}
 use lib.Seq.{sets-eq}
 use denote.Ref.{now}
 use Rattle.job.specs.laws.AnswerBounds.{answer-small}
 use Rattle.job.specs.definitions.Commands.{maxResults}
-use Rattle.job.specs.definitions.Outcomes.{JobOutcome, jobOutcomeOf, counted, refusedCommand, resultCount}
+use Rattle.job.specs.definitions.Outcomes.{jobOutcomeOf, counted, refusedCommand, resultCount}
 use Rattle.job.specs.definitions.Work.{areaPlaces, checkOf}
 use Rattle.job.specs.definitions.Requirement.{Requirement3}
 use Rattle.job.specs.declared.types.JobOutcome.{JobOutcome as CodeOutcome}

@@ -1,8 +1,6 @@
 -- `ferruntzo_integrate` meets its contract.
 use borrow.Author.Needs.{needs}
 use mathlib.Core.Path.{ap, _∙_}
-use Prim.Native.Nat.{_≤_}
-use lib.ListN.{length}
 use denote.Ref.{now}
 use Rattle.model.specs.definitions.Outcomes.{Outcome}
 use Rattle.model.specs.declared.types.Model.{Model}

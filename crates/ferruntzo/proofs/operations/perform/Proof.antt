@@ -5,7 +5,7 @@ use Prim.Native.Nat.{_≤_}
 use lib.ListN.{length}
 use denote.Ref.{now}
 use Rattle.model.specs.definitions.Outcomes.{Outcome, values}
-use Rattle.model.specs.definitions.Areas.{modelSize, areaModel, Storable}
+use Rattle.model.specs.definitions.Areas.{modelSize, Storable}
 use Rattle.model.specs.laws.ResultLaws.{addition-storable, subtraction-storable, multiplication-storable}
 use Rattle.model.specs.declared.types.Model.{Model}
 use Rattle.ferruntzo.specs.definitions.Answers.{operationOf, outcomeIn}

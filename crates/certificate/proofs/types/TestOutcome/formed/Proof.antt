@@ -1,7 +1,6 @@
 -- `TestOutcome::formed` meets its contract: of a good candidate's model the radius alone can be too large.
 use borrow.Author.Needs.{needs}
 use borrow.Author.Tests.{lt-ltb, le-ltb}
-use mathlib.Core.Path.{_∙_}
 use native.Mathlib.Omega.{arith}
 use Rattle.model.specs.definitions.Models.{maxRadius, candidateModel}
 use Rattle.model.specs.definitions.Outcomes.{passing}
