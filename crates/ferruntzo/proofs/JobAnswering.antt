@@ -9,11 +9,10 @@ use native.Mathlib.Omega.{arith}
 use borrow.Author.Tests.{le-leb, lt-leb, ne-eqb}
 use lib.IntN.{ℤ}
 use lib.ListN.{length, drop}
-use Rattle.model.specs.definitions.Outcomes.{numberOf}
+use Rattle.model.specs.definitions.Outcomes.{numberOf, here}
 use Rattle.model.specs.laws.OutcomeLaws.{numberOf-positive}
 use Rattle.job.specs.definitions.Outcomes.{JobOutcome, jobOutcomeOf, counted, refusalNumber, refusedCommand, resultCount}
 use Rattle.job.specs.definitions.Work.{areaPlaces, checkOf, workAfter, scratchAfterJob}
-use Rattle.job.specs.definitions.Order.{here}
 use Rattle.job.specs.definitions.Requirement.{Requirement3}
 use Rattle.job.specs.laws.RequirementLaws.{refused-required, required-behind}
 use Rattle.job.specs.declared.types.JobOutcome.{JobOutcome as CodeOutcome}

@@ -8,14 +8,12 @@ use native.Mathlib.Omega.{arith}
 use borrow.Author.Tests.{leb-false, lt-leb}
 use lib.IntN.{ℤ}
 use lib.ListN.{length}
-use Rattle.model.specs.definitions.Outcomes.{Passed}
-use Rattle.model.specs.laws.PlaceLaws.{passing-passed, passing-unrefused}
+use Rattle.model.specs.definitions.Outcomes.{Passed, First}
+use Rattle.model.specs.laws.PlaceLaws.{passing-passed, passing-unrefused, first-or-passed, passing-first}
 use Rattle.model.specs.declared.types.Model.{Model}
 use Rattle.job.specs.definitions.Makers.{Maker, Row, of-none, of-one, of-two, rowOf, badIn, namesBad}
 use Rattle.job.specs.definitions.Commands.{maxResults, shapeAt, nextAt, commandAt, readingPlaces, CommandReading, found, commandReading}
 use Rattle.job.specs.definitions.Jobs.{refused, performed, command}
-use Rattle.job.specs.definitions.Order.{First}
-use Rattle.job.specs.laws.PlaceLaws.{passing-first, first-or-passed}
 use Rattle.job.specs.laws.CommandLaws.{both-below, Readable, readable}
 use Rattle.job.specs.definitions.Work.{workSize}
 use Rattle.job.specs.definitions.InnerContracts.{Performable}

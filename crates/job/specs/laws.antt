@@ -1,5 +1,4 @@
 pub mod MakerLaws
-pub mod PlaceLaws
 pub mod CommandLaws
 pub mod OrderLaws
 pub mod AnswerBounds

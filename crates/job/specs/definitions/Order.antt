@@ -6,16 +6,11 @@ use mathlib.Core.List.{List, [], _∷_, _++_}
 use mathlib.Core.Logic.{_⊎_}
 use Prim.Native.Nat.{ℕ, _+_}
 use lib.ListN.{length}
-use Rattle.model.specs.definitions.Outcomes.{values, Passed}
+use Rattle.model.specs.definitions.Outcomes.{values, Passed, First}
 use Rattle.model.specs.declared.types.Model.{Model}
 use Rattle.job.specs.definitions.Makers.{operation, makerPlaces}
 use Rattle.job.specs.definitions.Commands.{Command, edition, result, finish, unknown}
 use Rattle.job.specs.definitions.Commands.{shapeAt, commandRead, nextAt, isEnd, readingPlaces}
-
--- the first place whose condition holds has number n
-pub data First : List (Bool × ℕ) → ℕ → Type 0 where
-  here : {p : Bool × ℕ} {ps : List (Bool × ℕ)} {n : ℕ} → p .0 ≡ true → p .1 ≡ n → First (p ∷ ps) n
-  later : {p : Bool × ℕ} {ps : List (Bool × ℕ)} {n : ℕ} → p .0 ≡ false → First ps n → First (p ∷ ps) n
 
 -- the places that a command's operation passes through
 abbrev pub operationPlaces : Command → List Model → List (Bool × ℕ)

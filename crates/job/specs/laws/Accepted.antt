@@ -6,13 +6,12 @@ use Prim.Native.Nat.{ℕ, suc, _+_, _-_}
 use native.Mathlib.Omega.{arith}
 use lib.ListN.{length}
 use Rattle.model.specs.definitions.Outcomes.{passing, Passed}
-use Rattle.model.specs.laws.PlaceLaws.{passing-passed}
+use Rattle.model.specs.laws.PlaceLaws.{passing-passed, passed-append}
 use Rattle.model.specs.declared.types.Model.{Model}
 use Rattle.job.specs.definitions.Commands.{Command, edition, result, finish, unknown, commandAt, shapeAt, commandRead, nextAt, badKind, badNames, isEnd, readingPlaces}
 use Rattle.job.specs.definitions.Outcomes.{accepted}
 use Rattle.job.specs.definitions.Jobs.{jobOf}
 use Rattle.job.specs.definitions.JobReading.{JobReading, well, ill, readOn, readFrom, jobReading, ReadsWell}
-use Rattle.job.specs.laws.PlaceLaws.{passed-front}
 use Rattle.job.specs.definitions.Order.{operationPlaces, resultsAfter, placesOf, isLast, Reaches, start, next}
 use Rattle.job.specs.laws.CommandLaws.{isEnd-is, operation-passed, command-readable, command-passed}
 use Rattle.job.specs.laws.OrderLaws.{reaches-bounds, accepted-exactly}
@@ -73,7 +72,7 @@ module _ {job : List ℕ} {k : ℕ} {rs : List Model} {at : ℕ} (r : Reaches jo
   module _ (f : Passed (placesOf job k rs at)) where
     by-reading : readOn k onward (h .cs) c ≡ jobReading job
     unfolding placesOf
-    by-reading = sym (passing-passed reading _ _ (passed-front reading (operationPlaces c rs) f)) ∙ reads-there
+    by-reading = sym (passing-passed reading _ _ (passed-append reading (operationPlaces c rs) .0 f .0)) ∙ reads-there
 
     reached-next : isLast job k rs at ≡ false → Reached job (k + 1) (resultsAfter c rs) (nextAt job k (length rs) at)
     reached-next e = record {

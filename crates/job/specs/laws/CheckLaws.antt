@@ -8,12 +8,12 @@ use native.Mathlib.Omega.{arith}
 use lib.Dec.{leb}
 use lib.IntN.{ℤ}
 use lib.ListN.{length}
-use Rattle.model.specs.definitions.Outcomes.{Passed}
+use Rattle.model.specs.definitions.Outcomes.{Passed, First, here, later}
 use Rattle.certificate.specs.definitions.Tests.{scratchSize}
 use Rattle.model.specs.declared.types.Model.{Model}
 use Rattle.job.specs.definitions.Outcomes.{JobOutcome, accepted, refused}
 use Rattle.job.specs.definitions.Jobs.{jobOf}
-use Rattle.job.specs.definitions.Order.{First, here, later, EndsWith, Meets}
+use Rattle.job.specs.definitions.Order.{EndsWith, Meets}
 use Rattle.job.specs.laws.OrderLaws.{refused-exactly, accepted-exactly}
 use Rattle.job.specs.definitions.Work.{workSize, areaPlaces, areasFit, checkOf}
 

@@ -8,15 +8,14 @@ use native.Mathlib.Omega.{arith}
 use borrow.Author.Tests.{leb-false, ltb-false}
 use lib.Dec.{leb}
 use lib.ListN.{length}
-use Rattle.model.specs.definitions.Outcomes.{Outcome, accepted, values, passing, Passed}
-use Rattle.model.specs.laws.PlaceLaws.{passing-passed, outcome-passed}
+use Rattle.model.specs.definitions.Outcomes.{Outcome, accepted, values, passing, Passed, First}
+use Rattle.model.specs.laws.PlaceLaws.{passing-passed, outcome-passed, first-parts, passed-append, passing-first}
 use Rattle.certificate.specs.definitions.Tests.{zeroCertificate}
 use Rattle.model.specs.declared.types.Model.{Model}
 use Rattle.job.specs.definitions.Makers.{Maker, rowOf, givenIn, operation, makerPlaces}
 use Rattle.job.specs.definitions.Commands.{Command, edition, result, finish, unknown, makerAt, commandAt, shapeAt, commandRead, nextAt, maxResults, badKind, badValues, badNames, makesResult, isEnd, readingPlaces}
 use Rattle.job.specs.definitions.Jobs.{more, over, refused, resulting, performed, command}
-use Rattle.job.specs.laws.PlaceLaws.{passing-first, passed-front, passed-back, first-parts}
-use Rattle.job.specs.definitions.Order.{First, operationPlaces, resultsAfter, placesOf, isLast}
+use Rattle.job.specs.definitions.Order.{operationPlaces, resultsAfter, placesOf, isLast}
 use Rattle.job.specs.declared.types.Kind.{Kind}
 use Rattle.job.specs.declared.types.Kind.the-variants.{End, Edition, Result, Unknown}
 
@@ -110,7 +109,7 @@ module _ (job : List ℕ) (k : ℕ) (rs : List Model) (at : ℕ) where
 
   pub command-readable : Passed (placesOf job k rs at) → Readable job k (length rs) at
   unfolding placesOf
-  command-readable f = readable job k (length rs) at (passed-front reading (operationPlaces c rs) f)
+  command-readable f = readable job k (length rs) at (passed-append reading (operationPlaces c rs) .0 f .0)
 
   pub command-refuses : {n : ℕ} → First (placesOf job k rs at) n → command job k rs at ≡ refused n
   unfolding placesOf command
@@ -123,18 +122,18 @@ module _ (job : List ℕ) (k : ℕ) (rs : List Model) (at : ℕ) where
   pub command-ends : Passed (placesOf job k rs at) → isLast job k rs at ≡ true → command job k rs at ≡ over
   unfolding placesOf
   command-ends f e =
-      reads (passed-front reading (operationPlaces c rs) f)
+      reads (passed-append reading (operationPlaces c rs) .0 f .0)
       ∙ ap (λ (x : Kind). performed (commandAt x job at) rs (nextAt job k (length rs) at)) (isEnd-is kind e)
 
   pub command-goes-on : Passed (placesOf job k rs at) → isLast job k rs at ≡ false
       → command job k rs at ≡ more (resultsAfter c rs) (nextAt job k (length rs) at)
   unfolding placesOf
   command-goes-on f e =
-      reads (passed-front reading (operationPlaces c rs) f)
+      reads (passed-append reading (operationPlaces c rs) .0 f .0)
       ∙ performed-takes job k at rs (nextAt job k (length rs) at) kind e (command-readable f .kind-good)
-      (passed-back reading (operationPlaces c rs) f)
+      (passed-append reading (operationPlaces c rs) .0 f .1)
 
   -- the places of its operation alone
   pub command-passed : Passed (placesOf job k rs at) → Passed (operationPlaces c rs)
   unfolding placesOf
-  command-passed f = passed-back reading (operationPlaces c rs) f
+  command-passed f = passed-append reading (operationPlaces c rs) .0 f .1

@@ -12,10 +12,10 @@ use lib.Signed.{leZ-yes}
 use Rattle.integer.specs.laws.FractionLaws.{whole-is}
 use Rattle.integer.specs.laws.PairLaws.{den-is}
 use Rattle.integer.specs.laws.FractionOrder.{fraction-le, fraction-neg}
-use Rattle.model.specs.definitions.Outcomes.{Passed}
+use Rattle.model.specs.definitions.Outcomes.{Passed, First, here, later}
 use Rattle.model.specs.definitions.Values.{Allows, OnInterval}
 use Rattle.job.specs.definitions.Outcomes.{JobOutcome, accepted}
-use Rattle.job.specs.definitions.Order.{First, here, later, Meets}
+use Rattle.job.specs.definitions.Order.{Meets}
 use Rattle.job.specs.laws.OrderLaws.{accepted-unless-refused}
 use Rattle.job.specs.laws.Accepted.{accepted-read}
 use Rattle.job.specs.definitions.Work.{stretch, modelsIn}

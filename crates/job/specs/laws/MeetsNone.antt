@@ -8,15 +8,14 @@ use native.Mathlib.Omega.{arith}
 use lib.IntN.{ℤ}
 use lib.ListN.{length, take, length-append, List·getD-append}
 use lib.Seq.{getD-at, take-length}
-use Rattle.model.specs.definitions.Outcomes.{Outcome, Passed}
-use Rattle.model.specs.laws.PlaceLaws.{passing-passed, passing-unrefused, refused-not-accepted}
+use Rattle.model.specs.definitions.Outcomes.{Outcome, Passed, First}
+use Rattle.model.specs.laws.PlaceLaws.{passing-passed, passing-unrefused, refused-not-accepted, first-parts, passing-first}
 use Rattle.model.specs.declared.types.Model.{Model}
 use Rattle.job.specs.definitions.Makers.{Maker, makerPlaces, operation, resultAt}
 use Rattle.job.specs.definitions.Commands.{Command, edition, result, finish, unknown, commandRead, nextAt, readingPlaces}
 use Rattle.job.specs.definitions.JobReading.{JobReading, well, ill, readOn, readFrom, jobReading, commandOf}
 use Rattle.job.specs.definitions.Outcomes.{JobOutcome, accepted}
-use Rattle.job.specs.definitions.Order.{First, operationPlaces, placesOf, RefusesAt}
-use Rattle.job.specs.laws.PlaceLaws.{passing-first, first-parts}
+use Rattle.job.specs.definitions.Order.{operationPlaces, placesOf, RefusesAt}
 use Rattle.job.specs.laws.CommandLaws.{operation-refuses, nowhere}
 use Rattle.job.specs.definitions.Requirement.{Made, Requirement3}
 use Rattle.job.specs.laws.MadeLaws.{made-length, made-at, MadeBy}

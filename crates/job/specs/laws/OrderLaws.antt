@@ -9,14 +9,14 @@ use native.Mathlib.Omega.{arith}
 use borrow.Author.Tests.{leb-false}
 use lib.Dec.{leb}
 use lib.ListN.{length, length-append}
-use Rattle.model.specs.definitions.Outcomes.{values, Passed}
+use Rattle.model.specs.laws.PlaceLaws.{first-or-passed}
+use Rattle.model.specs.definitions.Outcomes.{values, Passed, First}
 use Rattle.model.specs.declared.types.Model.{Model}
 use Rattle.job.specs.definitions.Makers.{operation}
 use Rattle.job.specs.definitions.Commands.{makerAt, commandAt, shapeAt, commandRead, nextAt, maxResults, makesResult}
 use Rattle.job.specs.definitions.Outcomes.{JobOutcome, accepted, refused}
 use Rattle.job.specs.definitions.Jobs.{Step, more, over, command, onward, run, jobOf}
-use Rattle.job.specs.laws.PlaceLaws.{first-or-passed}
-use Rattle.job.specs.definitions.Order.{First, resultsAfter, placesOf, isLast, Reaches, start, next, RefusesAt, EndsWith}
+use Rattle.job.specs.definitions.Order.{resultsAfter, placesOf, isLast, Reaches, start, next, RefusesAt, EndsWith}
 use Rattle.job.specs.laws.CommandLaws.{command-readable, command-refuses, command-ends, command-goes-on}
 use Rattle.job.specs.declared.types.Kind.{Kind}
 use Rattle.job.specs.declared.types.Kind.the-variants.{End, Edition, Result, Unknown}

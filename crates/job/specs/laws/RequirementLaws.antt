@@ -6,10 +6,10 @@ use mathlib.Core.Logic.{inl, inr}
 use Prim.Native.Nat.{ℕ}
 use native.Mathlib.Omega.{arith}
 use lib.IntN.{ℤ}
-use Rattle.model.specs.definitions.Outcomes.{Passed}
+use Rattle.model.specs.laws.PlaceLaws.{passed-append}
+use Rattle.model.specs.definitions.Outcomes.{Passed, First, later}
 use Rattle.job.specs.definitions.Outcomes.{JobOutcome, refused}
-use Rattle.job.specs.definitions.Order.{First, later, Meets}
-use Rattle.job.specs.laws.PlaceLaws.{passed-both}
+use Rattle.job.specs.definitions.Order.{Meets}
 use Rattle.job.specs.definitions.Requirement.{Requirement3}
 
 -- of a job that meets a refusal and is refused nothing is claimed
@@ -29,7 +29,7 @@ first-behind (p ∷ ps) f g = later (f .0) (first-behind ps (f .1) g)
 module _ (ps : List (Bool × ℕ)) (f : Passed ps) {qs : List (Bool × ℕ)} {job : List ℕ} where
   meets-behind : {n k : ℕ} → Meets qs job n k → Meets (ps ++ qs) job n k
   meets-behind (inl m) = inl (first-behind ps f (m .0), m .1)
-  meets-behind (inr m) = inr (passed-both ps qs f (m .0), m .1)
+  meets-behind (inr m) = inr (passed-append ps qs .1 (f, m .0), m .1)
 
   pub required-behind : {answer : JobOutcome ℕ} {work : List ℤ} → Requirement3 qs job answer work → Requirement3 (ps ++ qs) job answer work
   required-behind r = record { accepts = λ h. r .accepts (λ n k m. h n k (meets-behind m)); results = r .results }

@@ -1,6 +1,6 @@
 -- What an entry answers: it accepts with its values, or refuses with a number of document 01's table "Refused, and where".
 use mathlib.Core.Path.{_≡_}
-use mathlib.Core.Bool.{Bool, false, cond}
+use mathlib.Core.Bool.{Bool, true, false, cond}
 use mathlib.Core.List.{List, [], _∷_}
 use Prim.Native.Nat.{ℕ}
 use Rattle.model.specs.declared.types.Model.{Model}
@@ -39,6 +39,11 @@ passing (p ∷ ps) a refusing = cond (p .0) (refusing (p .1)) (passing ps a refu
 abbrev pub Passed : List (Bool × ℕ) → Type 0
 Passed [] = Unit {0}
 Passed (p ∷ ps) = (p .0 ≡ false) × Passed ps
+
+-- the first place whose condition holds has number n
+pub data First : List (Bool × ℕ) → ℕ → Type 0 where
+  here : {p : Bool × ℕ} {ps : List (Bool × ℕ)} {n : ℕ} → p .0 ≡ true → p .1 ≡ n → First (p ∷ ps) n
+  later : {p : Bool × ℕ} {ps : List (Bool × ℕ)} {n : ℕ} → p .0 ≡ false → First ps n → First (p ∷ ps) n
 
 -- the outcome of an operation that passes through places; z is zero in place of the values a
 abbrev pub outcome : {A : Type 0} → List (Bool × ℕ) → A → A → Outcome A

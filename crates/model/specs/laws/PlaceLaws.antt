@@ -1,13 +1,13 @@
 -- Lists of places (Outcomes.antt): an outcome accepts exactly if no condition holds, and then has the operation's own values.
 use mathlib.Core.Path.{_≡_, refl, sym, ap}
-use mathlib.Core.Logic.{_↔_, _≢_}
+use mathlib.Core.Logic.{_↔_, _≢_, _⊎_, inl, inr}
 use mathlib.Core.Bool.{Bool, true, false, not, cond}
 use mathlib.Core.List.{List, [], _∷_, _++_}
 use Prim.Native.Nat.{ℕ}
 use native.Mathlib.Omega.{arith}
 use borrow.Author.Tests.{not-false}
 use Rattle.model.specs.definitions.Models.{good, zeroModel, badPlace}
-use Rattle.model.specs.definitions.Outcomes.{accepted, refused, number, values, outcome, passing, Passed}
+use Rattle.model.specs.definitions.Outcomes.{accepted, refused, number, values, outcome, passing, Passed, First, here, later}
 use Rattle.model.specs.definitions.Operations.{sumModel, differenceModel, productModel, addition, subtraction, multiplication}
 use Rattle.model.specs.declared.types.Model.{Model}
 
@@ -33,6 +33,24 @@ module _ {A : Type 0} where
           → cond t (r (p .1)) (passing ps a r) ≡ b → ((t ≡ false) × Passed ps) × (b ≡ a)
       pick true rest e = absurd (never (p .1) e)
       pick false rest e = let q = rest e in ((refl, q .0), q .1)
+
+-- ---- the first place that holds
+
+-- the first place that holds refuses
+pub passing-first : {A : Type 0} {ps : List (Bool × ℕ)} {n : ℕ} (a : A) (r : ℕ → A) → First ps n → passing ps a r ≡ r n
+unfolding passing
+passing-first a r (here t e) = rw (t, e)
+passing-first a r (later t f) = rw t (passing-first a r f)
+
+-- a place holds, or all are passed
+pub first-or-passed : (ps : List (Bool × ℕ)) → ((n : ℕ) × First ps n) ⊎ Passed ps
+first-or-passed [] = inr tt
+first-or-passed (p ∷ ps) = by (p .0) refl (first-or-passed ps)
+  where
+    by : (t : Bool) → p .0 ≡ t → ((n : ℕ) × First ps n) ⊎ Passed ps → ((n : ℕ) × First (p ∷ ps) n) ⊎ Passed (p ∷ ps)
+    by true e r = inl (p .1, here e refl)
+    by false e (inl f) = inl (f .0, later e (f .1))
+    by false e (inr f) = inr (e, f)
 
 -- ---- the same of outcomes
 
@@ -70,6 +88,15 @@ passed-append [] qs = (λ q. (tt, q), λ q. q .1)
 passed-append (p ∷ ps) qs =
     let rest = passed-append ps qs in
     (λ q. ((q .0, rest .0 (q .1) .0), rest .0 (q .1) .1), λ q. (q .0 .0, rest .1 (q .0 .1, q .1)))
+
+pub first-parts : (ps qs : List (Bool × ℕ)) {n : ℕ} → First (ps ++ qs) n → First ps n ⊎ (Passed ps × First qs n)
+first-parts [] qs f = inr (tt, f)
+first-parts (p ∷ ps) qs (here t e) = inl (here t e)
+first-parts (p ∷ ps) qs {n} (later t f) = by (first-parts ps qs f)
+  where
+    by : First ps n ⊎ (Passed ps × First qs n) → First (p ∷ ps) n ⊎ (Passed (p ∷ ps) × First qs n)
+    by (inl g) = inl (later t g)
+    by (inr g) = inr ((t, g .0), g .1)
 
 -- the place "not (good m)" passes
 pub not-of-true : (t : Bool) → t ≡ true → not t ≡ false
