@@ -35,9 +35,9 @@ module _ (job : List ℕ) (work scratch : List ℤ) (answer : List ℕ) where
   o = counted (checkOf job work scratch)
 
   -- the area of the answer has its numbers
-  module _ (r : CodeOutcome) {n : ℕ} {w s : List ℤ} {m : List ℕ} (long : answerSize ≤ length answer)
+  module _ (r : CodeOutcome) {n : ℕ} {m : List ℕ} (long : answerSize ≤ length answer)
       (number-is : n ≡ refusalNumber (jobOutcomeOf r)) (answer-is : m ≡ answerOver r answer) where
-    pub checked : jobOutcomeOf r ≡ o → w ≡ workAfter job work scratch → s ≡ scratchAfterJob work scratch
+    pub checked : {w s : List ℤ} → jobOutcomeOf r ≡ o → w ≡ workAfter job work scratch → s ≡ scratchAfterJob work scratch
         → jobAnswer n w s m ≡ checkAnswer job work scratch answer
     unfolding checkAnswer areaOut
     checked same ew es =
@@ -45,9 +45,9 @@ module _ (job : List ℕ) (work scratch : List ℤ) (answer : List ℕ) where
         let g = answer-is ∙ ap (λ (x : JobOutcome ℕ). (resultCount x ∷ refusedCommand x ∷ []) ++ drop answerSize answer) same in
         rw (le-leb answerSize (length answer) long) (λ k. jobAnswer (f k) (ew k) (es k) (g k))
 
-    pub required : Requirement3 (areaPlaces work scratch) job (jobOutcomeOf r) w
+    pub required : {w : List ℤ} → Requirement3 (areaPlaces work scratch) job (jobOutcomeOf r) w
         → Requirement3 (exportedPlaces work scratch answer) job (answerIn n m) w
-    required claim =
+    required {w} claim =
         subst (λ (x : JobOutcome ℕ). Requirement3 (exportedPlaces work scratch answer) job x w)
         (sym ((λ k. answerIn (number-is k) (answer-is k)) ∙ answer-means r answer))
         (required-behind (_ ∷ []) (ap not (le-leb answerSize (length answer) long), tt) claim)

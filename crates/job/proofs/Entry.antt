@@ -19,7 +19,7 @@ use Rattle.job.specs.Work.{workSize, workOf, areaPlaces, areasFit, check
 use Rattle.job.specs.CheckLaws.{areas-fit, areas-short}
 use Rattle.job.specs.Requirement.{Requirement3}
 use Rattle.job.specs.RequirementLaws.{refused-required, required-behind}
-use Rattle.job.specs.Steps.{Clear}
+use Rattle.job.specs.InnerContracts.{Clear}
 use Rattle.job.specs.declared.types.JobOutcome.{JobOutcome as CodeOutcome}
 use Rattle.job.specs.declared.types.JobOutcome.the-variants.{Refused}
 use Rattle.job.proofs.Loop.{Ran}

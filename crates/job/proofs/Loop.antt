@@ -16,7 +16,7 @@ use Rattle.job.specs.Jobs.{Step, more, over, command, jobOf}
 use Rattle.job.specs.Work.{workSize, workOf, stretches, resultsOf}
 use Rattle.job.specs.Order.{Reaches, start}
 use Rattle.job.specs.OrderLaws.{reaches-bounds, stops-there, ends-there, moves-on, refused-exactly}
-use Rattle.job.specs.Steps.{Holds, Stepped}
+use Rattle.job.specs.InnerContracts.{Holds, Stepped}
 use Rattle.job.specs.declared.types.Step.the-variants.{More, Over, Refused as Stopped}
 use Rattle.job.specs.declared.types.JobOutcome.{JobOutcome as CodeOutcome}
 use Rattle.job.specs.declared.types.JobOutcome.the-variants.{Accepted, Refused}

@@ -21,7 +21,7 @@ use Rattle.model.specs.declared.types.Verdict.the-variants.{Accepted, Refused}
 use Rattle.job.specs.Makers.{Maker, untested, resultAt, namesBad, operation}
 use Rattle.job.specs.CommandLaws.{both-below}
 use Rattle.job.specs.Work.{stretch}
-use Rattle.job.specs.Steps.{Holds, untestedOutcome, Performs}
+use Rattle.job.specs.InnerContracts.{Holds, untestedOutcome, Performs}
 use Rattle.job.proofs.Results.{result-held}
 
 -- an outcome that is p

@@ -18,7 +18,7 @@ use Rattle.job.specs.Outcomes.{accepted}
 use Rattle.job.specs.Jobs.{jobOf}
 use Rattle.job.specs.JobReading.{commandOf}
 use Rattle.job.specs.Work.{stretch}
-use Rattle.job.specs.Steps.{Holds}
+use Rattle.job.specs.InnerContracts.{Holds}
 use Rattle.job.specs.CommandLaws.{both-below}
 use Rattle.job.specs.Requirement.{Overlaps, Made, Results, Requirement3}
 use Rattle.job.specs.MadeLaws.{made-maker}

@@ -15,7 +15,7 @@ use Rattle.model.specs.declared.types.Model.{Model}
 use Rattle.job.specs.Commands.{maxResults}
 use Rattle.job.specs.Makers.{resultAt}
 use Rattle.job.specs.Work.{workSize, stretch, modelsIn, stretches, workOf, storedAt}
-use Rattle.job.specs.Steps.{Sized, Holds}
+use Rattle.job.specs.InnerContracts.{Sized, Holds}
 
 length-stretches : (rs : List Model) → Sized rs → length (stretches rs) ≡ modelSize * length rs
 unfolding stretches

@@ -18,7 +18,7 @@ use Rattle.job.specs.Order.{First}
 use Rattle.job.specs.PlaceLaws.{passing-first, first-or-passed}
 use Rattle.job.specs.CommandLaws.{both-below, Readable, readable}
 use Rattle.job.specs.Work.{workSize}
-use Rattle.job.specs.Steps.{Performable}
+use Rattle.job.specs.InnerContracts.{Performable}
 use Rattle.job.specs.declared.types.Kind.{Kind}
 
 -- ---- what a reading says of the command

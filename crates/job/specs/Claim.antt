@@ -17,7 +17,7 @@ use Rattle.model.specs.declared.types.Model.{Model}
 use Rattle.job.specs.Makers.{Maker, load, add, subtract, multiply, quotient, root, resultAt, operation}
 use Rattle.job.specs.Commands.{Command, result}
 use Rattle.job.specs.JobReading.{commandOf}
-use Rattle.job.specs.Steps.{untestedOutcome}
+use Rattle.job.specs.InnerContracts.{untestedOutcome}
 use Rattle.job.specs.MakerLaws.{untested-accepted, loading-same, load-operation, add-operation, subtract-operation, multiply-operation, quotient-operation, root-operation}
 use Rattle.job.specs.MadeLaws.{MadeFrom, made-maker}
 use Rattle.job.specs.Requirement.{Made, Box, Permitted, load-box, add-box, subtract-box, multiply-box, quotient-box, root-box, Overlaps}

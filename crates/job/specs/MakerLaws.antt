@@ -9,7 +9,7 @@ use Rattle.model.specs.PlaceLaws.{refused-not-accepted, outcome-accepted}
 use Rattle.model.specs.Operations.{loadingPlaces, loading, addition, subtraction, multiplication}
 use Rattle.certificate.specs.Tests.{scratchSize, Certificate, zeroCertificate, quotientOf, RootRule, byDiscriminant, rootOf}
 use Rattle.model.specs.declared.types.Model.{Model}
-use Rattle.job.specs.Steps.{untestedOutcome}
+use Rattle.job.specs.InnerContracts.{untestedOutcome}
 use Rattle.job.specs.Makers.{Maker, load, add, subtract, multiply, quotient, root, untested, resultAt, makerPlaces, operation}
 
 pub untested-accepted : (o : Outcome Model) {c : Certificate} → untestedOutcome o ≡ accepted c → o ≡ accepted (c .model)

@@ -9,7 +9,7 @@ ghost use Rattle.certificate.specs.Tests.{testOf};
 ghost use Rattle.job.specs.Bytes.{byteAt};
 ghost use Rattle.job.specs.Commands.{keptByte, maxResults, makerAt};
 ghost use Rattle.job.specs.Work.{workSize, stretch};
-ghost use Rattle.job.specs.Steps.{untestedOutcome, Performs, Operable, NamesTwo, Clear};
+ghost use Rattle.job.specs.InnerContracts.{untestedOutcome, Performs, Operable, NamesTwo, Clear};
 use crate::bytes::read_candidate;
 use crate::bytes::read_model;
 use crate::bytes::read_unsigned;

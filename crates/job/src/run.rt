@@ -7,7 +7,7 @@ ghost use Rattle.job.specs.Outcomes.{jobOutcomeOf, counted};
 ghost use Rattle.job.specs.Jobs.{jobOf};
 ghost use Rattle.integer.specs.Lists.{zeros};
 ghost use Rattle.job.specs.Work.{workSize, workOf, areaPlaces, resultsOf, checkOf, workAfter, scratchAfterJob};
-ghost use Rattle.job.specs.Steps.{Clear};
+ghost use Rattle.job.specs.InnerContracts.{Clear};
 ghost use Rattle.job.specs.Requirement.{Requirement3};
 use crate::step::step;
 use crate::types::JobOutcome;

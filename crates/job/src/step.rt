@@ -7,7 +7,7 @@ ghost use Rattle.model.specs.Areas.{Storable};
 ghost use Rattle.job.specs.Commands.{maxResults, commandAt};
 ghost use Rattle.job.specs.Jobs.{resulting, performed, command};
 ghost use Rattle.job.specs.Work.{workSize};
-ghost use Rattle.job.specs.Steps.{StepsBy, Performable, Clear};
+ghost use Rattle.job.specs.InnerContracts.{StepsBy, Performable, Clear};
 use crate::operations::operate;
 use crate::reader::read_next;
 use crate::types::CommandReading;

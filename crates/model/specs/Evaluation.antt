@@ -4,11 +4,16 @@ use mathlib.Core.List.{List, [], _∷_}
 use Prim.Native.Nat.{ℕ, zero, suc, _+_, _*_, _-_, _^_}
 use lib.Dec.{ltb}
 use lib.IntN.{ℤ, pos, natAbs, _+ℤ_, _-ℤ_, _*ℤ_}
+use Rattle.integer.specs.Fraction.{ℚ, _/1+_}
 use Rattle.integer.specs.Rounding.{floor, up, near}
 use Rattle.model.specs.Models.{scale, terms, badPlace}
 use Rattle.model.specs.Outcomes.{Outcome, outcome, judged}
 use Rattle.model.specs.declared.types.Model.{Model}
 use Rattle.model.specs.declared.types.BoundsOutcome.{BoundsOutcome}
+
+-- "Evaluate at p/S"
+abbrev pub point : ℤ → ℚ
+point p = p /1+ (scale - 1)
 
 -- "t_0 = 2^30, t_1 = 2^10·p, t_(k+2) = near(2·p·t_(k+1)/S) − t_k"
 unfoldable pub pointTerm : ℤ → ℕ → ℤ

@@ -22,11 +22,7 @@ use Rattle.chebyshev.specs.RecurrenceLaws.{first-bound}
 use Rattle.chebyshev.specs.Perturbed.{perturbed-uniform}
 use Rattle.integer.specs.Parts as Parts
 use Rattle.model.specs.Models.{scale}
-use Rattle.model.specs.Evaluation.{pointTerm}
-
--- the point p/S
-abbrev pub point : ℤ → ℚ
-point p = p /1+ (scale - 1)
+use Rattle.model.specs.Evaluation.{point, pointTerm}
 
 point-scale : (p : ℤ) → point p *ℚ whole (pos scale) ≡ whole p
 point-scale p = ap (λ d. point p *ℚ whole d) (sym (den-is (scale - 1))) ∙ fraction-num p (scale - 1)

@@ -21,11 +21,11 @@ use Rattle.chebyshev.specs.Coefficients.{valueFrom, value}
 use Rattle.chebyshev.specs.Allows.{allows}
 use Rattle.model.specs.Models.{scale, terms, good}
 use Rattle.model.specs.GoodLaws.{value-terms}
-use Rattle.model.specs.Evaluation.{pointTerm, pointSum, pointError, lowBound, highBound, Bounds, zeroBounds, evaluationPlaces, evaluation}
+use Rattle.model.specs.Evaluation.{point, pointTerm, pointSum, pointError, lowBound, highBound, Bounds, zeroBounds, evaluationPlaces, evaluation}
 use Rattle.model.specs.Outcomes.{accepted}
 use Rattle.model.specs.Values.{position, AllowsAt, Allows}
 use Rattle.model.specs.PlaceLaws.{outcome-accepted}
-use Rattle.model.specs.EvaluationError.{point, term-error}
+use Rattle.model.specs.EvaluationError.{term-error}
 use Rattle.model.specs.declared.types.Model.{Model}
 
 -- ---- |x − y| ≤ w as two inequalities

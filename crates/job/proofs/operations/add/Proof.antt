@@ -7,7 +7,7 @@ use Rattle.model.specs.Operations.{addition}
 use Rattle.model.specs.ResultLaws.{addition-storable}
 use Rattle.job.specs.Bytes.{byteAt}
 use Rattle.job.specs.Commands.{makerAt}
-use Rattle.job.specs.Steps.{untestedOutcome}
+use Rattle.job.specs.InnerContracts.{untestedOutcome}
 use Rattle.job.specs.MakerLaws.{add-operation}
 use Rattle.job.proofs.OperationLaws.{performs-untested, held-two}
 use borrow.Author.Needs.{needs}

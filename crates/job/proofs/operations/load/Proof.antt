@@ -6,7 +6,7 @@ use denote.Ref.{now}
 use Rattle.model.specs.Operations.{loading}
 use Rattle.job.specs.Bytes.{blockAt, unsignedAt}
 use Rattle.job.specs.Commands.{makerAt}
-use Rattle.job.specs.Steps.{untestedOutcome}
+use Rattle.job.specs.InnerContracts.{untestedOutcome}
 use Rattle.job.specs.MakerLaws.{load-operation}
 use Rattle.job.proofs.OperationLaws.{performs-untested, loading-storable}
 use Rattle.job.proofs.operations.load.Statement.{statement}

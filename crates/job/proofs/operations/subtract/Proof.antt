@@ -7,7 +7,7 @@ use Rattle.model.specs.Operations.{subtraction}
 use Rattle.model.specs.ResultLaws.{subtraction-storable}
 use Rattle.job.specs.Bytes.{byteAt}
 use Rattle.job.specs.Commands.{makerAt}
-use Rattle.job.specs.Steps.{untestedOutcome}
+use Rattle.job.specs.InnerContracts.{untestedOutcome}
 use Rattle.job.specs.MakerLaws.{subtract-operation}
 use Rattle.job.proofs.OperationLaws.{performs-untested, held-two}
 use borrow.Author.Needs.{needs}

@@ -10,7 +10,7 @@ use denote.Ref.{now}
 use Rattle.model.specs.declared.types.Model.{Model}
 use Rattle.job.specs.Jobs.{Step, command}
 use Rattle.job.specs.Work.{workSize}
-use Rattle.job.specs.Steps.{Stepped, Clear}
+use Rattle.job.specs.InnerContracts.{Stepped, Clear}
 use Rattle.job.specs.declared.types.Step.{Step as CodeStep}
 use Rattle.job.proofs.Loop.{Going, going-begins, going-again, going-ends, going-stops}
 use Rattle.job.proofs.run.run.Statement.{statement}

@@ -12,7 +12,7 @@ use Rattle.model.specs.declared.types.Verdict.the-variants.{Accepted}
 use Rattle.certificate.specs.Tests.{Certificate, makeCertificate}
 use Rattle.certificate.specs.declared.types.TestOutcome.{TestOutcome}
 use Rattle.job.specs.Jobs.{more, resulting}
-use Rattle.job.specs.Steps.{Holds, Stepped}
+use Rattle.job.specs.InnerContracts.{Holds, Stepped}
 use Rattle.job.specs.declared.types.Step.the-variants.{More, Refused}
 use Rattle.job.proofs.Results.{holds-all, stored-holds}
 use borrow.Author.Needs.{needs}

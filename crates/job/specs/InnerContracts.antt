@@ -1,4 +1,5 @@
--- One command of the code: what it answers, and what the work area holds before and after.
+-- What inner functions ask of their callers and answer to them: one command of the code, what it answers, and what the work area
+-- holds before and after. The contract of the entry does not speak of this.
 use mathlib.Core.Path.{_≡_}
 use mathlib.Core.Bool.{false, _&&_, _||_}
 use mathlib.Core.List.{List, [], _∷_, _++_}
