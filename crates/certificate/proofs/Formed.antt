@@ -7,18 +7,18 @@ use native.Mathlib.Nat.{mul-le-mul}
 use lib.IntN.{ℤ}
 use lib.ListN.{length, take, drop}
 use lib.Seq.{length-take-le}
-use Rattle.integer.specs.Integer.{ℤ-ring}
-use Rattle.integer.specs.Lists.{zeros}
-use Rattle.integer.specs.Clearing.{length-zeros}
-use Rattle.chebyshev.specs.Coefficients.{weight}
-use Rattle.chebyshev.specs.Weight.{weight-zeros, weight-take}
-use Rattle.chebyshev.specs.Product.{addRows, product}
-use Rattle.chebyshev.specs.ProductLaws.{length-product}
-use Rattle.chebyshev.specs.ProductWeight.{weight-product}
-use Rattle.model.specs.Models.{productSize}
-use Rattle.certificate.specs.Tests.{scratchSize, scratchAfter}
-use Rattle.certificate.specs.InnerContracts.{Lent, FactorsUpTo, productUpTo}
-use Rattle.certificate.specs.Stages.{scratch-cleared}
+use Rattle.integer.specs.definitions.Integer.{ℤ-ring}
+use Rattle.integer.specs.definitions.Lists.{zeros}
+use Rattle.integer.specs.laws.Clearing.{length-zeros}
+use Rattle.chebyshev.specs.definitions.Coefficients.{weight}
+use Rattle.chebyshev.specs.laws.Weight.{weight-zeros, weight-take}
+use Rattle.chebyshev.specs.definitions.Product.{addRows, product}
+use Rattle.chebyshev.specs.laws.ProductLaws.{length-product}
+use Rattle.chebyshev.specs.laws.ProductWeight.{weight-product}
+use Rattle.model.specs.definitions.Models.{productSize}
+use Rattle.certificate.specs.definitions.Tests.{scratchSize, scratchAfter}
+use Rattle.certificate.specs.definitions.InnerContracts.{Lent, FactorsUpTo, productUpTo}
+use Rattle.certificate.specs.laws.Stages.{scratch-cleared}
 
 module _ {part : List ℤ} (l : Lent part) where
   pub weight-lent : weight part ≡ 0

@@ -7,14 +7,14 @@ use native.Mathlib.Omega.{arith}
 use native.Mathlib.Nat.{mul-le-mul}
 use lib.IntN.{ℤ, natAbs}
 use lib.ListN.{length}
-use Rattle.chebyshev.specs.Coefficients.{weight}
-use Rattle.model.specs.Models.{coefficientCount, good}
-use Rattle.model.specs.ModelLaws.{good-is}
-use Rattle.model.specs.Operations.{productList}
-use Rattle.model.specs.GoodLaws.{weight-productList}
+use Rattle.chebyshev.specs.definitions.Coefficients.{weight}
+use Rattle.model.specs.definitions.Models.{coefficientCount, good}
+use Rattle.model.specs.laws.ModelLaws.{good-is}
+use Rattle.model.specs.definitions.Operations.{productList}
+use Rattle.model.specs.laws.GoodLaws.{weight-productList}
 use Rattle.model.specs.declared.types.Model.{Model}
-use Rattle.certificate.specs.InnerContracts.{residualList, constantResidual, FactorsUpTo, Ready}
-use Rattle.certificate.specs.ResidualLaws.{weight-residual, weight-constant-le}
+use Rattle.certificate.specs.definitions.InnerContracts.{residualList, constantResidual, FactorsUpTo, Ready}
+use Rattle.certificate.specs.laws.ResidualLaws.{weight-residual, weight-constant-le}
 
 module _ {part : List ℤ} {a b : Model} (r : Ready part a b) where
   pub factors : length (a .coefficients) ≡ coefficientCount → length (b .coefficients) ≡ coefficientCount

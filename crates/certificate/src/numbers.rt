@@ -2,11 +2,11 @@
 ghost use mathlib.Core.Path.{_≡_};
 ghost use mathlib.Core.Bool.{true};
 ghost use Prim.Native.Nat.{_+_, _*_, _-_, _≤_, _<_, _^_};
-ghost use Rattle.integer.specs.Rounding.{upℕ};
-ghost use Rattle.chebyshev.specs.Coefficients.{weight as weightOf};
-ghost use Rattle.model.specs.Models.{scale, maxWeight, maxRadius, good, candidateModel};
-ghost use Rattle.certificate.specs.Tests.{quotientContraction, quotientResidual, rootContraction, rootResidual};
-ghost use Rattle.certificate.specs.InnerContracts.{Lent, Ready};
+ghost use Rattle.integer.specs.definitions.Rounding.{upℕ};
+ghost use Rattle.chebyshev.specs.definitions.Coefficients.{weight as weightOf};
+ghost use Rattle.model.specs.definitions.Models.{scale, maxWeight, maxRadius, good, candidateModel};
+ghost use Rattle.certificate.specs.definitions.Tests.{quotientContraction, quotientResidual, rootContraction, rootResidual};
+ghost use Rattle.certificate.specs.definitions.InnerContracts.{Lent, Ready};
 use crate::residual::constant_residual;
 use crate::residual::product_residual;
 use integer::rounding::up_unsigned;

@@ -1,10 +1,10 @@
 // The quotient test: is h a quotient f/g, with w as a helper?
 ghost use mathlib.Core.Path.{_≡_};
 ghost use lib.ListN.{length};
-ghost use Rattle.chebyshev.specs.Coefficients.{weight};
-ghost use Rattle.model.specs.Models.{candidateModel};
-ghost use Rattle.certificate.specs.Tests.{scratchSize, scratchAfter, testOf, quotientTest};
-ghost use Rattle.certificate.specs.InnerContracts.{Lent, QuotientReady};
+ghost use Rattle.chebyshev.specs.definitions.Coefficients.{weight};
+ghost use Rattle.model.specs.definitions.Models.{candidateModel};
+ghost use Rattle.certificate.specs.definitions.Tests.{scratchSize, scratchAfter, testOf, quotientTest};
+ghost use Rattle.certificate.specs.definitions.InnerContracts.{Lent, QuotientReady};
 use crate::numbers::SCALE;
 use crate::numbers::displacement;
 use crate::numbers::quotient_contraction;

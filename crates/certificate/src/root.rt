@@ -1,10 +1,10 @@
 // The root test: is h a square root of f, with w as a helper?
 ghost use mathlib.Core.Path.{_≡_};
 ghost use lib.ListN.{length};
-ghost use Rattle.chebyshev.specs.Coefficients.{weight as weightOf, coefficientSum};
-ghost use Rattle.model.specs.Models.{coefficientCount, candidateModel};
-ghost use Rattle.certificate.specs.Tests.{scratchSize, scratchAfter, testOf, rootTest};
-ghost use Rattle.certificate.specs.InnerContracts.{Lent, RootReady, RootLast, reachOf, numbersOutcome, rootEnd};
+ghost use Rattle.chebyshev.specs.definitions.Coefficients.{weight as weightOf, coefficientSum};
+ghost use Rattle.model.specs.definitions.Models.{coefficientCount, candidateModel};
+ghost use Rattle.certificate.specs.definitions.Tests.{scratchSize, scratchAfter, testOf, rootTest};
+ghost use Rattle.certificate.specs.definitions.InnerContracts.{Lent, RootReady, RootLast, reachOf, numbersOutcome, rootEnd};
 use crate::numbers::SCALE;
 use crate::numbers::displacement;
 use crate::numbers::root_contraction;

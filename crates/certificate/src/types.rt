@@ -1,10 +1,10 @@
 // What a test answers.
 ghost use mathlib.Core.Path.{_≡_};
 ghost use mathlib.Core.Bool.{true};
-ghost use Rattle.model.specs.Models.{good, candidateModel};
-ghost use Rattle.model.specs.Outcomes.{numberOf};
-ghost use Rattle.certificate.specs.Tests.{withRadius, testOf};
-ghost use Rattle.certificate.specs.InnerContracts.{refusedTest, passedTest, formedTest};
+ghost use Rattle.model.specs.definitions.Models.{good, candidateModel};
+ghost use Rattle.model.specs.definitions.Outcomes.{numberOf};
+ghost use Rattle.certificate.specs.definitions.Tests.{withRadius, testOf};
+ghost use Rattle.certificate.specs.definitions.InnerContracts.{refusedTest, passedTest, formedTest};
 use model::types::Candidate;
 use model::types::Model;
 use model::types::PRODUCT_SIZE;

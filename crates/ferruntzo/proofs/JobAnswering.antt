@@ -9,17 +9,17 @@ use native.Mathlib.Omega.{arith}
 use borrow.Author.Tests.{le-leb, lt-leb, ne-eqb}
 use lib.IntN.{ℤ}
 use lib.ListN.{length, drop}
-use Rattle.model.specs.Outcomes.{numberOf}
-use Rattle.model.specs.OutcomeLaws.{numberOf-positive}
-use Rattle.job.specs.Outcomes.{JobOutcome, jobOutcomeOf, counted, refusalNumber, refusedCommand, resultCount}
-use Rattle.job.specs.Work.{areaPlaces, checkOf, workAfter, scratchAfterJob}
-use Rattle.job.specs.Order.{here}
-use Rattle.job.specs.Requirement.{Requirement3}
-use Rattle.job.specs.RequirementLaws.{refused-required, required-behind}
+use Rattle.model.specs.definitions.Outcomes.{numberOf}
+use Rattle.model.specs.laws.OutcomeLaws.{numberOf-positive}
+use Rattle.job.specs.definitions.Outcomes.{JobOutcome, jobOutcomeOf, counted, refusalNumber, refusedCommand, resultCount}
+use Rattle.job.specs.definitions.Work.{areaPlaces, checkOf, workAfter, scratchAfterJob}
+use Rattle.job.specs.definitions.Order.{here}
+use Rattle.job.specs.definitions.Requirement.{Requirement3}
+use Rattle.job.specs.laws.RequirementLaws.{refused-required, required-behind}
 use Rattle.job.specs.declared.types.JobOutcome.{JobOutcome as CodeOutcome}
 use Rattle.job.specs.declared.types.JobOutcome.the-variants.{Accepted, Refused}
-use Rattle.ferruntzo.specs.Answers.{areaOut}
-use Rattle.ferruntzo.specs.JobAnswers.{answerSize, jobAnswer, checkAnswer, answerIn, exportedPlaces}
+use Rattle.ferruntzo.specs.definitions.Answers.{areaOut}
+use Rattle.ferruntzo.specs.definitions.JobAnswers.{answerSize, jobAnswer, checkAnswer, answerIn, exportedPlaces}
 
 -- the numbers of an answer, in an area that has room for them
 abbrev pub answerOver : CodeOutcome → List ℕ → List ℕ

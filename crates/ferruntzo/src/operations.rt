@@ -1,13 +1,13 @@
 // Add, subtract, multiply, integrate and evaluate over lent areas. Each answers and writes what the definition gives for the
 // models that the areas hold; if an area is too short, refusal 1 and zeros.
 ghost use mathlib.Core.Path.{_≡_};
-ghost use Rattle.model.specs.Outcomes.{outcomeOf};
-ghost use Rattle.model.specs.Areas.{Storable};
-ghost use Rattle.model.specs.Operations.{addition, subtraction, multiplication};
-ghost use Rattle.model.specs.Integral.{integration};
-ghost use Rattle.model.specs.Evaluation.{boundsOf};
-ghost use Rattle.ferruntzo.specs.Answers.{operationOf, shortOutcome, outcomeIn, operationAnswer, binaryAnswer, unaryAnswer};
-ghost use Rattle.ferruntzo.specs.Answers.{boundsIn, evaluationAnswer, evaluateAnswer};
+ghost use Rattle.model.specs.definitions.Outcomes.{outcomeOf};
+ghost use Rattle.model.specs.definitions.Areas.{Storable};
+ghost use Rattle.model.specs.definitions.Operations.{addition, subtraction, multiplication};
+ghost use Rattle.model.specs.definitions.Integral.{integration};
+ghost use Rattle.model.specs.definitions.Evaluation.{boundsOf};
+ghost use Rattle.ferruntzo.specs.definitions.Answers.{operationOf, shortOutcome, outcomeIn, operationAnswer, binaryAnswer, unaryAnswer};
+ghost use Rattle.ferruntzo.specs.definitions.Answers.{boundsIn, evaluationAnswer, evaluateAnswer};
 use crate::areas::BOUNDS_SIZE;
 use crate::areas::model_in;
 use crate::areas::store_bounds;

@@ -8,11 +8,11 @@ use lib.Signed.{_<ℤ_, quotZ, remZ}
 use mir.Syntax.{w64}
 use mir.Val.{SFits, toZ, ofZ}
 use mir.Facts.{toZ-ofZ}
-use Rattle.integer.specs.Parts.{_⁺, _⁻, abs, apart, sum, difference}
-use Rattle.integer.specs.Difference.{all3, differences}
-use Rattle.integer.specs.Machine.{fits, within, is-positive, positive-bits, Truncated, truncated}
-use Rattle.integer.specs.Rounding.{floor, up, near}
-use Rattle.integer.specs.RoundingLaws.{floor-left, up-left, near-left}
+use Rattle.integer.specs.laws.Parts.{_⁺, _⁻, abs, apart, sum, difference}
+use Rattle.integer.specs.laws.Difference.{all3, differences}
+use Rattle.integer.specs.laws.Machine.{fits, within, is-positive, positive-bits, Truncated, truncated}
+use Rattle.integer.specs.definitions.Rounding.{floor, up, near}
+use Rattle.integer.specs.laws.RoundingLaws.{floor-left, up-left, near-left}
 
 -- ---- the truncated quotient q and remainder r: the code takes q, q − 1 or q + 1 by what its tests say of r
 

@@ -2,7 +2,7 @@ ghost use mathlib.Core.Path.{_≡_};
 ghost use Prim.Native.Nat.{_<_};
 ghost use lib.IntN.{pos, natAbs};
 ghost use lib.Signed.{_<ℤ_};
-ghost use Rattle.integer.specs.Rounding.{floor as floorOf, up as upOf, upℕ, near as nearOf};
+ghost use Rattle.integer.specs.definitions.Rounding.{floor as floorOf, up as upOf, upℕ, near as nearOf};
 
 // n / d rounded down, for every n.
 pub fn floor(n: i64, d: i64) -> i64

@@ -9,17 +9,17 @@ use lib.IntN.{ℤ}
 use lib.ListN.{length, drop}
 use lib.Seq.{drop-at}
 use Rattle.model.specs.declared.types.Refusal.the-variants.{ShortArea}
-use Rattle.certificate.specs.Tests.{scratchSize}
-use Rattle.certificate.specs.Stages.{scratch-cleared}
-use Rattle.integer.specs.Lists.{zeros}
-use Rattle.integer.specs.Clearing.{length-zeros}
-use Rattle.job.specs.Outcomes.{jobOutcomeOf, counted}
-use Rattle.job.specs.Jobs.{jobOf}
-use Rattle.job.specs.Work.{workSize, workOf, areaPlaces, areasFit, checkOf, workAfter, scratchAfterJob, resultsOf}
-use Rattle.job.specs.CheckLaws.{areas-fit, areas-short}
-use Rattle.job.specs.Requirement.{Requirement3}
-use Rattle.job.specs.RequirementLaws.{refused-required, required-behind}
-use Rattle.job.specs.InnerContracts.{Clear}
+use Rattle.certificate.specs.definitions.Tests.{scratchSize}
+use Rattle.certificate.specs.laws.Stages.{scratch-cleared}
+use Rattle.integer.specs.definitions.Lists.{zeros}
+use Rattle.integer.specs.laws.Clearing.{length-zeros}
+use Rattle.job.specs.definitions.Outcomes.{jobOutcomeOf, counted}
+use Rattle.job.specs.definitions.Jobs.{jobOf}
+use Rattle.job.specs.definitions.Work.{workSize, workOf, areaPlaces, areasFit, checkOf, workAfter, scratchAfterJob, resultsOf}
+use Rattle.job.specs.laws.CheckLaws.{areas-fit, areas-short}
+use Rattle.job.specs.definitions.Requirement.{Requirement3}
+use Rattle.job.specs.laws.RequirementLaws.{refused-required, required-behind}
+use Rattle.job.specs.definitions.InnerContracts.{Clear}
 use Rattle.job.specs.declared.types.JobOutcome.{JobOutcome as CodeOutcome}
 use Rattle.job.specs.declared.types.JobOutcome.the-variants.{Refused}
 use Rattle.job.proofs.Loop.{Ran}

@@ -6,22 +6,22 @@ use Prim.Native.Nat.{ℕ, _+_, _≤_, _<_}
 use native.Mathlib.Omega.{arith}
 use lib.IntN.{ℤ}
 use lib.ListN.{length, drop}
-use Rattle.model.specs.Outcomes.{numberOf}
-use Rattle.integer.specs.Lists.{zeros}
+use Rattle.model.specs.definitions.Outcomes.{numberOf}
+use Rattle.integer.specs.definitions.Lists.{zeros}
 use Rattle.model.specs.declared.types.Model.{Model}
 use Rattle.model.specs.declared.types.Refusal.{Refusal}
-use Rattle.job.specs.Commands.{maxResults}
-use Rattle.job.specs.Outcomes.{accepted, refused, jobOutcomeOf, counted}
-use Rattle.job.specs.Jobs.{Step, more, over, command, jobOf}
-use Rattle.job.specs.Work.{workSize, workOf, stretches, resultsOf}
-use Rattle.job.specs.Order.{Reaches, start}
-use Rattle.job.specs.OrderLaws.{reaches-bounds, stops-there, ends-there, moves-on, refused-exactly}
-use Rattle.job.specs.InnerContracts.{Holds, Stepped}
+use Rattle.job.specs.definitions.Commands.{maxResults}
+use Rattle.job.specs.definitions.Outcomes.{accepted, refused, jobOutcomeOf, counted}
+use Rattle.job.specs.definitions.Jobs.{Step, more, over, command, jobOf}
+use Rattle.job.specs.definitions.Work.{workSize, workOf, stretches, resultsOf}
+use Rattle.job.specs.definitions.Order.{Reaches, start}
+use Rattle.job.specs.laws.OrderLaws.{reaches-bounds, stops-there, ends-there, moves-on, refused-exactly}
+use Rattle.job.specs.definitions.InnerContracts.{Holds, Stepped}
 use Rattle.job.specs.declared.types.Step.the-variants.{More, Over, Refused as Stopped}
 use Rattle.job.specs.declared.types.JobOutcome.{JobOutcome as CodeOutcome}
 use Rattle.job.specs.declared.types.JobOutcome.the-variants.{Accepted, Refused}
-use Rattle.job.specs.Requirement.{Requirement3}
-use Rattle.job.specs.RequirementLaws.{refused-required}
+use Rattle.job.specs.definitions.Requirement.{Requirement3}
+use Rattle.job.specs.laws.RequirementLaws.{refused-required}
 use Rattle.job.proofs.Results.{behind}
 use Rattle.job.proofs.Requirement.{requirement}
 

@@ -6,22 +6,22 @@ use Prim.Native.Nat.{ℕ}
 use borrow.Author.Tests.{leb-false, not-false}
 use lib.Dec.{leb}
 use lib.IntN.{ℤ}
-use Rattle.model.specs.Models.{good, zeroModel}
-use Rattle.model.specs.Outcomes.{Outcome, accepted, refused, values, judged}
-use Rattle.model.specs.Operations.{loadingPlaces, loading}
-use Rattle.model.specs.ModelLaws.{good-is}
-use Rattle.model.specs.Areas.{Storable}
-use Rattle.model.specs.ResultLaws.{outcome-values, zero-storable}
-use Rattle.model.specs.OutcomeLaws.{values-judged}
-use Rattle.certificate.specs.Tests.{Certificate, testOf}
+use Rattle.model.specs.definitions.Models.{good, zeroModel}
+use Rattle.model.specs.definitions.Outcomes.{Outcome, accepted, refused, values, judged}
+use Rattle.model.specs.definitions.Operations.{loadingPlaces, loading}
+use Rattle.model.specs.laws.ModelLaws.{good-is}
+use Rattle.model.specs.definitions.Areas.{Storable}
+use Rattle.model.specs.laws.ResultLaws.{outcome-values, zero-storable}
+use Rattle.model.specs.laws.OutcomeLaws.{values-judged}
+use Rattle.certificate.specs.definitions.Tests.{Certificate, testOf}
 use Rattle.certificate.specs.declared.types.TestOutcome.{TestOutcome}
 use Rattle.model.specs.declared.types.Model.{Model}
 use Rattle.model.specs.declared.types.Verdict.{Verdict}
 use Rattle.model.specs.declared.types.Verdict.the-variants.{Accepted, Refused}
-use Rattle.job.specs.Makers.{Maker, untested, resultAt, namesBad, operation}
-use Rattle.job.specs.CommandLaws.{both-below}
-use Rattle.job.specs.Work.{stretch}
-use Rattle.job.specs.InnerContracts.{Holds, untestedOutcome, Performs}
+use Rattle.job.specs.definitions.Makers.{Maker, untested, resultAt, namesBad, operation}
+use Rattle.job.specs.laws.CommandLaws.{both-below}
+use Rattle.job.specs.definitions.Work.{stretch}
+use Rattle.job.specs.definitions.InnerContracts.{Holds, untestedOutcome, Performs}
 use Rattle.job.proofs.Results.{result-held}
 
 -- an outcome that is p

@@ -7,23 +7,23 @@ use native.Mathlib.Omega.{arith}
 use borrow.Author.Tests.{leb-false}
 use lib.IntN.{ℤ}
 use lib.ListN.{length}
-use Rattle.integer.specs.OrderedRingLaws.{lt-le}
-use Rattle.integer.specs.Fraction.{ℚ}
-use Rattle.integer.specs.FractionOrder.{ℚ-ordered}
-use Rattle.model.specs.Values.{Allows}
+use Rattle.integer.specs.laws.OrderedRingLaws.{lt-le}
+use Rattle.integer.specs.definitions.Fraction.{ℚ}
+use Rattle.integer.specs.laws.FractionOrder.{ℚ-ordered}
+use Rattle.model.specs.definitions.Values.{Allows}
 use Rattle.model.specs.declared.types.Model.{Model}
-use Rattle.job.specs.Makers.{Maker, quotient, root, resultAt, namesBad}
-use Rattle.job.specs.Commands.{Command, result}
-use Rattle.job.specs.Outcomes.{accepted}
-use Rattle.job.specs.Jobs.{jobOf}
-use Rattle.job.specs.JobReading.{commandOf}
-use Rattle.job.specs.Work.{stretch}
-use Rattle.job.specs.InnerContracts.{Holds}
-use Rattle.job.specs.CommandLaws.{both-below}
-use Rattle.job.specs.Requirement.{Overlaps, Made, Results, Requirement3}
-use Rattle.job.specs.MadeLaws.{made-maker}
-use Rattle.job.specs.Accepted.{accepted-read}
-use Rattle.job.specs.Claim.{overlaps, divisor-nonzero, radicand-positive}
+use Rattle.job.specs.definitions.Makers.{Maker, quotient, root, resultAt, namesBad}
+use Rattle.job.specs.definitions.Commands.{Command, result}
+use Rattle.job.specs.definitions.Outcomes.{accepted}
+use Rattle.job.specs.definitions.Jobs.{jobOf}
+use Rattle.job.specs.definitions.JobReading.{commandOf}
+use Rattle.job.specs.definitions.Work.{stretch}
+use Rattle.job.specs.definitions.InnerContracts.{Holds}
+use Rattle.job.specs.laws.CommandLaws.{both-below}
+use Rattle.job.specs.definitions.Requirement.{Overlaps, Made, Results, Requirement3}
+use Rattle.job.specs.laws.MadeLaws.{made-maker}
+use Rattle.job.specs.laws.Accepted.{accepted-read}
+use Rattle.job.specs.laws.Claim.{overlaps, divisor-nonzero, radicand-positive}
 use Rattle.job.proofs.Results.{result-held, models-held}
 
 module _ (job : List ℕ) (rs : List Model) (e : jobOf job ≡ accepted rs) (work t : List ℤ) (holds : Holds work (length rs) rs t) where

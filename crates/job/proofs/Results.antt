@@ -6,16 +6,16 @@ use native.Mathlib.Omega.{arith}
 use lib.IntN.{ℤ}
 use lib.ListN.{length, take, drop, length-append}
 use lib.Seq.{take-at, take-suc, take-length, drop-at, drop-append-add, drop-drop}
-use Rattle.integer.specs.Lists.{zeros}
-use Rattle.integer.specs.Clearing.{length-zeros, zeros-append}
-use Rattle.model.specs.Models.{coefficientCount, zeroModel}
-use Rattle.model.specs.Areas.{modelSize, words, areaModel}
-use Rattle.model.specs.AreaLaws.{length-words, model-words}
+use Rattle.integer.specs.definitions.Lists.{zeros}
+use Rattle.integer.specs.laws.Clearing.{length-zeros, zeros-append}
+use Rattle.model.specs.definitions.Models.{coefficientCount, zeroModel}
+use Rattle.model.specs.definitions.Areas.{modelSize, words, areaModel}
+use Rattle.model.specs.laws.AreaLaws.{length-words, model-words}
 use Rattle.model.specs.declared.types.Model.{Model}
-use Rattle.job.specs.Commands.{maxResults}
-use Rattle.job.specs.Makers.{resultAt}
-use Rattle.job.specs.Work.{workSize, stretch, modelsIn, stretches, workOf, storedAt}
-use Rattle.job.specs.InnerContracts.{Sized, Holds}
+use Rattle.job.specs.definitions.Commands.{maxResults}
+use Rattle.job.specs.definitions.Makers.{resultAt}
+use Rattle.job.specs.definitions.Work.{workSize, stretch, modelsIn, stretches, workOf, storedAt}
+use Rattle.job.specs.definitions.InnerContracts.{Sized, Holds}
 
 length-stretches : (rs : List Model) → Sized rs → length (stretches rs) ≡ modelSize * length rs
 unfolding stretches

@@ -8,17 +8,17 @@ use native.Mathlib.Omega.{arith}
 use borrow.Author.Tests.{leb-false, lt-leb}
 use lib.IntN.{ℤ}
 use lib.ListN.{length}
-use Rattle.model.specs.Outcomes.{passing, Passed}
-use Rattle.model.specs.PlaceLaws.{passing-passed, passing-unrefused}
+use Rattle.model.specs.definitions.Outcomes.{passing, Passed}
+use Rattle.model.specs.laws.PlaceLaws.{passing-passed, passing-unrefused}
 use Rattle.model.specs.declared.types.Model.{Model}
-use Rattle.job.specs.Makers.{Maker, Row, of-none, of-one, of-two, rowOf, badIn, namesBad}
-use Rattle.job.specs.Commands.{maxResults, shapeAt, nextAt, commandAt, readingPlaces, CommandReading, found, commandReading}
-use Rattle.job.specs.Jobs.{refused, performed, command}
-use Rattle.job.specs.Order.{First}
-use Rattle.job.specs.PlaceLaws.{passing-first, first-or-passed}
-use Rattle.job.specs.CommandLaws.{both-below, Readable, readable}
-use Rattle.job.specs.Work.{workSize}
-use Rattle.job.specs.InnerContracts.{Performable}
+use Rattle.job.specs.definitions.Makers.{Maker, Row, of-none, of-one, of-two, rowOf, badIn, namesBad}
+use Rattle.job.specs.definitions.Commands.{maxResults, shapeAt, nextAt, commandAt, readingPlaces, CommandReading, found, commandReading}
+use Rattle.job.specs.definitions.Jobs.{refused, performed, command}
+use Rattle.job.specs.definitions.Order.{First}
+use Rattle.job.specs.laws.PlaceLaws.{passing-first, first-or-passed}
+use Rattle.job.specs.laws.CommandLaws.{both-below, Readable, readable}
+use Rattle.job.specs.definitions.Work.{workSize}
+use Rattle.job.specs.definitions.InnerContracts.{Performable}
 use Rattle.job.specs.declared.types.Kind.{Kind}
 
 -- ---- what a reading says of the command

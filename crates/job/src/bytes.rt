@@ -2,8 +2,8 @@
 ghost use mathlib.Core.Path.{_≡_};
 ghost use Prim.Native.Nat.{_+_, _≤_, _<_};
 ghost use lib.ListN.{length};
-ghost use Rattle.model.specs.Models.{candidateModel};
-ghost use Rattle.job.specs.Bytes.{unsignedAt, signed as signedOf, signedsAt, blockAt};
+ghost use Rattle.model.specs.definitions.Models.{candidateModel};
+ghost use Rattle.job.specs.definitions.Bytes.{unsignedAt, signed as signedOf, signedsAt, blockAt};
 use model::types::COEFFICIENTS;
 use model::types::Candidate;
 use model::types::Model;

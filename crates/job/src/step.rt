@@ -2,12 +2,12 @@
 ghost use mathlib.Core.Path.{_≡_};
 ghost use Prim.Native.Nat.{_≤_, _<_};
 ghost use lib.ListN.{length};
-ghost use Rattle.certificate.specs.Tests.{testOf};
-ghost use Rattle.model.specs.Areas.{Storable};
-ghost use Rattle.job.specs.Commands.{maxResults, commandAt};
-ghost use Rattle.job.specs.Jobs.{resulting, performed, command};
-ghost use Rattle.job.specs.Work.{workSize};
-ghost use Rattle.job.specs.InnerContracts.{StepsBy, Performable, Clear};
+ghost use Rattle.certificate.specs.definitions.Tests.{testOf};
+ghost use Rattle.model.specs.definitions.Areas.{Storable};
+ghost use Rattle.job.specs.definitions.Commands.{maxResults, commandAt};
+ghost use Rattle.job.specs.definitions.Jobs.{resulting, performed, command};
+ghost use Rattle.job.specs.definitions.Work.{workSize};
+ghost use Rattle.job.specs.definitions.InnerContracts.{StepsBy, Performable, Clear};
 use crate::operations::operate;
 use crate::reader::read_next;
 use crate::types::CommandReading;

@@ -4,10 +4,10 @@ use mathlib.Core.List.{List}
 use Prim.Native.Nat.{ℕ, _≤_}
 use native.Mathlib.Omega.{arith}
 use lib.IntN.{ℤ}
-use Rattle.job.specs.AnswerBounds.{answer-small}
-use Rattle.job.specs.Commands.{maxResults}
-use Rattle.job.specs.Outcomes.{jobOutcomeOf, counted, resultCount}
-use Rattle.job.specs.Work.{checkOf}
+use Rattle.job.specs.laws.AnswerBounds.{answer-small}
+use Rattle.job.specs.definitions.Commands.{maxResults}
+use Rattle.job.specs.definitions.Outcomes.{jobOutcomeOf, counted, resultCount}
+use Rattle.job.specs.definitions.Work.{checkOf}
 use Rattle.job.specs.declared.types.JobOutcome.{JobOutcome}
 use Rattle.job.specs.declared.types.JobOutcome.the-variants.{Accepted}
 

@@ -1,6 +1,6 @@
 // Standard input, read to its end.
 ghost use mathlib.Core.Path.{_≡_};
-ghost use Rattle.jobcheck.specs.Input.{readOf, Inside};
+ghost use Rattle.jobcheck.specs.definitions.Input.{readOf, Inside};
 use libc::STDIN_FILENO;
 
 // What one read answers: bytes came, the input has ended, or the read failed.

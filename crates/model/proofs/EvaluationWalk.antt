@@ -10,14 +10,14 @@ use lib.ListN.{length, getD, drop, length-drop, drop-of-length-le}
 use lib.Seq.{drop-cons}
 use mir.Syntax.{w64}
 use mir.Val.{SFits}
-use Rattle.integer.specs.Parts.{abs, apart, sum, mul-within}
-use Rattle.integer.specs.Machine.{abs-fits}
-use Rattle.integer.specs.Rounding.{near}
-use Rattle.chebyshev.specs.Coefficients.{weight}
-use Rattle.chebyshev.specs.Weight.{weight-drop}
-use Rattle.model.specs.Models.{scale, coefficientCount, maxWeight}
-use Rattle.model.specs.Evaluation.{pointTerm, pointSum, pointError}
-use Rattle.model.specs.EvaluationLaws.{term-size, sum-size, error-size}
+use Rattle.integer.specs.laws.Parts.{abs, apart, sum, mul-within}
+use Rattle.integer.specs.laws.Machine.{abs-fits}
+use Rattle.integer.specs.definitions.Rounding.{near}
+use Rattle.chebyshev.specs.definitions.Coefficients.{weight}
+use Rattle.chebyshev.specs.laws.Weight.{weight-drop}
+use Rattle.model.specs.definitions.Models.{scale, coefficientCount, maxWeight}
+use Rattle.model.specs.definitions.Evaluation.{pointTerm, pointSum, pointError}
+use Rattle.model.specs.laws.EvaluationLaws.{term-size, sum-size, error-size}
 
 -- at place k: what is summed up and what is left of cs make V and W, and t and `next` are t_k and t_(k+1)
 pub record Walk (p : ℤ) (cs : List ℤ) (value : ℤ) (error : ℕ) (t next : ℤ) (k : ℕ) : Type 0 where

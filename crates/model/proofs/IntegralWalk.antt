@@ -7,14 +7,14 @@ use native.Mathlib.Numerals.{add-one}
 use lib.IntN.{ℤ, pos, natAbs, _-ℤ_}
 use lib.ListN.{length, getD, drop, set, replicate, length-set, length-append, length-replicate, drop-of-length-le, List·getD-append, List·getD-eq-default}
 use lib.Seq.{drop-cons, drop-at, drop-set-lt, getD-set-same}
-use Rattle.integer.specs.Rounding.{near}
-use Rattle.integer.specs.Filling.{drop-replicate}
-use Rattle.chebyshev.specs.Coefficients.{weight}
-use Rattle.chebyshev.specs.Weight.{weight-step, weight-drop, weight-at}
-use Rattle.model.specs.InnerContracts.{roundedIntegral, roundedTail}
-use Rattle.model.specs.Models.{coefficientCount}
-use Rattle.model.specs.Integral.{alternating}
-use Rattle.model.specs.IntegralLaws.{length-rounded, getD-rounded, weight-rounded, alternating-size, weight-integral}
+use Rattle.integer.specs.definitions.Rounding.{near}
+use Rattle.integer.specs.laws.Filling.{drop-replicate}
+use Rattle.chebyshev.specs.definitions.Coefficients.{weight}
+use Rattle.chebyshev.specs.laws.Weight.{weight-step, weight-drop, weight-at}
+use Rattle.model.specs.definitions.InnerContracts.{roundedIntegral, roundedTail}
+use Rattle.model.specs.definitions.Models.{coefficientCount}
+use Rattle.model.specs.definitions.Integral.{alternating}
+use Rattle.model.specs.laws.IntegralLaws.{length-rounded, getD-rounded, weight-rounded, alternating-size, weight-integral}
 
 -- at place k: c_(k+1), c_(k+2), … stand in `out`, `total` is their weight and `first` is c_(k+1) − c_(k+2) + …; `above` and
 -- `here` are the numbers of ds at places k + 1 and k

@@ -6,13 +6,13 @@ use native.Mathlib.Omega.{arith}
 use lib.IntN.{ℤ, pos, natAbs}
 use lib.ListN.{length, getD, take, drop, set, replicate, length-replicate}
 use lib.Seq.{length-take-le}
-use Rattle.integer.specs.Filling as Filling
-use Rattle.chebyshev.specs.Coefficients.{weight}
-use Rattle.chebyshev.specs.Weight.{weight-step, weight-end}
-use Rattle.model.specs.InnerContracts.{RoundedFrom}
-use Rattle.model.specs.Models.{coefficientCount, maxWeight}
-use Rattle.model.specs.Operations.{rounded, roundingLoss}
-use Rattle.model.specs.RoundingPassLaws.{roundedAt, lossAt, rounded-length, rounded-at, rounded-weight, loss-step, loss-end, loss-weight}
+use Rattle.integer.specs.laws.Filling as Filling
+use Rattle.chebyshev.specs.definitions.Coefficients.{weight}
+use Rattle.chebyshev.specs.laws.Weight.{weight-step, weight-end}
+use Rattle.model.specs.definitions.InnerContracts.{RoundedFrom}
+use Rattle.model.specs.definitions.Models.{coefficientCount, maxWeight}
+use Rattle.model.specs.definitions.Operations.{rounded, roundingLoss}
+use Rattle.model.specs.laws.RoundingPassLaws.{roundedAt, lossAt, rounded-length, rounded-at, rounded-weight, loss-step, loss-end, loss-weight}
 
 -- k of the numbers are rounded: their weight and their loss in rest form, with `dropped` lost besides; they are written as
 -- long as their weight is within its limit

@@ -1,11 +1,11 @@
 // Add and subtract: coefficient by coefficient, the larger degree, radii added.
 ghost use mathlib.Core.Path.{_≡_};
 ghost use lib.IntN.{natAbs};
-ghost use Rattle.integer.specs.Integer.{ℤ-ring};
-ghost use Rattle.chebyshev.specs.Coefficients.{weight, addLists, scaleList};
-ghost use Rattle.model.specs.InnerContracts.{Summands, combination};
-ghost use Rattle.model.specs.Outcomes.{outcomeOf};
-ghost use Rattle.model.specs.Operations.{addition, subtraction};
+ghost use Rattle.integer.specs.definitions.Integer.{ℤ-ring};
+ghost use Rattle.chebyshev.specs.definitions.Coefficients.{weight, addLists, scaleList};
+ghost use Rattle.model.specs.definitions.InnerContracts.{Summands, combination};
+ghost use Rattle.model.specs.definitions.Outcomes.{outcomeOf};
+ghost use Rattle.model.specs.definitions.Operations.{addition, subtraction};
 use crate::measure::is_good;
 use crate::types::COEFFICIENTS;
 use crate::types::Model;

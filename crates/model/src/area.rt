@@ -1,7 +1,7 @@
 // Areas of signed 32-bit numbers: a model is its degree, its coefficients and its radius, a candidate the first two.
 ghost use mathlib.Core.Path.{_≡_};
 ghost use lib.ListN.{length};
-ghost use Rattle.model.specs.Areas.{modelSize, candidateSize, unsignedOf, areaModel, areaCandidate, words, Storable};
+ghost use Rattle.model.specs.definitions.Areas.{modelSize, candidateSize, unsignedOf, areaModel, areaCandidate, words, Storable};
 use crate::types::COEFFICIENTS;
 use crate::types::Candidate;
 use crate::types::Model;

@@ -3,10 +3,10 @@
 ghost use mathlib.Core.Path.{_≡_};
 ghost use Prim.Native.Nat.{suc};
 ghost use lib.ListN.{take};
-ghost use Rattle.chebyshev.specs.Coefficients.{weight};
-ghost use Rattle.model.specs.InnerContracts.{Integrable, roundedIntegral};
-ghost use Rattle.model.specs.Outcomes.{outcomeOf};
-ghost use Rattle.model.specs.Integral.{integration};
+ghost use Rattle.chebyshev.specs.definitions.Coefficients.{weight};
+ghost use Rattle.model.specs.definitions.InnerContracts.{Integrable, roundedIntegral};
+ghost use Rattle.model.specs.definitions.Outcomes.{outcomeOf};
+ghost use Rattle.model.specs.definitions.Integral.{integration};
 use crate::measure::is_good;
 use crate::types::COEFFICIENTS;
 use crate::types::Model;

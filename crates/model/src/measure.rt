@@ -2,8 +2,8 @@
 ghost use mathlib.Core.Path.{_≡_};
 ghost use Prim.Native.Nat.{_<_, _^_};
 ghost use lib.ListN.{length};
-ghost use Rattle.chebyshev.specs.Coefficients.{weight};
-ghost use Rattle.model.specs.Models.{coefficientCount, makeModel, candidateModel, good};
+ghost use Rattle.chebyshev.specs.definitions.Coefficients.{weight};
+ghost use Rattle.model.specs.definitions.Models.{coefficientCount, makeModel, candidateModel, good};
 use crate::types::COEFFICIENTS;
 use crate::types::Candidate;
 use crate::types::Model;

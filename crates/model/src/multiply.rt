@@ -2,12 +2,12 @@
 ghost use mathlib.Core.Path.{_≡_};
 ghost use Prim.Native.Nat.{_+_, _*_, _^_, _<_, _≤_};
 ghost use lib.ListN.{length};
-ghost use Rattle.integer.specs.Integer.{ℤ-ring};
-ghost use Rattle.chebyshev.specs.Product.{product};
-ghost use Rattle.model.specs.InnerContracts.{Factors, Limited, Multipliable, Roundable, RoundedFrom, unlessLarge};
-ghost use Rattle.model.specs.Models.{coefficientCount, productSize};
-ghost use Rattle.model.specs.Outcomes.{outcomeOf};
-ghost use Rattle.model.specs.Operations.{productModel, multiplication};
+ghost use Rattle.integer.specs.definitions.Integer.{ℤ-ring};
+ghost use Rattle.chebyshev.specs.definitions.Product.{product};
+ghost use Rattle.model.specs.definitions.InnerContracts.{Factors, Limited, Multipliable, Roundable, RoundedFrom, unlessLarge};
+ghost use Rattle.model.specs.definitions.Models.{coefficientCount, productSize};
+ghost use Rattle.model.specs.definitions.Outcomes.{outcomeOf};
+ghost use Rattle.model.specs.definitions.Operations.{productModel, multiplication};
 use crate::measure::measure;
 use crate::measure::weigh;
 use crate::products::add_products;

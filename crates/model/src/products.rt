@@ -3,9 +3,9 @@ ghost use mathlib.Core.Path.{_≡_};
 ghost use Prim.Native.Nat.{suc, _+_, _*_, _^_, _<_, _≤_};
 ghost use lib.IntN.{natAbs};
 ghost use lib.ListN.{length};
-ghost use Rattle.integer.specs.Integer.{ℤ-ring};
-ghost use Rattle.chebyshev.specs.Coefficients.{weight};
-ghost use Rattle.chebyshev.specs.Product.{distance as distanceOf, addAt, addPair, addRow, addRows};
+ghost use Rattle.integer.specs.definitions.Integer.{ℤ-ring};
+ghost use Rattle.chebyshev.specs.definitions.Coefficients.{weight};
+ghost use Rattle.chebyshev.specs.definitions.Product.{distance as distanceOf, addAt, addPair, addRow, addRows};
 
 // |i - j|
 fn distance(i: usize, j: usize) -> usize

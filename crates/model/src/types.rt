@@ -1,8 +1,8 @@
 // A model: degree, coefficients of T_0 .. T_32 in units of 1/SCALE, radius in units.
 ghost use mathlib.Core.Path.{_≡_};
-ghost use Rattle.model.specs.InnerContracts.{formedOutcome};
-ghost use Rattle.model.specs.Models.{makeModel, zeroModel, constantModel};
-ghost use Rattle.model.specs.Outcomes.{refused, numberOf, verdictNumber, outcomeOf};
+ghost use Rattle.model.specs.definitions.InnerContracts.{formedOutcome};
+ghost use Rattle.model.specs.definitions.Models.{makeModel, zeroModel, constantModel};
+ghost use Rattle.model.specs.definitions.Outcomes.{refused, numberOf, verdictNumber, outcomeOf};
 
 pub const COEFFICIENTS: usize = 33;
 

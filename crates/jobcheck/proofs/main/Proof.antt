@@ -5,7 +5,7 @@ use mathlib.Core.List.{List}
 use Prim.Native.Nat.{ℕ, _<_}
 use native.Mathlib.Omega.{arith}
 use lib.ListN.{length, length-take}
-use Rattle.jobcheck.specs.Input.{Inside}
+use Rattle.jobcheck.specs.definitions.Input.{Inside}
 use Rattle.jobcheck.specs.declared.input.Input.{Input}
 use Rattle.jobcheck.specs.declared.input.Input.the-variants.{Whole}
 use Rattle.jobcheck.proofs.main.Statement.{statement}

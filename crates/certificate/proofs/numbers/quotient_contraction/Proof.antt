@@ -4,13 +4,13 @@ use mathlib.Core.Path.{_≡_, _∙_, ap₂}
 use Prim.Native.Nat.{ℕ, _+_, _*_, _^_, _≤_}
 use native.Mathlib.Omega.{arith}
 use lib.IntN.{pos}
-use Rattle.integer.specs.Rounding.{upℕ}
-use Rattle.chebyshev.specs.Coefficients.{weight}
-use Rattle.model.specs.Models.{candidateModel}
-use Rattle.model.specs.Operations.{productList}
+use Rattle.integer.specs.definitions.Rounding.{upℕ}
+use Rattle.chebyshev.specs.definitions.Coefficients.{weight}
+use Rattle.model.specs.definitions.Models.{candidateModel}
+use Rattle.model.specs.definitions.Operations.{productList}
 use Rattle.model.specs.declared.types.Model.{Model}
-use Rattle.certificate.specs.Tests.{quotientContraction}
-use Rattle.certificate.specs.InnerContracts.{constantResidual}
+use Rattle.certificate.specs.definitions.Tests.{quotientContraction}
+use Rattle.certificate.specs.definitions.InnerContracts.{constantResidual}
 use Rattle.certificate.proofs.Ranges.{factors, constant-range, error-range}
 use Rattle.certificate.proofs.numbers.quotient_contraction.Statement.{statement}
 use Rattle.certificate.proofs.numbers.quotient_contraction.Tie as tie

@@ -3,14 +3,14 @@ use borrow.Author.Needs.{needs}
 use mathlib.Core.Path.{_≡_, _∙_, ap₂}
 use Prim.Native.Nat.{ℕ, _+_, _*_, _^_, _≤_}
 use native.Mathlib.Omega.{arith}
-use Rattle.integer.specs.Rounding.{upℕ}
-use Rattle.chebyshev.specs.Coefficients.{weight}
-use Rattle.model.specs.Models.{candidateModel}
-use Rattle.model.specs.ModelLaws.{Good, good-is}
-use Rattle.model.specs.Operations.{productList}
+use Rattle.integer.specs.definitions.Rounding.{upℕ}
+use Rattle.chebyshev.specs.definitions.Coefficients.{weight}
+use Rattle.model.specs.definitions.Models.{candidateModel}
+use Rattle.model.specs.laws.ModelLaws.{Good, good-is}
+use Rattle.model.specs.definitions.Operations.{productList}
 use Rattle.model.specs.declared.types.Model.{Model}
-use Rattle.certificate.specs.Tests.{quotientResidual}
-use Rattle.certificate.specs.InnerContracts.{residualList}
+use Rattle.certificate.specs.definitions.Tests.{quotientResidual}
+use Rattle.certificate.specs.definitions.InnerContracts.{residualList}
 use Rattle.certificate.proofs.Ranges.{factors, residual-range, error-range}
 use Rattle.certificate.proofs.numbers.quotient_residual.Statement.{statement}
 use Rattle.certificate.proofs.numbers.quotient_residual.Tie as tie

@@ -3,9 +3,9 @@ use borrow.Author.Needs.{needs}
 use mathlib.Core.Path.{_∙_, ap}
 use Prim.Native.Nat.{ℕ, _^_}
 use native.Mathlib.Omega.{arith}
-use Rattle.integer.specs.Rounding.{upℕ}
-use Rattle.model.specs.Operations.{productList}
-use Rattle.certificate.specs.Tests.{rootContraction}
+use Rattle.integer.specs.definitions.Rounding.{upℕ}
+use Rattle.model.specs.definitions.Operations.{productList}
+use Rattle.certificate.specs.definitions.Tests.{rootContraction}
 use Rattle.certificate.proofs.Ranges.{factors}
 use Rattle.certificate.proofs.numbers.root_contraction.Statement.{statement}
 use Rattle.certificate.proofs.numbers.root_contraction.Tie as tie

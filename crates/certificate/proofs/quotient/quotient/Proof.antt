@@ -4,10 +4,10 @@ use mathlib.Core.Path.{_≡_, sym, _∙_, ap}
 use native.Mathlib.Omega.{arith}
 use lib.ListN.{length, take}
 use lib.Seq.{length-take-le}
-use Rattle.model.specs.Models.{candidateModel}
-use Rattle.certificate.specs.Tests.{scratchSize}
-use Rattle.certificate.specs.Stages.{quotient-room, scratch-short}
-use Rattle.certificate.specs.QuotientStages.{quotient-short}
+use Rattle.model.specs.definitions.Models.{candidateModel}
+use Rattle.certificate.specs.definitions.Tests.{scratchSize}
+use Rattle.certificate.specs.laws.Stages.{quotient-room, scratch-short}
+use Rattle.certificate.specs.laws.QuotientStages.{quotient-short}
 use Rattle.certificate.proofs.Formed.{scratch-after}
 use Rattle.certificate.proofs.quotient.quotient.Statement.{statement}
 use Rattle.certificate.proofs.quotient.quotient.Tie as tie

@@ -3,12 +3,12 @@ use borrow.Author.Needs.{needs}
 use mathlib.Core.Path.{_≡_, sym, _∙_, ap}
 use Prim.Native.Nat.{_≤_}
 use native.Mathlib.Omega.{arith}
-use Rattle.model.specs.Models.{maxWeight, candidateModel}
-use Rattle.model.specs.ModelLaws.{good-is}
-use Rattle.certificate.specs.Tests.{testOf}
-use Rattle.certificate.specs.Stages.{displacement-bound}
-use Rattle.certificate.specs.InnerContracts.{refusedTest}
-use Rattle.certificate.specs.QuotientStages.{quotient-not-contracting, quotient-large-residual, quotient-formed}
+use Rattle.model.specs.definitions.Models.{maxWeight, candidateModel}
+use Rattle.model.specs.laws.ModelLaws.{good-is}
+use Rattle.certificate.specs.definitions.Tests.{testOf}
+use Rattle.certificate.specs.laws.Stages.{displacement-bound}
+use Rattle.certificate.specs.definitions.InnerContracts.{refusedTest}
+use Rattle.certificate.specs.laws.QuotientStages.{quotient-not-contracting, quotient-large-residual, quotient-formed}
 use Rattle.certificate.proofs.quotient.test_good.Statement.{statement}
 use Rattle.certificate.proofs.quotient.test_good.Tie as tie
 

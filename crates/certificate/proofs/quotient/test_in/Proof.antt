@@ -3,9 +3,9 @@ use borrow.Author.Needs.{needs}
 use mathlib.Core.Path.{_≡_, sym, _∙_, ap}
 use mathlib.Core.Logic.{⊎-elim}
 use mathlib.Core.Bool.{false, _&&_}
-use Rattle.model.specs.Models.{good, candidateModel}
-use Rattle.certificate.specs.InnerContracts.{Lent}
-use Rattle.certificate.specs.QuotientStages.{quotient-bad}
+use Rattle.model.specs.definitions.Models.{good, candidateModel}
+use Rattle.certificate.specs.definitions.InnerContracts.{Lent}
+use Rattle.certificate.specs.laws.QuotientStages.{quotient-bad}
 use Rattle.certificate.proofs.Formed.{lent-scratch}
 use Rattle.certificate.proofs.quotient.test_in.Statement.{statement}
 use Rattle.certificate.proofs.quotient.test_in.Tie as tie

@@ -4,7 +4,7 @@ use mathlib.Core.Path.{refl}
 use Prim.Native.Nat.{_-_}
 use native.Mathlib.Omega.{arith}
 use lib.ListN.{length}
-use Rattle.integer.specs.Clearing.{Clearing, clearing-begins, clearing-turn, clearing-ends}
+use Rattle.integer.specs.laws.Clearing.{Clearing, clearing-begins, clearing-turn, clearing-ends}
 use Rattle.certificate.proofs.residual.clear.Statement.{statement}
 use Rattle.certificate.proofs.residual.clear.Tie as tie
 

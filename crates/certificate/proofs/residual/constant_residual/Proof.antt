@@ -5,8 +5,8 @@ use native.Mathlib.Omega.{arith}
 use mir.Syntax.{w64}
 use mir.Val.{toZ, ofZ}
 use mir.Facts.{toZ-ofZ}
-use Rattle.chebyshev.specs.Coefficients.{weight}
-use Rattle.certificate.specs.InnerContracts.{constantResidual}
+use Rattle.chebyshev.specs.definitions.Coefficients.{weight}
+use Rattle.certificate.specs.definitions.InnerContracts.{constantResidual}
 use Rattle.certificate.proofs.Formed.{Formed, formed, lent-after}
 use Rattle.certificate.proofs.residual.constant_residual.Statement.{statement}
 use Rattle.certificate.proofs.residual.constant_residual.Tie as tie

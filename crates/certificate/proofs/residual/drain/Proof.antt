@@ -8,7 +8,7 @@ use lib.ListN.{length, getD}
 use mir.Syntax.{w64}
 use mir.Val.{SFits}
 use mir.Facts.{toZ-ofZ}
-use Rattle.integer.specs.Clearing.{clearing-next}
+use Rattle.integer.specs.laws.Clearing.{clearing-next}
 use Rattle.certificate.proofs.Draining.{Draining, draining-begins, draining-fits, draining-turn, draining-ends}
 use Rattle.certificate.proofs.residual.drain.Statement.{statement}
 use Rattle.certificate.proofs.residual.drain.Tie as tie

@@ -10,13 +10,13 @@ use lib.ListN.{length, getD, set, length-set}
 use mir.Syntax.{w64}
 use mir.Val.{SFits}
 use mir.Facts.{toZ-ofZ}
-use Rattle.integer.specs.Parts.{abs-sub}
-use Rattle.integer.specs.Machine.{abs-fits}
-use Rattle.integer.specs.Lists.{zeros}
-use Rattle.chebyshev.specs.Coefficients.{weight}
-use Rattle.chebyshev.specs.Weight.{weight-at}
-use Rattle.certificate.specs.InnerContracts.{constantResidual}
-use Rattle.certificate.specs.ResidualLaws.{weight-constant, weight-no-constant, weight-constant-le}
+use Rattle.integer.specs.laws.Parts.{abs-sub}
+use Rattle.integer.specs.laws.Machine.{abs-fits}
+use Rattle.integer.specs.definitions.Lists.{zeros}
+use Rattle.chebyshev.specs.definitions.Coefficients.{weight}
+use Rattle.chebyshev.specs.laws.Weight.{weight-at}
+use Rattle.certificate.specs.definitions.InnerContracts.{constantResidual}
+use Rattle.certificate.specs.laws.ResidualLaws.{weight-constant, weight-no-constant, weight-constant-le}
 use Rattle.certificate.proofs.residual.drain_constant.Statement.{statement}
 use Rattle.certificate.proofs.residual.drain_constant.Tie as tie
 

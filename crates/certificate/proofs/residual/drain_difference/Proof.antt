@@ -9,12 +9,12 @@ use lib.ListN.{length, getD}
 use mir.Syntax.{w32, w64}
 use mir.Val.{SFits}
 use mir.Facts.{toZ-ofZ}
-use Rattle.integer.specs.Parts.{abs-mul}
-use Rattle.integer.specs.Machine.{signed-needs, abs-fits, fits-widens}
-use Rattle.integer.specs.Clearing.{clearing-next}
-use Rattle.chebyshev.specs.Weight.{weight-at}
-use Rattle.certificate.specs.InnerContracts.{residualList}
-use Rattle.certificate.specs.ResidualLaws.{length-residual, at-residual, weight-residual}
+use Rattle.integer.specs.laws.Parts.{abs-mul}
+use Rattle.integer.specs.laws.Machine.{signed-needs, abs-fits, fits-widens}
+use Rattle.integer.specs.laws.Clearing.{clearing-next}
+use Rattle.chebyshev.specs.laws.Weight.{weight-at}
+use Rattle.certificate.specs.definitions.InnerContracts.{residualList}
+use Rattle.certificate.specs.laws.ResidualLaws.{length-residual, at-residual, weight-residual}
 use Rattle.certificate.proofs.Draining.{Draining, draining-begins, draining-fits, draining-turn, draining-ends}
 use Rattle.certificate.proofs.residual.drain_difference.Statement.{statement}
 use Rattle.certificate.proofs.residual.drain_difference.Tie as tie

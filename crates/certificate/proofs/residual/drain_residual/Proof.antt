@@ -7,13 +7,13 @@ use native.Mathlib.Omega.{arith}
 use lib.IntN.{ℤ}
 use lib.ListN.{length, take, drop, length-take, length-drop}
 use lib.Seq.{length-take-le}
-use Rattle.integer.specs.Lists.{zeros}
-use Rattle.integer.specs.Clearing.{zeros-append}
-use Rattle.chebyshev.specs.Coefficients.{weight}
-use Rattle.chebyshev.specs.Weight.{weight-take, weight-drop}
-use Rattle.model.specs.Models.{scale}
-use Rattle.certificate.specs.InnerContracts.{residualList}
-use Rattle.certificate.specs.ResidualLaws.{weight-residual, weight-residual-split}
+use Rattle.integer.specs.definitions.Lists.{zeros}
+use Rattle.integer.specs.laws.Clearing.{zeros-append}
+use Rattle.chebyshev.specs.definitions.Coefficients.{weight}
+use Rattle.chebyshev.specs.laws.Weight.{weight-take, weight-drop}
+use Rattle.model.specs.definitions.Models.{scale}
+use Rattle.certificate.specs.definitions.InnerContracts.{residualList}
+use Rattle.certificate.specs.laws.ResidualLaws.{weight-residual, weight-residual-split}
 use Rattle.certificate.proofs.TwoParts.{length-halfway, second-part, both-parts}
 use Rattle.certificate.proofs.residual.drain_residual.Statement.{statement}
 use Rattle.certificate.proofs.residual.drain_residual.Tie as tie

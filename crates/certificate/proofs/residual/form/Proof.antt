@@ -9,11 +9,11 @@ use native.Mathlib.Numerals.{add-one}
 use lib.IntN.{ℤ}
 use lib.ListN.{length, take}
 use lib.Seq.{length-take-le}
-use Rattle.integer.specs.Integer.{ℤ-ring}
-use Rattle.chebyshev.specs.Coefficients.{weight}
-use Rattle.chebyshev.specs.Weight.{weight-take}
-use Rattle.chebyshev.specs.Product.{product}
-use Rattle.model.specs.Models.{productSize}
+use Rattle.integer.specs.definitions.Integer.{ℤ-ring}
+use Rattle.chebyshev.specs.definitions.Coefficients.{weight}
+use Rattle.chebyshev.specs.laws.Weight.{weight-take}
+use Rattle.chebyshev.specs.definitions.Product.{product}
+use Rattle.model.specs.definitions.Models.{productSize}
 use Rattle.certificate.proofs.Formed.{weight-lent, from-lent}
 use Rattle.certificate.proofs.residual.form.Statement.{statement}
 use Rattle.certificate.proofs.residual.form.Tie as tie

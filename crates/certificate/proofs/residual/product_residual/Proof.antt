@@ -4,8 +4,8 @@ use mathlib.Core.Path.{_≡_, _∙_, ap₂}
 use native.Mathlib.Omega.{arith}
 use lib.ListN.{length, take}
 use lib.Seq.{take-all}
-use Rattle.chebyshev.specs.Coefficients.{weight}
-use Rattle.certificate.specs.InnerContracts.{residualList}
+use Rattle.chebyshev.specs.definitions.Coefficients.{weight}
+use Rattle.certificate.specs.definitions.InnerContracts.{residualList}
 use Rattle.certificate.proofs.Formed.{Formed, formed, lent-after}
 use Rattle.certificate.proofs.residual.product_residual.Statement.{statement}
 use Rattle.certificate.proofs.residual.product_residual.Tie as tie

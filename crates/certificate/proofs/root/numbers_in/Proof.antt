@@ -2,9 +2,9 @@
 use borrow.Author.Needs.{needs}
 use mathlib.Core.Path.{_≡_, sym, _∙_}
 use mathlib.Core.Bool.{true}
-use Rattle.model.specs.Models.{good, candidateModel}
-use Rattle.certificate.specs.InnerContracts.{Lent}
-use Rattle.certificate.specs.NumbersStages.{numbers-bad}
+use Rattle.model.specs.definitions.Models.{good, candidateModel}
+use Rattle.certificate.specs.definitions.InnerContracts.{Lent}
+use Rattle.certificate.specs.laws.NumbersStages.{numbers-bad}
 use Rattle.certificate.proofs.Formed.{lent-scratch}
 use Rattle.certificate.proofs.root.numbers_in.Statement.{statement}
 use Rattle.certificate.proofs.root.numbers_in.Tie as tie

@@ -8,10 +8,10 @@ use lib.Signed.{leZ}
 use mir.Syntax.{w64}
 use mir.Val.{SFits, toZ, ofZ}
 use mir.Facts.{toZ-ofZ}
-use Rattle.chebyshev.specs.Coefficients.{coefficientSum}
-use Rattle.model.specs.Models.{candidateModel}
-use Rattle.model.specs.ModelLaws.{good-is}
-use Rattle.certificate.specs.NumbersStages.{numbers-helper, numbers-not-contracting, numbers-large-residual, numbers-reached}
+use Rattle.chebyshev.specs.definitions.Coefficients.{coefficientSum}
+use Rattle.model.specs.definitions.Models.{candidateModel}
+use Rattle.model.specs.laws.ModelLaws.{good-is}
+use Rattle.certificate.specs.laws.NumbersStages.{numbers-helper, numbers-not-contracting, numbers-large-residual, numbers-reached}
 use Rattle.certificate.proofs.root.numbers_of_good.Statement.{statement}
 use Rattle.certificate.proofs.root.numbers_of_good.Tie as tie
 

@@ -3,10 +3,10 @@ use borrow.Author.Needs.{needs}
 use mathlib.Core.Path.{sym, _∙_, ap}
 use Prim.Native.Nat.{ℕ}
 use lib.ListN.{length}
-use Rattle.model.specs.Models.{candidateModel}
-use Rattle.model.specs.Outcomes.{numberOf}
-use Rattle.certificate.specs.InnerContracts.{reachOf}
-use Rattle.certificate.specs.RootStages.{RootReached, root-reached-is, root-refused-is, root-last}
+use Rattle.model.specs.definitions.Models.{candidateModel}
+use Rattle.model.specs.definitions.Outcomes.{numberOf}
+use Rattle.certificate.specs.definitions.InnerContracts.{reachOf}
+use Rattle.certificate.specs.laws.RootStages.{RootReached, root-reached-is, root-refused-is, root-last}
 use Rattle.certificate.proofs.root.root.Statement.{statement}
 use Rattle.certificate.proofs.root.root.Tie as tie
 

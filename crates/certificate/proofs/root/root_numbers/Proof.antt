@@ -4,10 +4,10 @@ use mathlib.Core.Path.{_≡_, sym, _∙_}
 use native.Mathlib.Omega.{arith}
 use lib.ListN.{length, take}
 use lib.Seq.{length-take-le}
-use Rattle.model.specs.Models.{candidateModel}
-use Rattle.certificate.specs.Tests.{scratchSize}
-use Rattle.certificate.specs.Stages.{scratch-short}
-use Rattle.certificate.specs.NumbersStages.{numbers-short, numbers-room}
+use Rattle.model.specs.definitions.Models.{candidateModel}
+use Rattle.certificate.specs.definitions.Tests.{scratchSize}
+use Rattle.certificate.specs.laws.Stages.{scratch-short}
+use Rattle.certificate.specs.laws.NumbersStages.{numbers-short, numbers-room}
 use Rattle.certificate.proofs.Formed.{scratch-after}
 use Rattle.certificate.proofs.root.root_numbers.Statement.{statement}
 use Rattle.certificate.proofs.root.root_numbers.Tie as tie

@@ -4,8 +4,8 @@ use mathlib.Core.Path.{sym, _∙_, ap}
 use Prim.Native.Nat.{_-_, _^_, _≤_}
 use native.Mathlib.Omega.{arith}
 use native.Mathlib.Nat.{mul-le-mul}
-use Rattle.model.specs.Models.{scale}
-use Rattle.certificate.specs.RootEnd.{root-end-refused, root-end-radius, root-end-passed}
+use Rattle.model.specs.definitions.Models.{scale}
+use Rattle.certificate.specs.laws.RootEnd.{root-end-refused, root-end-radius, root-end-passed}
 use Rattle.certificate.proofs.root.root_result.Statement.{statement}
 use Rattle.certificate.proofs.root.root_result.Tie as tie
 

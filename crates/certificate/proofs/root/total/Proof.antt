@@ -11,9 +11,9 @@ use lib.Seq.{drop-cons}
 use mir.Syntax.{w32, w64}
 use mir.Val.{SFits, toZ}
 use mir.Facts.{toZ-ofZ}
-use Rattle.integer.specs.Parts.{abs, apart, abs-add}
-use Rattle.integer.specs.Machine.{signed-needs, within, abs-fits, fits-widens}
-use Rattle.chebyshev.specs.Coefficients.{coefficientSum}
+use Rattle.integer.specs.laws.Parts.{abs, apart, abs-add}
+use Rattle.integer.specs.laws.Machine.{signed-needs, within, abs-fits, fits-widens}
+use Rattle.chebyshev.specs.definitions.Coefficients.{coefficientSum}
 use Rattle.certificate.proofs.root.total.Statement.{statement}
 use Rattle.certificate.proofs.root.total.Tie as tie
 

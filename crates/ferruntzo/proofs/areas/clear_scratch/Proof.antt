@@ -5,10 +5,10 @@ use Prim.Native.Nat.{_-_}
 use borrow.Author.Tests.{le-leb, lt-leb}
 use lib.ListN.{length}
 use denote.Ref.{now}
-use Rattle.integer.specs.Filling.{ends}
-use Rattle.integer.specs.Lists.{zeros}
-use Rattle.integer.specs.Clearing.{Clearing, clearing-begins, clearing-turn}
-use Rattle.certificate.specs.Tests.{scratchSize, scratchAfter}
+use Rattle.integer.specs.laws.Filling.{ends}
+use Rattle.integer.specs.definitions.Lists.{zeros}
+use Rattle.integer.specs.laws.Clearing.{Clearing, clearing-begins, clearing-turn}
+use Rattle.certificate.specs.definitions.Tests.{scratchSize, scratchAfter}
 use Rattle.ferruntzo.proofs.areas.clear_scratch.Statement.{statement}
 use Rattle.ferruntzo.proofs.areas.clear_scratch.Tie as tie
 

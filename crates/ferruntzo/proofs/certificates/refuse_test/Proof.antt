@@ -4,11 +4,11 @@ use mathlib.Core.Path.{ap, _∙_}
 use mathlib.Core.List.{List}
 use lib.IntN.{ℤ}
 use denote.Ref.{now}
-use Rattle.model.specs.ResultLaws.{zero-storable}
-use Rattle.model.specs.Outcomes.{refused}
-use Rattle.certificate.specs.Tests.{makeCertificate}
+use Rattle.model.specs.laws.ResultLaws.{zero-storable}
+use Rattle.model.specs.definitions.Outcomes.{refused}
+use Rattle.certificate.specs.definitions.Tests.{makeCertificate}
 use Rattle.model.specs.declared.types.Model.{Model}
-use Rattle.ferruntzo.specs.TestAnswers.{testAnswer, testIn}
+use Rattle.ferruntzo.specs.definitions.TestAnswers.{testAnswer, testIn}
 use Rattle.ferruntzo.proofs.certificates.refuse_test.Statement.{statement}
 use Rattle.ferruntzo.proofs.certificates.refuse_test.Tie as tie
 

@@ -7,11 +7,11 @@ use native.Mathlib.Omega.{arith}
 use lib.ListN.{set}
 use lib.Seq.{sets-eq}
 use denote.Ref.{now}
-use Rattle.job.specs.AnswerBounds.{answer-small}
-use Rattle.job.specs.Commands.{maxResults}
-use Rattle.job.specs.Outcomes.{JobOutcome, jobOutcomeOf, counted, refusedCommand, resultCount}
-use Rattle.job.specs.Work.{areaPlaces, checkOf}
-use Rattle.job.specs.Requirement.{Requirement3}
+use Rattle.job.specs.laws.AnswerBounds.{answer-small}
+use Rattle.job.specs.definitions.Commands.{maxResults}
+use Rattle.job.specs.definitions.Outcomes.{JobOutcome, jobOutcomeOf, counted, refusedCommand, resultCount}
+use Rattle.job.specs.definitions.Work.{areaPlaces, checkOf}
+use Rattle.job.specs.definitions.Requirement.{Requirement3}
 use Rattle.job.specs.declared.types.JobOutcome.{JobOutcome as CodeOutcome}
 use Rattle.job.specs.declared.types.JobOutcome.the-variants.{Accepted, Refused}
 use Rattle.ferruntzo.proofs.JobAnswering.{answerOver, checked, required, unchecked, unrequired}

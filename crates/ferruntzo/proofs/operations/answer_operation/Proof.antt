@@ -2,10 +2,10 @@
 use borrow.Author.Needs.{needs}
 use mathlib.Core.Path.{sym, ap, _∙_}
 use denote.Ref.{now}
-use Rattle.model.specs.Areas.{modelSize, words}
-use Rattle.model.specs.OutcomeLaws.{number-judged, values-judged}
+use Rattle.model.specs.definitions.Areas.{modelSize, words}
+use Rattle.model.specs.laws.OutcomeLaws.{number-judged, values-judged}
 use Rattle.model.specs.declared.types.Model.{Model}
-use Rattle.ferruntzo.specs.Answers.{areaOut, operationAnswer, outcomeIn}
+use Rattle.ferruntzo.specs.definitions.Answers.{areaOut, operationAnswer, outcomeIn}
 use Rattle.ferruntzo.proofs.operations.answer_operation.Statement.{statement}
 use Rattle.ferruntzo.proofs.operations.answer_operation.Tie as tie
 

@@ -4,11 +4,11 @@ use mathlib.Core.Path.{ap, ap₂, _∙_}
 use Prim.Native.Nat.{_≤_}
 use lib.ListN.{length}
 use denote.Ref.{now}
-use Rattle.model.specs.Outcomes.{Outcome, values}
-use Rattle.model.specs.Areas.{modelSize, areaModel, Storable}
-use Rattle.model.specs.ResultLaws.{addition-storable, subtraction-storable, multiplication-storable}
+use Rattle.model.specs.definitions.Outcomes.{Outcome, values}
+use Rattle.model.specs.definitions.Areas.{modelSize, areaModel, Storable}
+use Rattle.model.specs.laws.ResultLaws.{addition-storable, subtraction-storable, multiplication-storable}
 use Rattle.model.specs.declared.types.Model.{Model}
-use Rattle.ferruntzo.specs.Answers.{operationOf, outcomeIn}
+use Rattle.ferruntzo.specs.definitions.Answers.{operationOf, outcomeIn}
 use Rattle.ferruntzo.specs.declared.operations.Operation.{Operation}
 use Rattle.ferruntzo.specs.declared.operations.Operation.the-variants.{Add, Subtract, Multiply}
 use Rattle.ferruntzo.proofs.Answering.{three-fit, outcome-storable}

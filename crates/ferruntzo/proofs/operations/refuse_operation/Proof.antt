@@ -2,10 +2,10 @@
 use borrow.Author.Needs.{needs}
 use mathlib.Core.Path.{ap, _∙_}
 use denote.Ref.{now}
-use Rattle.model.specs.ResultLaws.{zero-storable}
-use Rattle.model.specs.Outcomes.{refused}
+use Rattle.model.specs.laws.ResultLaws.{zero-storable}
+use Rattle.model.specs.definitions.Outcomes.{refused}
 use Rattle.model.specs.declared.types.Model.{Model}
-use Rattle.ferruntzo.specs.Answers.{outcomeIn}
+use Rattle.ferruntzo.specs.definitions.Answers.{outcomeIn}
 use Rattle.ferruntzo.proofs.operations.refuse_operation.Statement.{statement}
 use Rattle.ferruntzo.proofs.operations.refuse_operation.Tie as tie
 

@@ -9,8 +9,8 @@ use lib.Signed.{ltZ}
 use mir.Syntax.{w64}
 use mir.Val.{SFits}
 use mir.Facts.{toZ-ofZ}
-use Rattle.integer.specs.Parts.{_⁻, abs, apart, difference, lt-yes, lt-no}
-use Rattle.integer.specs.Machine.{fits, within, non-neg}
+use Rattle.integer.specs.laws.Parts.{_⁻, abs, apart, difference, lt-yes, lt-no}
+use Rattle.integer.specs.laws.Machine.{fits, within, non-neg}
 use Rattle.integer.proofs.absolute.magnitude.Statement.{statement}
 use Rattle.integer.proofs.absolute.magnitude.Tie as tie
 

@@ -9,8 +9,8 @@ use lib.Signed.{shrZ, leZ, ltZ}
 use mir.Syntax.{w64}
 use mir.Val.{SFits, toZ, ofZ}
 use mir.Facts.{toZ-ofZ}
-use Rattle.integer.specs.Parts.{_⁺, _⁻, abs, apart, difference, le-yes, le-no, lt-yes, lt-no}
-use Rattle.integer.specs.Machine.{fits, within, is-positive}
+use Rattle.integer.specs.laws.Parts.{_⁺, _⁻, abs, apart, difference, le-yes, le-no, lt-yes, lt-no}
+use Rattle.integer.specs.laws.Machine.{fits, within, is-positive}
 use Rattle.integer.proofs.Division.{Operands, q, r, t, asks, q-is, r-is, q-up-fits, q-down-fits, near-above, near-below, near-at}
 use Rattle.integer.proofs.rounding.near.Statement.{statement}
 use Rattle.integer.proofs.rounding.near.Tie as tie

@@ -3,7 +3,7 @@ use Prim.Native.Nat.{_<_}
 use native.Mathlib.Omega.{arith}
 use lib.IntN.{pos, natAbs}
 use mir.Facts.{toZ-ofZ}
-use Rattle.integer.specs.Parts.{_⁺, apart, lt-yes, lt-no}
+use Rattle.integer.specs.laws.Parts.{_⁺, apart, lt-yes, lt-no}
 use Rattle.integer.proofs.Division.{Operands, q, r, t, asks, q-is, r-is, q-up-fits, up-above, up-at}
 use Rattle.integer.proofs.rounding.up.Statement.{statement}
 use Rattle.integer.proofs.rounding.up.Tie as tie

@@ -3,7 +3,7 @@ use borrow.Author.Needs.{needs}
 use Prim.Native.Nat.{_+_, _*_, _/_, _≤_}
 use native.Mathlib.Omega.{arith}
 use native.Mathlib.Nat.{div-add-mod, mod-lt, mul-le-mul-left}
-use Rattle.integer.specs.RoundingLaws.{upℕ-unique}
+use Rattle.integer.specs.laws.RoundingLaws.{upℕ-unique}
 use Rattle.integer.proofs.rounding.up_unsigned.Statement.{statement}
 use Rattle.integer.proofs.rounding.up_unsigned.Tie as tie
 

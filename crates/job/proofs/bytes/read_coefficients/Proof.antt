@@ -9,9 +9,9 @@ use lib.ListN.{length}
 use mir.Syntax.{w32}
 use mir.Facts.{toZ-ofZ}
 use denote.Ref.{now}
-use Rattle.model.specs.Models.{coefficientCount}
-use Rattle.integer.specs.Filling.{Filling, begins, turn, ends}
-use Rattle.job.specs.Bytes.{signedsAt, signed, unsignedAt}
+use Rattle.model.specs.definitions.Models.{coefficientCount}
+use Rattle.integer.specs.laws.Filling.{Filling, begins, turn, ends}
+use Rattle.job.specs.definitions.Bytes.{signedsAt, signed, unsignedAt}
 use Rattle.job.proofs.ByteLaws.{length-signedsAt, getD-signedsAt}
 use Rattle.job.proofs.bytes.read_coefficients.Statement.{statement}
 use Rattle.job.proofs.bytes.read_coefficients.Tie as tie

@@ -1,7 +1,7 @@
 -- `bytes::read_model` meets its contract.
 use borrow.Author.Needs.{needs}
 use mathlib.Core.Path.{ap, _∙_}
-use Rattle.model.specs.Models.{makeModel}
+use Rattle.model.specs.definitions.Models.{makeModel}
 use Rattle.model.specs.declared.types.Model.{Model}
 use Rattle.job.proofs.bytes.read_model.Statement.{statement}
 use Rattle.job.proofs.bytes.read_model.Tie as tie

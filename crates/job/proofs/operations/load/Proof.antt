@@ -3,11 +3,11 @@ use borrow.Author.Needs.{needs}
 use mathlib.Core.Path.{ap, sym, _∙_}
 use Prim.Native.Nat.{_+_}
 use denote.Ref.{now}
-use Rattle.model.specs.Operations.{loading}
-use Rattle.job.specs.Bytes.{blockAt, unsignedAt}
-use Rattle.job.specs.Commands.{makerAt}
-use Rattle.job.specs.InnerContracts.{untestedOutcome}
-use Rattle.job.specs.MakerLaws.{load-operation}
+use Rattle.model.specs.definitions.Operations.{loading}
+use Rattle.job.specs.definitions.Bytes.{blockAt, unsignedAt}
+use Rattle.job.specs.definitions.Commands.{makerAt}
+use Rattle.job.specs.definitions.InnerContracts.{untestedOutcome}
+use Rattle.job.specs.laws.MakerLaws.{load-operation}
 use Rattle.job.proofs.OperationLaws.{performs-untested, loading-storable}
 use Rattle.job.proofs.operations.load.Statement.{statement}
 use Rattle.job.proofs.operations.load.Tie as tie

@@ -3,12 +3,12 @@ use mathlib.Core.Path.{ap, sym, _∙_}
 use Prim.Native.Nat.{ℕ, _+_}
 use native.Mathlib.Omega.{arith}
 use denote.Ref.{now}
-use Rattle.model.specs.Operations.{multiplication}
-use Rattle.model.specs.ResultLaws.{multiplication-storable}
-use Rattle.job.specs.Bytes.{byteAt}
-use Rattle.job.specs.Commands.{makerAt, keptByte}
-use Rattle.job.specs.InnerContracts.{untestedOutcome}
-use Rattle.job.specs.MakerLaws.{multiply-operation}
+use Rattle.model.specs.definitions.Operations.{multiplication}
+use Rattle.model.specs.laws.ResultLaws.{multiplication-storable}
+use Rattle.job.specs.definitions.Bytes.{byteAt}
+use Rattle.job.specs.definitions.Commands.{makerAt, keptByte}
+use Rattle.job.specs.definitions.InnerContracts.{untestedOutcome}
+use Rattle.job.specs.laws.MakerLaws.{multiply-operation}
 use Rattle.job.proofs.OperationLaws.{performs-untested, held-two}
 use borrow.Author.Needs.{needs}
 use Rattle.job.proofs.operations.multiply.Statement.{statement}

@@ -5,12 +5,12 @@ use native.Mathlib.Omega.{arith}
 use borrow.Author.Tests.{leb-false}
 use lib.ListN.{length}
 use denote.Ref.{now}
-use Rattle.certificate.specs.Tests.{scratchSize, byDiscriminant, rootOf}
-use Rattle.certificate.specs.Stages.{root-room}
-use Rattle.certificate.specs.TestFits.{root-storable}
-use Rattle.job.specs.Bytes.{byteAt, blockAt}
-use Rattle.job.specs.Commands.{maxResults, makerAt}
-use Rattle.job.specs.MakerLaws.{root-operation}
+use Rattle.certificate.specs.definitions.Tests.{scratchSize, byDiscriminant, rootOf}
+use Rattle.certificate.specs.laws.Stages.{root-room}
+use Rattle.certificate.specs.laws.TestFits.{root-storable}
+use Rattle.job.specs.definitions.Bytes.{byteAt, blockAt}
+use Rattle.job.specs.definitions.Commands.{maxResults, makerAt}
+use Rattle.job.specs.laws.MakerLaws.{root-operation}
 use Rattle.job.proofs.OperationLaws.{performs, held-one}
 use borrow.Author.Needs.{needs}
 use Rattle.job.proofs.operations.root.Statement.{statement}

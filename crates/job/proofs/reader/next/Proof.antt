@@ -44,7 +44,7 @@ use denote.Triple.Table.{entered, cited}
 use denote.Triple.Walked.{says, Stays, stay-none, walkOf, goes-none, Walks, ends-at, walked, walk-meets}
 use denote.Exit.{yes}
 use denote.Triple.Clauses.{ensured, lasts}
-use Rattle.job.specs.Commands.{CommandReading, commandReading, commandReadingOf}
+use Rattle.job.specs.definitions.Commands.{CommandReading, commandReading, commandReadingOf}
 use Rattle.job.specs.declared.reader.Reader.{Reader}
 use Rattle.job.specs.declared.types.CommandReading.{CommandReading as CodeReading}
 use Rattle.job.proofs.reader.Reader as T

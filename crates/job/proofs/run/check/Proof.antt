@@ -2,7 +2,7 @@
 use mathlib.Core.Path.{_∙_}
 use native.Mathlib.Omega.{arith}
 use denote.Ref.{now}
-use Rattle.job.specs.Work.{workSize}
+use Rattle.job.specs.definitions.Work.{workSize}
 use Rattle.job.proofs.Entry.{cleared-is, cleared-clear, short-work, short-scratch, ran-leaves}
 use borrow.Author.Needs.{needs}
 use Rattle.job.proofs.run.check.Statement.{statement}

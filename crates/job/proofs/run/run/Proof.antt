@@ -8,9 +8,9 @@ use lib.IntN.{ℤ}
 use lib.ListN.{length, drop}
 use denote.Ref.{now}
 use Rattle.model.specs.declared.types.Model.{Model}
-use Rattle.job.specs.Jobs.{Step, command}
-use Rattle.job.specs.Work.{workSize}
-use Rattle.job.specs.InnerContracts.{Stepped, Clear}
+use Rattle.job.specs.definitions.Jobs.{Step, command}
+use Rattle.job.specs.definitions.Work.{workSize}
+use Rattle.job.specs.definitions.InnerContracts.{Stepped, Clear}
 use Rattle.job.specs.declared.types.Step.{Step as CodeStep}
 use Rattle.job.proofs.Loop.{Going, going-begins, going-again, going-ends, going-stops}
 use Rattle.job.proofs.run.run.Statement.{statement}

@@ -6,13 +6,13 @@ use native.Mathlib.Omega.{arith}
 use lib.IntN.{ℤ}
 use lib.ListN.{length, length-append}
 use denote.Ref.{now}
-use Rattle.model.specs.Outcomes.{judged}
+use Rattle.model.specs.definitions.Outcomes.{judged}
 use Rattle.model.specs.declared.types.Verdict.{Verdict}
 use Rattle.model.specs.declared.types.Verdict.the-variants.{Accepted}
-use Rattle.certificate.specs.Tests.{Certificate, makeCertificate}
+use Rattle.certificate.specs.definitions.Tests.{Certificate, makeCertificate}
 use Rattle.certificate.specs.declared.types.TestOutcome.{TestOutcome}
-use Rattle.job.specs.Jobs.{more, resulting}
-use Rattle.job.specs.InnerContracts.{Holds, Stepped}
+use Rattle.job.specs.definitions.Jobs.{more, resulting}
+use Rattle.job.specs.definitions.InnerContracts.{Holds, Stepped}
 use Rattle.job.specs.declared.types.Step.the-variants.{More, Refused}
 use Rattle.job.proofs.Results.{holds-all, stored-holds}
 use borrow.Author.Needs.{needs}

@@ -1,9 +1,9 @@
 -- `step::step` meets its contract.
 use mathlib.Core.Path.{refl, ap, sym, subst⁻¹, _∙_}
 use denote.Ref.{now}
-use Rattle.model.specs.Outcomes.{numberOf}
-use Rattle.job.specs.Commands.{commandReadingOf}
-use Rattle.job.specs.InnerContracts.{Stepped}
+use Rattle.model.specs.definitions.Outcomes.{numberOf}
+use Rattle.job.specs.definitions.Commands.{commandReadingOf}
+use Rattle.job.specs.definitions.InnerContracts.{Stepped}
 use Rattle.job.specs.declared.types.Step.the-variants.{Refused}
 use Rattle.job.proofs.Results.{holds-all}
 use Rattle.job.proofs.StepLaws.{read-refuses, read-performs, found-performable}

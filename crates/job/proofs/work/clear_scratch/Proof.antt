@@ -1,9 +1,9 @@
 -- `work::clear_scratch` meets its contract.
 use borrow.Author.Needs.{needs}
 use Prim.Native.Nat.{_-_}
-use Rattle.certificate.specs.Tests.{scratchSize}
-use Rattle.integer.specs.Filling.{ends}
-use Rattle.integer.specs.Clearing.{Clearing, clearing-begins, clearing-turn}
+use Rattle.certificate.specs.definitions.Tests.{scratchSize}
+use Rattle.integer.specs.laws.Filling.{ends}
+use Rattle.integer.specs.laws.Clearing.{Clearing, clearing-begins, clearing-turn}
 use Rattle.job.proofs.work.clear_scratch.Statement.{statement}
 use Rattle.job.proofs.work.clear_scratch.Tie as tie
 

@@ -1,9 +1,9 @@
 -- `work::clear_work` meets its contract.
 use borrow.Author.Needs.{needs}
 use Prim.Native.Nat.{_-_}
-use Rattle.job.specs.Work.{workSize}
-use Rattle.integer.specs.Filling.{ends}
-use Rattle.integer.specs.Clearing.{Clearing, clearing-begins, clearing-turn}
+use Rattle.job.specs.definitions.Work.{workSize}
+use Rattle.integer.specs.laws.Filling.{ends}
+use Rattle.integer.specs.laws.Clearing.{Clearing, clearing-begins, clearing-turn}
 use Rattle.job.proofs.work.clear_work.Statement.{statement}
 use Rattle.job.proofs.work.clear_work.Tie as tie
 

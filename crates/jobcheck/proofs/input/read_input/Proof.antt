@@ -11,7 +11,7 @@ use mir.Syntax.{w64}
 use mir.Val.{SFits}
 use mir.Facts.{toZ-ofZ}
 use Rattle.libc.specs.Io.{Moved}
-use Rattle.jobcheck.specs.Input.{readOf}
+use Rattle.jobcheck.specs.definitions.Input.{readOf}
 use Rattle.jobcheck.specs.declared.input.Read.the-variants.{Bytes}
 use Rattle.jobcheck.proofs.input.read_input.Statement.{statement}
 use Rattle.jobcheck.proofs.input.read_input.Tie as tie

@@ -10,7 +10,7 @@ use lib.Signed.{ltZ, nonNeg}
 use mir.Syntax.{w64}
 use mir.Val.{SFits, Fits}
 use mir.Facts.{toZ-ofZ}
-use Rattle.jobcheck.specs.Input.{readOf}
+use Rattle.jobcheck.specs.definitions.Input.{readOf}
 use Rattle.jobcheck.specs.declared.input.Read.the-variants.{Bytes, End, Failed}
 use Rattle.jobcheck.proofs.input.read_of.Statement.{statement}
 use Rattle.jobcheck.proofs.input.read_of.Tie as tie

@@ -1,7 +1,7 @@
 -- `add::add` meets its contract.
 use borrow.Author.Needs.{needs}
 use mathlib.Core.Path.{_∙_}
-use Rattle.model.specs.CombinationLaws.{addition-is}
+use Rattle.model.specs.laws.CombinationLaws.{addition-is}
 use Rattle.model.proofs.add.add.Statement.{statement}
 use Rattle.model.proofs.add.add.Tie as tie
 

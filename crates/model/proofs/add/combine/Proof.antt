@@ -8,14 +8,14 @@ use lib.ListN.{getD, drop, replicate, length-replicate}
 use mir.Syntax.{w32}
 use mir.Val.{SFits, toZ, ofZ}
 use mir.Facts.{toZ-ofZ}
-use Rattle.integer.specs.Parts.{abs-mul}
-use Rattle.integer.specs.Integer.{ℤ-ring}
-use Rattle.integer.specs.Machine.{signed-needs, abs-fits, fits-widens}
-use Rattle.integer.specs.Filling.{Filling, begins, turn, whole}
-use Rattle.chebyshev.specs.Coefficients.{weight, addLists, scaleList}
-use Rattle.chebyshev.specs.CoefficientLaws.{length-add, length-scale, getD-add, getD-scale}
-use Rattle.chebyshev.specs.Weight.{weight-at, weight-step, weight-end}
-use Rattle.model.specs.CombinationLaws.{combined-weight}
+use Rattle.integer.specs.laws.Parts.{abs-mul}
+use Rattle.integer.specs.definitions.Integer.{ℤ-ring}
+use Rattle.integer.specs.laws.Machine.{signed-needs, abs-fits, fits-widens}
+use Rattle.integer.specs.laws.Filling.{Filling, begins, turn, whole}
+use Rattle.chebyshev.specs.definitions.Coefficients.{weight, addLists, scaleList}
+use Rattle.chebyshev.specs.laws.CoefficientLaws.{length-add, length-scale, getD-add, getD-scale}
+use Rattle.chebyshev.specs.laws.Weight.{weight-at, weight-step, weight-end}
+use Rattle.model.specs.laws.CombinationLaws.{combined-weight}
 use Rattle.model.proofs.add.combine.Statement.{statement}
 use Rattle.model.proofs.add.combine.Tie as tie
 

@@ -7,13 +7,13 @@ use mathlib.Core.Bool.{true}
 use native.Mathlib.Omega.{arith}
 use lib.ListN.{length}
 use mir.Facts.{toZ-ofZ}
-use Rattle.chebyshev.specs.Coefficients.{weight}
-use Rattle.model.specs.InnerContracts.{combination, combinedModel, formedOutcome}
-use Rattle.model.specs.Models.{good}
-use Rattle.model.specs.Outcomes.{passing}
-use Rattle.model.specs.ModelLaws.{good-is}
-use Rattle.model.specs.FormedLaws.{formed-is}
-use Rattle.model.specs.CombinationLaws.{combination-of-good}
+use Rattle.chebyshev.specs.definitions.Coefficients.{weight}
+use Rattle.model.specs.definitions.InnerContracts.{combination, combinedModel, formedOutcome}
+use Rattle.model.specs.definitions.Models.{good}
+use Rattle.model.specs.definitions.Outcomes.{passing}
+use Rattle.model.specs.laws.ModelLaws.{good-is}
+use Rattle.model.specs.laws.FormedLaws.{formed-is}
+use Rattle.model.specs.laws.CombinationLaws.{combination-of-good}
 use Rattle.model.specs.declared.types.Model.{Model}
 use Rattle.model.proofs.add.combine_models.Statement.{statement}
 use Rattle.model.proofs.add.combine_models.Tie as tie

@@ -1,7 +1,7 @@
 -- `add::subtract` meets its contract.
 use borrow.Author.Needs.{needs}
 use mathlib.Core.Path.{_∙_}
-use Rattle.model.specs.CombinationLaws.{subtraction-is}
+use Rattle.model.specs.laws.CombinationLaws.{subtraction-is}
 use Rattle.model.proofs.add.subtract.Statement.{statement}
 use Rattle.model.proofs.add.subtract.Tie as tie
 

@@ -8,7 +8,7 @@ use lib.ListN.{length, getD}
 use mir.Syntax.{w32}
 use mir.Facts.{toZ-ofZ}
 use denote.Ref.{now}
-use Rattle.integer.specs.Filling.{Filling, begins, turn, whole}
+use Rattle.integer.specs.laws.Filling.{Filling, begins, turn, whole}
 use Rattle.model.proofs.area.copy.Statement.{statement}
 use Rattle.model.proofs.area.copy.Tie as tie
 

@@ -6,8 +6,8 @@ use lib.ListN.{getD, take, drop}
 use mir.Syntax.{w32}
 use mir.Facts.{toZ-ofZ}
 use denote.Ref.{now}
-use Rattle.model.specs.Models.{coefficientCount}
-use Rattle.model.specs.Areas.{unsignedOf}
+use Rattle.model.specs.definitions.Models.{coefficientCount}
+use Rattle.model.specs.definitions.Areas.{unsignedOf}
 use Rattle.model.proofs.area.read_candidate.Statement.{statement}
 use Rattle.model.proofs.area.read_candidate.Tie as tie
 

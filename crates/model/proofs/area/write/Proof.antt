@@ -11,7 +11,7 @@ use lib.Seq.{drop-cons, set-at}
 use mir.Syntax.{w32}
 use mir.ValLaws.{toZ-pos}
 use denote.Ref.{now}
-use Rattle.model.specs.Models.{coefficientCount}
+use Rattle.model.specs.definitions.Models.{coefficientCount}
 use Rattle.model.proofs.area.write.Statement.{statement}
 use Rattle.model.proofs.area.write.Tie as tie
 

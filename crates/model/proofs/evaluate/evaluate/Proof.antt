@@ -10,13 +10,13 @@ use lib.IntN.{ℤ, pos, natAbs, _+ℤ_, _-ℤ_, _*ℤ_}
 use mir.Syntax.{w64}
 use mir.Val.{SFits}
 use mir.Facts.{toZ-ofZ}
-use Rattle.integer.specs.Machine.{abs-fits, fits-widens, signed-needs}
-use Rattle.integer.specs.Rounding.{floor, up}
-use Rattle.model.specs.Models.{scale, good}
-use Rattle.model.specs.Outcomes.{accepted, passing}
-use Rattle.model.specs.ModelLaws.{Good, good-is}
-use Rattle.model.specs.Evaluation.{evaluation}
-use Rattle.model.specs.EvaluationLaws.{evaluation-accepted}
+use Rattle.integer.specs.laws.Machine.{abs-fits, fits-widens, signed-needs}
+use Rattle.integer.specs.definitions.Rounding.{floor, up}
+use Rattle.model.specs.definitions.Models.{scale, good}
+use Rattle.model.specs.definitions.Outcomes.{accepted, passing}
+use Rattle.model.specs.laws.ModelLaws.{Good, good-is}
+use Rattle.model.specs.definitions.Evaluation.{evaluation}
+use Rattle.model.specs.laws.EvaluationLaws.{evaluation-accepted}
 use Rattle.model.specs.declared.types.Model.{Model}
 use Rattle.model.proofs.EvaluationBounds.{Sums, error-small, error-word, radius-word, fits-value, fits-fourfold, fits-below, fits-above, low, high}
 use Rattle.model.proofs.evaluate.evaluate.Statement.{statement}

@@ -11,10 +11,10 @@ use lib.Signed.{ltZ-yes}
 use mir.Syntax.{w32, w64}
 use mir.Val.{SFits, toZ}
 use mir.Facts.{toZ-ofZ}
-use Rattle.integer.specs.Rounding.{near}
-use Rattle.integer.specs.Machine.{abs-fits, fits-widens, signed-needs}
-use Rattle.chebyshev.specs.Weight.{weight-at, weight-take}
-use Rattle.model.specs.Models.{scale}
+use Rattle.integer.specs.definitions.Rounding.{near}
+use Rattle.integer.specs.laws.Machine.{abs-fits, fits-widens, signed-needs}
+use Rattle.chebyshev.specs.laws.Weight.{weight-at, weight-take}
+use Rattle.model.specs.definitions.Models.{scale}
 use Rattle.model.proofs.EvaluationWalk.{Walk, begins, pairs-is, square-small, turn, ends, Small, small, term-fits, first-fits, twice-fits, numerator-fits}
 use Rattle.model.proofs.evaluate.point_sums.Statement.{statement}
 use Rattle.model.proofs.evaluate.point_sums.Tie as tie

@@ -8,15 +8,15 @@ use lib.ListN.{getD, length-set}
 use mir.Syntax.{w32}
 use mir.Val.{SFits}
 use mir.Facts.{toZ-ofZ}
-use Rattle.integer.specs.Parts.{abs-mul}
-use Rattle.integer.specs.Machine.{abs-fits}
-use Rattle.chebyshev.specs.Coefficients.{weight}
-use Rattle.chebyshev.specs.Weight.{weight-at}
-use Rattle.model.specs.Models.{good}
-use Rattle.model.specs.Outcomes.{passing}
-use Rattle.model.specs.ModelLaws.{Good, good-is}
-use Rattle.model.specs.Integral.{integralModel, integration}
-use Rattle.model.specs.IntegralLaws.{integral-doubled, weight-doubled, integration-formed, integration-degree}
+use Rattle.integer.specs.laws.Parts.{abs-mul}
+use Rattle.integer.specs.laws.Machine.{abs-fits}
+use Rattle.chebyshev.specs.definitions.Coefficients.{weight}
+use Rattle.chebyshev.specs.laws.Weight.{weight-at}
+use Rattle.model.specs.definitions.Models.{good}
+use Rattle.model.specs.definitions.Outcomes.{passing}
+use Rattle.model.specs.laws.ModelLaws.{Good, good-is}
+use Rattle.model.specs.definitions.Integral.{integralModel, integration}
+use Rattle.model.specs.laws.IntegralLaws.{integral-doubled, weight-doubled, integration-formed, integration-degree}
 use Rattle.model.specs.declared.types.Model.{Model}
 use Rattle.model.proofs.integrate.integrate.Statement.{statement}
 use Rattle.model.proofs.integrate.integrate.Tie as tie

@@ -10,11 +10,11 @@ use lib.Seq.{getD-take}
 use mir.Syntax.{w32, w64}
 use mir.Val.{SFits, toZ}
 use mir.Facts.{toZ-ofZ, toZ-pos}
-use Rattle.integer.specs.Parts.{abs-sub}
-use Rattle.integer.specs.Difference.{<-parts}
-use Rattle.integer.specs.Machine.{abs-fits, fits-widens, signed-needs}
-use Rattle.chebyshev.specs.Coefficients.{weight as weightOf}
-use Rattle.chebyshev.specs.Weight.{weight-at, weight-take}
+use Rattle.integer.specs.laws.Parts.{abs-sub}
+use Rattle.integer.specs.laws.Difference.{<-parts}
+use Rattle.integer.specs.laws.Machine.{abs-fits, fits-widens, signed-needs}
+use Rattle.chebyshev.specs.definitions.Coefficients.{weight as weightOf}
+use Rattle.chebyshev.specs.laws.Weight.{weight-at, weight-take}
 use Rattle.model.proofs.IntegralWalk.{Walk, begins, turn, ends, Small, small}
 use Rattle.model.proofs.integrate.rounded_integral.Statement.{statement}
 use Rattle.model.proofs.integrate.rounded_integral.Tie as tie

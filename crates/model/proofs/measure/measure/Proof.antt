@@ -4,7 +4,7 @@ use borrow.Author.Tests.{le-leb, lt-leb}
 use mathlib.Core.Path.{refl}
 use mathlib.Core.Bool.{and-false}
 use native.Mathlib.Omega.{arith}
-use Rattle.model.specs.Models.{good}
+use Rattle.model.specs.definitions.Models.{good}
 use Rattle.model.proofs.measure.measure.Statement.{statement}
 use Rattle.model.proofs.measure.measure.Tie as tie
 

@@ -12,11 +12,11 @@ use borrow.Author.Tests.{le-leb, lt-leb}
 use mir.Syntax.{w32}
 use mir.Val.{SFits}
 use mir.Facts.{toZ-ofZ}
-use Rattle.integer.specs.Parts.{abs}
-use Rattle.integer.specs.Machine.{signed-needs, within, fits-widens}
-use Rattle.chebyshev.specs.Coefficients.{weight}
-use Rattle.chebyshev.specs.Weight.{weight-step, weight-end}
-use Rattle.model.specs.Models.{good}
+use Rattle.integer.specs.laws.Parts.{abs}
+use Rattle.integer.specs.laws.Machine.{signed-needs, within, fits-widens}
+use Rattle.chebyshev.specs.definitions.Coefficients.{weight}
+use Rattle.chebyshev.specs.laws.Weight.{weight-step, weight-end}
+use Rattle.model.specs.definitions.Models.{good}
 use Rattle.model.proofs.measure.measure_parts.Statement.{statement}
 use Rattle.model.proofs.measure.measure_parts.Tie as tie
 

@@ -7,9 +7,9 @@ use lib.ListN.{length, getD, drop}
 use mir.Syntax.{w64}
 use mir.Val.{SFits}
 use mir.Facts.{toZ-ofZ}
-use Rattle.integer.specs.Machine.{signed-needs}
-use Rattle.chebyshev.specs.Coefficients.{weight}
-use Rattle.chebyshev.specs.Weight.{weight-step, weight-end}
+use Rattle.integer.specs.laws.Machine.{signed-needs}
+use Rattle.chebyshev.specs.definitions.Coefficients.{weight}
+use Rattle.chebyshev.specs.laws.Weight.{weight-step, weight-end}
 use Rattle.model.proofs.measure.weigh.Statement.{statement}
 use Rattle.model.proofs.measure.weigh.Tie as tie
 

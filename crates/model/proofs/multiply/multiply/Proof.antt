@@ -6,11 +6,11 @@ use mathlib.Core.Logic.{⊎-elim}
 use mathlib.Core.Bool.{true}
 use Prim.Native.Nat.{ℕ, _≤_}
 use native.Mathlib.Omega.{arith}
-use Rattle.model.specs.InnerContracts.{unlessLarge}
-use Rattle.model.specs.Models.{maxDegree, good}
-use Rattle.model.specs.Outcomes.{passing}
-use Rattle.model.specs.Operations.{keptDegree, productModel, multiplication}
-use Rattle.model.specs.MultiplicationLaws.{multiplication-of-good}
+use Rattle.model.specs.definitions.InnerContracts.{unlessLarge}
+use Rattle.model.specs.definitions.Models.{maxDegree, good}
+use Rattle.model.specs.definitions.Outcomes.{passing}
+use Rattle.model.specs.definitions.Operations.{keptDegree, productModel, multiplication}
+use Rattle.model.specs.laws.MultiplicationLaws.{multiplication-of-good}
 use Rattle.model.specs.declared.types.Model.{Model}
 use Rattle.model.proofs.multiply.multiply.Statement.{statement}
 use Rattle.model.proofs.multiply.multiply.Tie as tie

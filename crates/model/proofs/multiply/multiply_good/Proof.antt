@@ -7,15 +7,15 @@ use native.Mathlib.Omega.{arith}
 use native.Mathlib.Numerals.{add-one}
 use lib.ListN.{length, take}
 use lib.Seq.{length-take-le}
-use Rattle.integer.specs.Rounding.{upℕ}
-use Rattle.chebyshev.specs.Weight.{weight-take}
-use Rattle.model.specs.InnerContracts.{RoundedFrom, formedOutcome}
-use Rattle.model.specs.Models.{scale}
-use Rattle.model.specs.ModelLaws.{Good, good-is}
-use Rattle.model.specs.Operations.{productDegree, productList}
-use Rattle.model.specs.GoodLaws.{weight-productList}
-use Rattle.model.specs.MultiplicationLaws.{kept-is, radiusLoss, product-formed}
-use Rattle.model.specs.RoundingPassLaws.{rounded-loss}
+use Rattle.integer.specs.definitions.Rounding.{upℕ}
+use Rattle.chebyshev.specs.laws.Weight.{weight-take}
+use Rattle.model.specs.definitions.InnerContracts.{RoundedFrom, formedOutcome}
+use Rattle.model.specs.definitions.Models.{scale}
+use Rattle.model.specs.laws.ModelLaws.{Good, good-is}
+use Rattle.model.specs.definitions.Operations.{productDegree, productList}
+use Rattle.model.specs.laws.GoodLaws.{weight-productList}
+use Rattle.model.specs.laws.MultiplicationLaws.{kept-is, radiusLoss, product-formed}
+use Rattle.model.specs.laws.RoundingPassLaws.{rounded-loss}
 use Rattle.model.specs.declared.types.Model.{Model}
 use Rattle.model.proofs.multiply.multiply_good.Statement.{statement}
 use Rattle.model.proofs.multiply.multiply_good.Tie as tie

@@ -12,11 +12,11 @@ use lib.Signed.{ltZ-yes}
 use mir.Syntax.{w64, w32}
 use mir.Val.{SFits}
 use mir.Facts.{toZ-ofZ}
-use Rattle.integer.specs.Machine.{signed-needs, abs-fits}
-use Rattle.chebyshev.specs.Coefficients.{weight}
-use Rattle.chebyshev.specs.Weight.{weight-at, weight-drop, weight-split}
-use Rattle.model.specs.Models.{maxWeight, scale}
-use Rattle.model.specs.RoundingPassLaws.{roundedAt, lossAt, loss-small, product-small}
+use Rattle.integer.specs.laws.Machine.{signed-needs, abs-fits}
+use Rattle.chebyshev.specs.definitions.Coefficients.{weight}
+use Rattle.chebyshev.specs.laws.Weight.{weight-at, weight-drop, weight-split}
+use Rattle.model.specs.definitions.Models.{maxWeight, scale}
+use Rattle.model.specs.laws.RoundingPassLaws.{roundedAt, lossAt, loss-small, product-small}
 use Rattle.model.proofs.RoundingWalk.{Walk, begins, turn, ends, small}
 use Rattle.model.proofs.multiply.round.Statement.{statement}
 use Rattle.model.proofs.multiply.round.Tie as tie

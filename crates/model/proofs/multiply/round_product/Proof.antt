@@ -8,15 +8,15 @@ use native.Mathlib.Nat.{mul-le-mul}
 use lib.IntN.{ℤ}
 use lib.ListN.{length, take}
 use lib.Seq.{length-take-le}
-use Rattle.integer.specs.Integer.{ℤ-ring}
-use Rattle.chebyshev.specs.Coefficients.{weight}
-use Rattle.chebyshev.specs.Weight.{weight-take, weight-zeros}
-use Rattle.chebyshev.specs.Product.{product}
-use Rattle.chebyshev.specs.ProductLaws.{length-product}
-use Rattle.chebyshev.specs.ProductWeight.{weight-product}
-use Rattle.chebyshev.specs.ProductEnd.{product-end}
-use Rattle.model.specs.Models.{productSize}
-use Rattle.model.specs.RoundingPassLaws.{rounded-prefix}
+use Rattle.integer.specs.definitions.Integer.{ℤ-ring}
+use Rattle.chebyshev.specs.definitions.Coefficients.{weight}
+use Rattle.chebyshev.specs.laws.Weight.{weight-take, weight-zeros}
+use Rattle.chebyshev.specs.definitions.Product.{product}
+use Rattle.chebyshev.specs.laws.ProductLaws.{length-product}
+use Rattle.chebyshev.specs.laws.ProductWeight.{weight-product}
+use Rattle.chebyshev.specs.laws.ProductEnd.{product-end}
+use Rattle.model.specs.definitions.Models.{productSize}
+use Rattle.model.specs.laws.RoundingPassLaws.{rounded-prefix}
 use Rattle.model.proofs.multiply.round_product.Statement.{statement}
 use Rattle.model.proofs.multiply.round_product.Tie as tie
 

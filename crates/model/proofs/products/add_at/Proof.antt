@@ -7,11 +7,11 @@ use lib.ListN.{getD}
 use mir.Syntax.{w64}
 use mir.Val.{SFits}
 use mir.Facts.{toZ-ofZ}
-use Rattle.integer.specs.Parts.{abs-add}
-use Rattle.integer.specs.Integer.{ℤ-ring}
-use Rattle.integer.specs.Machine.{abs-fits}
-use Rattle.chebyshev.specs.Weight.{weight-at}
-use Rattle.chebyshev.specs.ProductLaws.{addAt-set}
+use Rattle.integer.specs.laws.Parts.{abs-add}
+use Rattle.integer.specs.definitions.Integer.{ℤ-ring}
+use Rattle.integer.specs.laws.Machine.{abs-fits}
+use Rattle.chebyshev.specs.laws.Weight.{weight-at}
+use Rattle.chebyshev.specs.laws.ProductLaws.{addAt-set}
 use Rattle.model.proofs.products.add_at.Statement.{statement}
 use Rattle.model.proofs.products.add_at.Tie as tie
 

@@ -6,10 +6,10 @@ use Prim.Native.Nat.{_+_}
 use native.Mathlib.Omega.{arith}
 use lib.IntN.{ℤ}
 use mir.Facts.{toZ-ofZ}
-use Rattle.integer.specs.Integer.{ℤ-ring}
-use Rattle.chebyshev.specs.Product.{addAt, addPair}
-use Rattle.chebyshev.specs.ProductLaws.{length-addAt}
-use Rattle.chebyshev.specs.ProductWeight.{weight-addAt}
+use Rattle.integer.specs.definitions.Integer.{ℤ-ring}
+use Rattle.chebyshev.specs.definitions.Product.{addAt, addPair}
+use Rattle.chebyshev.specs.laws.ProductLaws.{length-addAt}
+use Rattle.chebyshev.specs.laws.ProductWeight.{weight-addAt}
 use Rattle.model.proofs.products.add_pair.Statement.{statement}
 use Rattle.model.proofs.products.add_pair.Tie as tie
 

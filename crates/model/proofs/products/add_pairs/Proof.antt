@@ -9,14 +9,14 @@ use lib.ListN.{length, getD, drop}
 use mir.Syntax.{w64, w32}
 use mir.Val.{SFits, toZ}
 use mir.Facts.{toZ-ofZ}
-use Rattle.integer.specs.Parts.{abs-mul}
-use Rattle.integer.specs.Integer.{ℤ-ring}
-use Rattle.integer.specs.Machine.{signed-needs, abs-fits, fits-widens}
-use Rattle.chebyshev.specs.Coefficients.{weight}
-use Rattle.chebyshev.specs.Weight.{weight-step}
-use Rattle.chebyshev.specs.Product.{addPair, addRow}
-use Rattle.chebyshev.specs.ProductLaws.{length-addPair, row-step, row-end}
-use Rattle.chebyshev.specs.ProductWeight.{weight-addPair}
+use Rattle.integer.specs.laws.Parts.{abs-mul}
+use Rattle.integer.specs.definitions.Integer.{ℤ-ring}
+use Rattle.integer.specs.laws.Machine.{signed-needs, abs-fits, fits-widens}
+use Rattle.chebyshev.specs.definitions.Coefficients.{weight}
+use Rattle.chebyshev.specs.laws.Weight.{weight-step}
+use Rattle.chebyshev.specs.definitions.Product.{addPair, addRow}
+use Rattle.chebyshev.specs.laws.ProductLaws.{length-addPair, row-step, row-end}
+use Rattle.chebyshev.specs.laws.ProductWeight.{weight-addPair}
 use Rattle.model.proofs.products.add_pairs.Statement.{statement}
 use Rattle.model.proofs.products.add_pairs.Tie as tie
 

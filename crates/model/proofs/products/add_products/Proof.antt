@@ -9,13 +9,13 @@ use lib.ListN.{length, getD, drop}
 use mir.Syntax.{w32}
 use mir.Val.{SFits}
 use mir.Facts.{toZ-ofZ}
-use Rattle.integer.specs.Integer.{ℤ-ring}
-use Rattle.integer.specs.Machine.{signed-needs, fits-widens}
-use Rattle.chebyshev.specs.Coefficients.{weight}
-use Rattle.chebyshev.specs.Weight.{weight-step}
-use Rattle.chebyshev.specs.Product.{addRow, addRows}
-use Rattle.chebyshev.specs.ProductLaws.{length-addRow, rows-step, rows-end}
-use Rattle.chebyshev.specs.ProductWeight.{weight-addRow}
+use Rattle.integer.specs.definitions.Integer.{ℤ-ring}
+use Rattle.integer.specs.laws.Machine.{signed-needs, fits-widens}
+use Rattle.chebyshev.specs.definitions.Coefficients.{weight}
+use Rattle.chebyshev.specs.laws.Weight.{weight-step}
+use Rattle.chebyshev.specs.definitions.Product.{addRow, addRows}
+use Rattle.chebyshev.specs.laws.ProductLaws.{length-addRow, rows-step, rows-end}
+use Rattle.chebyshev.specs.laws.ProductWeight.{weight-addRow}
 use Rattle.model.proofs.products.add_products.Statement.{statement}
 use Rattle.model.proofs.products.add_products.Tie as tie
 

@@ -8,12 +8,12 @@ use lib.IntN.{ℤ, natAbs}
 use lib.ListN.{length, take, drop, length-drop}
 use lib.Seq.{length-take-le, take-all}
 use mir.Facts.{toZ-ofZ}
-use Rattle.integer.specs.Integer.{ℤ-ring}
-use Rattle.chebyshev.specs.Coefficients.{weight}
-use Rattle.chebyshev.specs.Weight.{weight-split}
-use Rattle.chebyshev.specs.Product.{addRow}
-use Rattle.chebyshev.specs.ProductLaws.{length-addRow, row-cut}
-use Rattle.chebyshev.specs.ProductWeight.{weight-addRow}
+use Rattle.integer.specs.definitions.Integer.{ℤ-ring}
+use Rattle.chebyshev.specs.definitions.Coefficients.{weight}
+use Rattle.chebyshev.specs.laws.Weight.{weight-split}
+use Rattle.chebyshev.specs.definitions.Product.{addRow}
+use Rattle.chebyshev.specs.laws.ProductLaws.{length-addRow, row-cut}
+use Rattle.chebyshev.specs.laws.ProductWeight.{weight-addRow}
 use Rattle.model.proofs.products.add_row.Statement.{statement}
 use Rattle.model.proofs.products.add_row.Tie as tie
 

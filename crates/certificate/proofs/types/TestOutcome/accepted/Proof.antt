@@ -1,7 +1,7 @@
 -- `TestOutcome::accepted` meets its contract.
 use borrow.Author.Needs.{needs}
 use mathlib.Core.Path.{ap}
-use Rattle.certificate.specs.InnerContracts.{passedTest}
+use Rattle.certificate.specs.definitions.InnerContracts.{passedTest}
 use Rattle.certificate.proofs.types.TestOutcome.accepted.Statement.{statement}
 use Rattle.certificate.proofs.types.TestOutcome.accepted.Tie as tie
 

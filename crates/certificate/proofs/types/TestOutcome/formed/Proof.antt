@@ -3,9 +3,9 @@ use borrow.Author.Needs.{needs}
 use borrow.Author.Tests.{lt-ltb, le-ltb}
 use mathlib.Core.Path.{_∙_}
 use native.Mathlib.Omega.{arith}
-use Rattle.model.specs.Models.{maxRadius, candidateModel}
-use Rattle.model.specs.Outcomes.{passing}
-use Rattle.certificate.specs.Stages.{large-radius}
+use Rattle.model.specs.definitions.Models.{maxRadius, candidateModel}
+use Rattle.model.specs.definitions.Outcomes.{passing}
+use Rattle.certificate.specs.laws.Stages.{large-radius}
 use Rattle.certificate.proofs.types.TestOutcome.formed.Statement.{statement}
 use Rattle.certificate.proofs.types.TestOutcome.formed.Tie as tie
 

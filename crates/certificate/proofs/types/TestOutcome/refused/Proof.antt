@@ -1,8 +1,8 @@
 -- `TestOutcome::refused` meets its contract.
 use borrow.Author.Needs.{needs}
 use mathlib.Core.Path.{ap}
-use Rattle.model.specs.Outcomes.{refused, numberOf}
-use Rattle.certificate.specs.Tests.{makeCertificate}
+use Rattle.model.specs.definitions.Outcomes.{refused, numberOf}
+use Rattle.certificate.specs.definitions.Tests.{makeCertificate}
 use Rattle.certificate.proofs.types.TestOutcome.refused.Statement.{statement}
 use Rattle.certificate.proofs.types.TestOutcome.refused.Tie as tie
 

@@ -1,7 +1,7 @@
 -- `Model::constant` meets its contract.
 use borrow.Author.Needs.{needs}
 use mir.Facts.{toZ-ofZ}
-use Rattle.model.specs.Models.{constantModel}
+use Rattle.model.specs.definitions.Models.{constantModel}
 use Rattle.model.proofs.types.Model.constant.Statement.{statement}
 use Rattle.model.proofs.types.Model.constant.Tie as tie
 

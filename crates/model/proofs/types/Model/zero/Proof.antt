@@ -1,6 +1,6 @@
 -- `Model::zero` meets its contract.
 use borrow.Author.Needs.{needs}
-use Rattle.model.specs.Models.{zeroModel}
+use Rattle.model.specs.definitions.Models.{zeroModel}
 use Rattle.model.proofs.types.Model.zero.Statement.{statement}
 use Rattle.model.proofs.types.Model.zero.Tie as tie
 

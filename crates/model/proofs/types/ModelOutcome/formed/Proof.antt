@@ -6,9 +6,9 @@ use mathlib.Core.Logic.{⊎-elim}
 use mathlib.Core.Bool.{true, _||_, or-true}
 use native.Mathlib.Omega.{arith}
 use lib.Dec.{ltb}
-use Rattle.model.specs.InnerContracts.{formedOutcome}
-use Rattle.model.specs.Models.{maxDegree, maxWeight, maxRadius}
-use Rattle.model.specs.Outcomes.{accepted, passing}
+use Rattle.model.specs.definitions.InnerContracts.{formedOutcome}
+use Rattle.model.specs.definitions.Models.{maxDegree, maxWeight, maxRadius}
+use Rattle.model.specs.definitions.Outcomes.{accepted, passing}
 use Rattle.model.proofs.types.ModelOutcome.formed.Statement.{statement}
 use Rattle.model.proofs.types.ModelOutcome.formed.Tie as tie
 

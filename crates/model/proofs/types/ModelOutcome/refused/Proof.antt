@@ -1,7 +1,7 @@
 -- `ModelOutcome::refused` meets its contract.
 use borrow.Author.Needs.{needs}
 use mathlib.Core.Path.{ap}
-use Rattle.model.specs.Outcomes.{refused, numberOf}
+use Rattle.model.specs.definitions.Outcomes.{refused, numberOf}
 use Rattle.model.proofs.types.ModelOutcome.refused.Statement.{statement}
 use Rattle.model.proofs.types.ModelOutcome.refused.Tie as tie
 
