@@ -51,9 +51,9 @@ module _ (job : List ℕ) (rs : List Model) (e : jobOf job ≡ accepted rs) (wor
       divisor = λ j k d w f v a.
           divisor-nonzero all-made x on i j k d w f v (allowed x v k (omega (arith, both-below i j k (named i (quotient j k d w) f))) a);
       radicand = λ j rule d w f v a n.
-          n
-          (lt-le ℚ-ordered
-          (radicand-positive all-made x on i j rule d w f v (allowed x v j (omega (arith, leb-false i j (named i (root rule j d w) f))) a)));
+          let p =
+          radicand-positive all-made x on i j rule d w f v (allowed x v j (omega (arith, leb-false i j (named i (root rule j d w) f))) a) in
+          n (lt-le ℚ-ordered p);
     };
   }
 

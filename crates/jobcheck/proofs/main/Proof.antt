@@ -24,15 +24,11 @@ module _ (c : tie.After-known-told) where
   small : n < length buffer
   small = inside _ n buffer (c .before .before .before .before .read-input .ensures) (c .before .input .given .1)
 
-array-share-prefix-buffer : tie.Need-array-share-prefix-buffer
-array-share-prefix-buffer c = omega (arith, small c, c .before .before .before .before .read-input .kept)
-
-slice-aggregate-answer : tie.Need-slice-aggregate-answer
-slice-aggregate-answer c = omega (arith, small (c .before), length-take (n (c .before)) (buffer (c .before)))
-
 pub main-spec : {M : Type 1} → statement M
 main-spec =
     tie.close (tie.spec
-    (λ c. search needs) (λ c κs. search needs) (λ c. search needs) array-share-prefix-buffer slice-aggregate-answer
-    (λ c κs. search needs) (λ c. search needs) (λ c. search needs) (λ c κs. search needs) (λ c. search needs)
-    (λ c. search needs) (λ c κs. search needs) (λ c. search needs) (λ c. search needs) (λ c. search needs))
+    (λ c. search needs) (λ c κs. search needs) (λ c. search needs)
+    (λ c. omega (arith, small c, c .before .before .before .before .read-input .kept))
+    (λ c. omega (arith, small (c .before), length-take (n (c .before)) (buffer (c .before)))) (λ c κs. search needs)
+    (λ c. search needs) (λ c. search needs) (λ c κs. search needs) (λ c. search needs) (λ c. search needs)
+    (λ c κs. search needs) (λ c. search needs) (λ c. search needs) (λ c. search needs))

@@ -5,8 +5,7 @@ use native.Mathlib.Nat.{mul-le-mul}
 use Rattle.certificate.proofs.numbers.displacement.Statement.{statement}
 use Rattle.certificate.proofs.numbers.displacement.Tie as tie
 
-mul-up-unsigned : tie.Need-mul-up-unsigned
-mul-up-unsigned c = omega (arith, mul-le-mul (c .pre .0) (c .pre .1))
-
 pub displacement-spec : {M : Type 1} → statement M
-displacement-spec = tie.close (tie.spec mul-up-unsigned (λ c κs. search needs) (λ c. search needs))
+displacement-spec =
+    tie.close (tie.spec
+    (λ c. omega (arith, mul-le-mul (c .pre .0) (c .pre .1))) (λ c κs. search needs) (λ c. search needs))

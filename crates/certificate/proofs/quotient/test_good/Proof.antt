@@ -15,9 +15,6 @@ use Rattle.certificate.proofs.quotient.test_good.Tie as tie
 w-fits : (s : tie.Start) → s .args .w-weight ≤ maxWeight
 w-fits s = omega (arith, s .pre .1 .1, good-is (candidateModel (s .args .w)) (s .pre .0 .good-w) .weight-fits)
 
-displacement-requires : tie.Need-displacement-requires
-displacement-requires c κs = (w-fits (c .before .before .before .before .before .before .before .before), search needs)
-
 quotient-radius-requires : tie.Need-quotient-radius-requires
 quotient-radius-requires c κs =
     let t = c .before in
@@ -57,6 +54,7 @@ returns-3 c =
 pub test-good-spec : {M : Type 1} → statement M
 test-good-spec =
     tie.close (tie.spec
-    (λ c κs. search needs) (λ c κs. search needs) displacement-requires quotient-radius-requires (λ c κs. search needs)
-    (λ c κs. search needs) (λ c κs. search needs) (λ c. search needs) returns (λ c. search needs) returns-2 (λ c. search needs)
-    returns-3)
+    (λ c κs. search needs) (λ c κs. search needs)
+    (λ c κs. (w-fits (c .before .before .before .before .before .before .before .before), search needs))
+    quotient-radius-requires (λ c κs. search needs) (λ c κs. search needs) (λ c κs. search needs) (λ c. search needs) returns
+    (λ c. search needs) returns-2 (λ c. search needs) returns-3)

@@ -20,9 +20,6 @@ loop-holds c = clearing-begins _ _ (omega arith)
 loop-again : tie.Need-loop-again Inv-loop μ-loop
 loop-again c = clearing-turn (c .before .loop .inv) (omega arith)
 
-same-length : tie.Need-same-length Inv-loop μ-loop
-same-length c = c .before .loop .inv .same
-
 returns : tie.Need-returns Inv-loop μ-loop
 returns c = clearing-ends (c .before .loop .inv) (omega arith) refl
 
@@ -30,4 +27,4 @@ pub clear-spec : {M : Type 1} → statement M
 clear-spec =
     tie.close (tie.spec
     Inv-loop μ-loop loop-holds (λ c. search needs) (λ c. search needs) (λ c. search needs) (λ c. search needs) loop-again
-    same-length returns)
+    (λ c. c .before .loop .inv .same) returns)

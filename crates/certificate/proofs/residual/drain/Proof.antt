@@ -34,14 +34,8 @@ module _ (c : tie.After-magnitude Inv-loop μ-loop) where
       let fits : SFits w64 (getD (l .loop .part) (l .loop .k) (pos 0)) = record { sfits = c .before .magnitude-arg .given } in
       (simp (toZ-ofZ fits) at (c .magnitude .ensures)) ∙ ap natAbs (clearing-next (l .loop .inv .cleared))
 
-add-sum : tie.Need-add-sum Inv-loop μ-loop
-add-sum c = omega (arith, draining-fits (l c .loop .inv) _ (inside c) (size-is c), l c .before .pre)
-
 loop-again : tie.Need-loop-again Inv-loop μ-loop
 loop-again c = draining-turn (l c .loop .inv) _ (inside c) (size-is c)
-
-same-length : tie.Need-same-length Inv-loop μ-loop
-same-length c = c .before .loop .inv .cleared .same
 
 returns : tie.Need-returns Inv-loop μ-loop
 returns c = draining-ends (c .before .loop .inv) (omega arith)
@@ -49,5 +43,6 @@ returns c = draining-ends (c .before .loop .inv) (omega arith)
 pub drain-spec : {M : Type 1} → statement M
 drain-spec =
     tie.close (tie.spec
-    Inv-loop μ-loop loop-holds (λ c. search needs) (λ c. search needs) (λ c κs. search needs) add-sum (λ c. search needs)
-    (λ c. search needs) (λ c. search needs) (λ c. search needs) loop-again same-length returns)
+    Inv-loop μ-loop loop-holds (λ c. search needs) (λ c. search needs) (λ c κs. search needs)
+    (λ c. omega (arith, draining-fits (l c .loop .inv) _ (inside c) (size-is c), l c .before .pre)) (λ c. search needs)
+    (λ c. search needs) (λ c. search needs) (λ c. search needs) loop-again (λ c. c .before .loop .inv .cleared .same) returns)

@@ -68,9 +68,6 @@ module _ (c : tie.After-magnitude-arg2 Inv-loop μ-loop) where
   fits-d : SFits w64 (x -ℤ p)
   fits-d = abs-fits w64 (x -ℤ p) (omega (arith, ap natAbs difference-is, weight-at (residualList C f) k, weight-residual C f, l .before .pre))
 
-mul-magnitude-3 : tie.Need-mul-magnitude-3 Inv-loop μ-loop
-mul-magnitude-3 c = simp (toZ-ofZ (fits-y c), toZ-ofZ (fits-widens (fits-y c))) (fits-p c)
-
 sub-magnitude : tie.Need-sub-magnitude Inv-loop μ-loop
 sub-magnitude c = simp (toZ-ofZ (fits-y c), toZ-ofZ (fits-widens (fits-y c)), toZ-ofZ (fits-p c), toZ-ofZ (fits-x c)) (fits-d c)
 
@@ -86,9 +83,6 @@ add-sum c = let b = c .before in omega (arith, draining-fits (l b .loop .inv) _ 
 loop-again : tie.Need-loop-again Inv-loop μ-loop
 loop-again c = let b = c .before in draining-turn (l b .loop .inv) _ (inside b) (size-is c)
 
-same-length : tie.Need-same-length Inv-loop μ-loop
-same-length c = c .before .loop .inv .cleared .same
-
 returns : tie.Need-returns Inv-loop μ-loop
 returns c = draining-ends (c .before .loop .inv) (omega arith)
 
@@ -96,5 +90,6 @@ pub drain-difference-spec : {M : Type 1} → statement M
 drain-difference-spec =
     tie.close (tie.spec
     Inv-loop μ-loop loop-holds (λ c. search needs) (λ c. search needs) (λ c. search needs) (λ c. search needs)
-    (λ c. search signed-needs) mul-magnitude-3 sub-magnitude (λ c κs. tt) add-sum (λ c. search needs) (λ c. search needs)
-    (λ c. search needs) (λ c. search needs) loop-again same-length returns)
+    (λ c. search signed-needs) (λ c. simp (toZ-ofZ (fits-y c), toZ-ofZ (fits-widens (fits-y c))) (fits-p c)) sub-magnitude
+    (λ c κs. tt) add-sum (λ c. search needs) (λ c. search needs) (λ c. search needs) (λ c. search needs) loop-again
+    (λ c. c .before .loop .inv .cleared .same) returns)

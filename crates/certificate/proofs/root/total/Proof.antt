@@ -56,9 +56,6 @@ module _ (c : tie.After-sum Inv-loop μ-loop) where
   fits-s : SFits w64 (s +ℤ x)
   fits-s = abs-fits w64 (s +ℤ x) (omega (arith, small))
 
-add-sum : tie.Need-add-sum Inv-loop μ-loop
-add-sum c = simp (toZ-ofZ (fits-x c), toZ-ofZ (fits-widens (fits-x c))) (fits-s c)
-
 loop-again : tie.Need-loop-again Inv-loop μ-loop
 loop-again c =
     let k = l c .loop .k in
@@ -77,5 +74,6 @@ returns c =
 pub total-spec : {M : Type 1} → statement M
 total-spec =
     tie.close (tie.spec
-    Inv-loop μ-loop loop-holds (λ c. search signed-needs) (λ c. search signed-needs) (λ c. search signed-needs) add-sum
-    (λ c. omega arith) (λ c. omega arith) loop-again returns)
+    Inv-loop μ-loop loop-holds (λ c. search signed-needs) (λ c. search signed-needs) (λ c. search signed-needs)
+    (λ c. simp (toZ-ofZ (fits-x c), toZ-ofZ (fits-widens (fits-x c))) (fits-s c)) (λ c. omega arith) (λ c. omega arith)
+    loop-again returns)

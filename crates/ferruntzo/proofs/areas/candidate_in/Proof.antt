@@ -8,14 +8,8 @@ use Rattle.model.specs.laws.AreaLaws.{candidate-front}
 use Rattle.ferruntzo.proofs.areas.candidate_in.Statement.{statement}
 use Rattle.ferruntzo.proofs.areas.candidate_in.Tie as tie
 
-slice-aggregate-read-candidate : tie.Need-slice-aggregate-read-candidate
-slice-aggregate-read-candidate c = simp length-take (omega arith)
-
-read-candidate-requires : tie.Need-read-candidate-requires
-read-candidate-requires c κs = simp length-take (omega arith)
-
 returns : tie.Need-returns
 returns c = c .read-candidate .ensures ∙ candidate-front candidateSize (now (c .before .before .args .area)) (omega arith)
 
 pub candidate-in-spec : {M : Type 1} → statement M
-candidate-in-spec = tie.close (tie.spec slice-aggregate-read-candidate read-candidate-requires returns)
+candidate-in-spec = tie.close (tie.spec (λ c. simp length-take (omega arith)) (λ c κs. simp length-take (omega arith)) returns)

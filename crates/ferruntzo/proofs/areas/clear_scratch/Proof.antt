@@ -28,9 +28,6 @@ loop-holds c = clearing-begins scratchSize _ (c .if1 .left)
 loop-again : tie.Need-loop-again Inv-loop μ-loop
 loop-again c = clearing-turn (c .before .loop .inv) (c .loop-test .taken)
 
-same-length : tie.Need-same-length Inv-loop μ-loop
-same-length c = c .before .loop .inv .same
-
 returns-2 : tie.Need-returns-2 Inv-loop μ-loop
 unfolding scratchAfter zeros
 returns-2 c =
@@ -40,5 +37,5 @@ returns-2 c =
 pub clear-scratch-spec : {M : Type 1} → statement M
 clear-scratch-spec =
     tie.close (tie.spec
-    Inv-loop μ-loop returns loop-holds (λ c. search needs) (λ c. search needs) (λ c. search needs) (λ c. search needs) loop-again
-    same-length returns-2)
+    Inv-loop μ-loop returns loop-holds (λ c. search needs) (λ c. search needs) (λ c. search needs) (λ c. search needs)
+    loop-again (λ c. c .before .loop .inv .same) returns-2)

@@ -8,14 +8,8 @@ use Rattle.model.specs.laws.AreaLaws.{model-front}
 use Rattle.ferruntzo.proofs.areas.model_in.Statement.{statement}
 use Rattle.ferruntzo.proofs.areas.model_in.Tie as tie
 
-slice-aggregate-read : tie.Need-slice-aggregate-read
-slice-aggregate-read c = simp length-take (omega arith)
-
-read-requires : tie.Need-read-requires
-read-requires c κs = simp length-take (omega arith)
-
 returns : tie.Need-returns
 returns c = c .read .ensures ∙ model-front modelSize (now (c .before .before .args .area)) (omega arith)
 
 pub model-in-spec : {M : Type 1} → statement M
-model-in-spec = tie.close (tie.spec slice-aggregate-read read-requires returns)
+model-in-spec = tie.close (tie.spec (λ c. simp length-take (omega arith)) (λ c κs. simp length-take (omega arith)) returns)

@@ -22,18 +22,6 @@ long c =
     (now (a .out)) (now (a .numbers)) (c .if1 .taken) in
     (two-fit modelSize modelSize (now (a .f)) (now (a .g)) (t .0), t .1, t .2)
 
-model-in-requires : tie.Need-model-in-requires
-model-in-requires c κs = long c .0 .0
-
-model-in-requires-2 : tie.Need-model-in-requires-2
-model-in-requires-2 c κs = long (c .before) .0 .1
-
-candidate-in-requires : tie.Need-candidate-in-requires
-candidate-in-requires c κs = long (c .before .before) .1
-
-candidate-in-requires-2 : tie.Need-candidate-in-requires-2
-candidate-in-requires-2 c κs = long (c .before .before .before) .2
-
 answer-test-requires : tie.Need-answer-test-requires
 answer-test-requires c κs =
     let q = c .before .before .before .quotient in test-storable (q .result) (q .ensures .0) (quotient-storable _ _ _ _ _)
@@ -49,8 +37,9 @@ returns c =
     rw (d .if1 .taken)
     (test-given _ (now (a .scratch)) (now (a .out)) (now (a .numbers)) (q .quotient .result) (q .quotient .ensures .1)
     (c .before .before .before .answer-test .ensures)
-    (q .quotient .ensures .0
-    ∙ (λ k. quotientTest (length (now (a .scratch))) (g .before .model-in .ensures k) (g .model-in2 .ensures k) (h .candidate-in .ensures k) (w .candidate-in2 .ensures k))))
+    (_∙_ {b = quotientTest (length (now (a .scratch))) (g .before .model-in .result) (g .model-in2 .result) (h .candidate-in .result) (w .candidate-in2 .result)}
+    (q .quotient .ensures .0)
+    (λ k. quotientTest (length (now (a .scratch))) (g .before .model-in .ensures k) (g .model-in2 .ensures k) (h .candidate-in .ensures k) (w .candidate-in2 .ensures k))))
 
 returns-2 : tie.Need-returns-2
 returns-2 c =
@@ -60,6 +49,7 @@ returns-2 c =
 pub ferruntzo-quotient-spec : {M : Type 1} → statement M
 ferruntzo-quotient-spec =
     tie.close (tie.spec
-    model-in-requires model-in-requires-2 candidate-in-requires candidate-in-requires-2 (λ c κs. search needs) answer-test-requires
-    (λ c κs. search needs) (λ c. search needs) (λ c. search needs) (λ c. search needs) returns
-    (λ c. search needs) (λ c. search needs) (λ c. search needs) returns-2)
+    (λ c κs. long c .0 .0) (λ c κs. long (c .before) .0 .1) (λ c κs. long (c .before .before) .1)
+    (λ c κs. long (c .before .before .before) .2) (λ c κs. search needs) answer-test-requires (λ c κs. search needs)
+    (λ c. search needs) (λ c. search needs) (λ c. search needs) returns (λ c. search needs) (λ c. search needs)
+    (λ c. search needs) returns-2)

@@ -20,15 +20,6 @@ long c =
     let t = test-fits (fits modelSize (now (a .f))) (now (a .h)) (now (a .w)) (now (a .scratch)) (now (a .out)) (now (a .numbers)) (c .if1 .taken) in
     (leb-true modelSize (length (now (a .f))) (t .0), t .1, t .2)
 
-model-in-requires : tie.Need-model-in-requires
-model-in-requires c κs = long c .0
-
-candidate-in-requires : tie.Need-candidate-in-requires
-candidate-in-requires c κs = long (c .before) .1
-
-candidate-in-requires-2 : tie.Need-candidate-in-requires-2
-candidate-in-requires-2 c κs = long (c .before .before) .2
-
 answer-test-requires : tie.Need-answer-test-requires
 answer-test-requires c κs = let q = c .before .before .before .root in test-storable (q .result) (q .ensures .0) (root-storable _ _ _ _)
 
@@ -42,8 +33,9 @@ returns c =
     rw (d .if1 .taken)
     (test-given _ (now (a .scratch)) (now (a .out)) (now (a .numbers)) (q .root .result) (q .root .ensures .1)
     (c .before .before .before .answer-test .ensures)
-    (q .root .ensures .0
-    ∙ (λ k. rootTest (length (now (a .scratch))) (h .before .model-in .ensures k) (h .candidate-in .ensures k) (w .candidate-in2 .ensures k))))
+    (_∙_ {b = rootTest (length (now (a .scratch))) (h .before .model-in .result) (h .candidate-in .result) (w .candidate-in2 .result)}
+    (q .root .ensures .0)
+    (λ k. rootTest (length (now (a .scratch))) (h .before .model-in .ensures k) (h .candidate-in .ensures k) (w .candidate-in2 .ensures k))))
 
 returns-2 : tie.Need-returns-2
 returns-2 c =
@@ -53,6 +45,6 @@ returns-2 c =
 pub ferruntzo-root-spec : {M : Type 1} → statement M
 ferruntzo-root-spec =
     tie.close (tie.spec
-    model-in-requires candidate-in-requires candidate-in-requires-2 (λ c κs. search needs) answer-test-requires
-    (λ c κs. search needs) (λ c. search needs) (λ c. search needs) (λ c. search needs) returns
+    (λ c κs. long c .0) (λ c κs. long (c .before) .1) (λ c κs. long (c .before .before) .2) (λ c κs. search needs)
+    answer-test-requires (λ c κs. search needs) (λ c. search needs) (λ c. search needs) (λ c. search needs) returns
     (λ c. search needs) (λ c. search needs) (λ c. search needs) returns-2)

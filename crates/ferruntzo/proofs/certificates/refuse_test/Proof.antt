@@ -12,9 +12,6 @@ use Rattle.ferruntzo.specs.definitions.TestAnswers.{testAnswer, testIn}
 use Rattle.ferruntzo.proofs.certificates.refuse_test.Statement.{statement}
 use Rattle.ferruntzo.proofs.certificates.refuse_test.Tie as tie
 
-answer-test-requires : tie.Need-answer-test-requires
-answer-test-requires c κs = rw (c .before .before .zero .ensures) zero-storable
-
 returns : tie.Need-returns
 returns c =
     let t = c .before .before .before .answer-test in
@@ -28,4 +25,5 @@ returns c =
 pub refuse-test-spec : {M : Type 1} → statement M
 refuse-test-spec =
     tie.close (tie.spec
-    (λ c κs. search needs) (λ c κs. search needs) answer-test-requires (λ c. search needs) (λ c. search needs) (λ c. search needs) returns)
+    (λ c κs. search needs) (λ c κs. search needs) (λ c κs. rw (c .before .before .zero .ensures) zero-storable)
+    (λ c. search needs) (λ c. search needs) (λ c. search needs) returns)

@@ -24,12 +24,6 @@ long : (c : tie.Then1) → let g = c .before .args in
     (modelSize ≤ length (now (g .a))) × (modelSize ≤ length (now (g .b))) × (modelSize ≤ length (now (g .out)))
 long c = let g = c .before .args in three-fit modelSize modelSize modelSize (now (g .a)) (now (g .b)) (now (g .out)) (c .if1 .taken)
 
-model-in-requires : tie.Need-model-in-requires
-model-in-requires c κs = long c .0
-
-model-in-requires-2 : tie.Need-model-in-requires-2
-model-in-requires-2 c κs = long (c .before) .1
-
 answer-operation-requires : tie.Need-answer-operation-requires
 answer-operation-requires c κs =
     let o = c .before .operate in
@@ -51,5 +45,5 @@ returns-2 c = rw (c .before .before .before .if1 .left) (c .before .refuse-opera
 pub perform-spec : {M : Type 1} → statement M
 perform-spec =
     tie.close (tie.spec
-    model-in-requires model-in-requires-2 (λ c κs. search needs) answer-operation-requires (λ c κs. search needs)
+    (λ c κs. long c .0) (λ c κs. long (c .before) .1) (λ c κs. search needs) answer-operation-requires (λ c κs. search needs)
     (λ c. search needs) returns (λ c. search needs) returns-2)

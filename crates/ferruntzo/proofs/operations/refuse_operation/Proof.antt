@@ -9,9 +9,6 @@ use Rattle.ferruntzo.specs.definitions.Answers.{outcomeIn}
 use Rattle.ferruntzo.proofs.operations.refuse_operation.Statement.{statement}
 use Rattle.ferruntzo.proofs.operations.refuse_operation.Tie as tie
 
-answer-operation-requires : tie.Need-answer-operation-requires
-answer-operation-requires c κs = rw (c .before .zero .ensures) zero-storable
-
 returns : tie.Need-returns
 returns c =
     let d = c .before .before .before in
@@ -19,4 +16,6 @@ returns c =
     ∙ ap (λ (m : Model). outcomeIn (refused 1 m) (now (d .before .args .out))) (d .zero .ensures)
 
 pub refuse-operation-spec : {M : Type 1} → statement M
-refuse-operation-spec = tie.close (tie.spec (λ c κs. search needs) answer-operation-requires (λ c. search needs) returns)
+refuse-operation-spec =
+    tie.close (tie.spec
+    (λ c κs. search needs) (λ c κs. rw (c .before .zero .ensures) zero-storable) (λ c. search needs) returns)

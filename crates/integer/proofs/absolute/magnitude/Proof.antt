@@ -37,9 +37,6 @@ module _ (c : tie.Then1) where
   fits-y : SFits w64 y
   fits-y = fits w64 y (omega (arith, abs y, y-is, small)) (omega (arith, y-is))
 
-sub-result : tie.Need-sub-result
-sub-result c = simp (toZ-ofZ (fits-x c)) (fits-y c)
-
 cast-result : tie.Need-cast-result
 cast-result c = simp (toZ-ofZ (fits-x c), toZ-ofZ (fits-y c)) (non-neg (y c) (y-is c .1), record { fits = omega (arith, y-is c, small c) })
 
@@ -57,4 +54,6 @@ returns : tie.Need-returns
 returns c = simp (toZ-ofZ (fits-x c), toZ-ofZ (fits-y c)) (y-is c .0)
 
 pub magnitude-spec : {M : Type 1} → statement M
-magnitude-spec = tie.close (tie.spec sub-result cast-result add-result cast-result-2 returns (λ c. search needs))
+magnitude-spec =
+    tie.close (tie.spec
+    (λ c. simp (toZ-ofZ (fits-x c)) (fits-y c)) cast-result add-result cast-result-2 returns (λ c. search needs))

@@ -18,9 +18,6 @@ module _ (c : tie.Then1) where
   negative : 0 < r o ⁻
   negative = omega (arith, lt-yes (r o) (pos 0) (rw (r-is o) at (c .if1 .taken)))
 
-sub-result : tie.Need-sub-result
-sub-result c = rw (q-is (o c)) (q-down-fits (o c) (negative c))
-
 returns : tie.Need-returns
 returns c =
     let o = o c in
@@ -32,4 +29,6 @@ returns-2 c =
     rw (q-is o) (floor-at (o .n) (natAbs (o .d)) (q o) (r o) (t o) (omega (arith, apart (r o), lt-no (r o) (pos 0) (rw (r-is o) at (c .if1 .left)))))
 
 pub floor-spec : {M : Type 1} → statement M
-floor-spec = tie.close (tie.spec (λ s. asks (operands s)) (λ s. asks (operands s)) sub-result returns returns-2)
+floor-spec =
+    tie.close (tie.spec
+    (λ s. asks (operands s)) (λ s. asks (operands s)) (λ c. rw (q-is (o c)) (q-down-fits (o c) (negative c))) returns returns-2)

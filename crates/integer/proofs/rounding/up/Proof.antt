@@ -18,9 +18,6 @@ module _ (c : tie.Then1) where
   above : 0 < r o ⁺
   above = omega (arith, lt-yes (pos 0) (r o) (rw (r-is o) at (c .if1 .taken)))
 
-add-result : tie.Need-add-result
-add-result c = rw (q-is (o c)) (q-up-fits (o c) (above c))
-
 returns : tie.Need-returns
 returns c =
     let o = o c in
@@ -32,4 +29,6 @@ returns-2 c =
     rw (q-is o) (up-at (o .n) (natAbs (o .d)) (q o) (r o) (t o) (omega (arith, apart (r o), lt-no (pos 0) (r o) (rw (r-is o) at (c .if1 .left)))))
 
 pub up-spec : {M : Type 1} → statement M
-up-spec = tie.close (tie.spec (λ s. asks (operands s)) (λ s. asks (operands s)) add-result returns returns-2)
+up-spec =
+    tie.close (tie.spec
+    (λ s. asks (operands s)) (λ s. asks (operands s)) (λ c. rw (q-is (o c)) (q-up-fits (o c) (above c))) returns returns-2)

@@ -15,9 +15,6 @@ module _ (c : tie.Then1) where
       let d = c .before .args .d in
       omega (arith, div-add-mod n d, mod-lt n {m = d} (c .before .pre), mul-le-mul-left {m = 2} {n = d} (n / d) (omega (arith, mod-lt n {m = d} (c .before .pre))))
 
-add-result : tie.Need-add-result
-add-result c = omega (arith, half c)
-
 returns : tie.Need-returns
 returns c =
     let n = c .before .args .n in
@@ -31,4 +28,4 @@ returns-2 c =
     upℕ-unique n d (n / d) (c .before .pre) (omega (arith, div-add-mod n d)) (omega (arith, div-add-mod n d, c .before .pre))
 
 pub up-unsigned-spec : {M : Type 1} → statement M
-up-unsigned-spec = tie.close (tie.spec (λ c. search needs) (λ c. search needs) add-result returns returns-2)
+up-unsigned-spec = tie.close (tie.spec (λ c. search needs) (λ c. search needs) (λ c. omega (arith, half c)) returns returns-2)

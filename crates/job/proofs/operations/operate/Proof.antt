@@ -8,15 +8,6 @@ use Rattle.job.proofs.operations.operate.Tie as tie
 load-requires : tie.Need-load-requires
 load-requires c κs = let o = rw (c .enum-told .given .1) at (c .before .before .before .pre .0) in omega (arith, o .room)
 
-add-requires : tie.Need-add-requires
-add-requires c κs = rw (c .enum-told2 .given .1) at (c .before .before .before .pre .0)
-
-subtract-requires : tie.Need-subtract-requires
-subtract-requires c κs = rw (c .enum-told3 .given .1) at (c .before .before .before .pre .0)
-
-multiply-requires : tie.Need-multiply-requires
-multiply-requires c κs = rw (c .enum-told4 .given .1) at (c .before .before .before .pre .0)
-
 quotient-requires : tie.Need-quotient-requires
 quotient-requires c κs =
     let p = c .before .before .before .before .pre in
@@ -48,6 +39,9 @@ returns-6 c = rw (c .before .before .before .enum-told6 .given .1) (c .before .r
 pub operate-spec : {M : Type 1} → statement M
 operate-spec =
     tie.close (tie.spec
-    (λ c. search needs) load-requires (λ c. search needs) add-requires (λ c. search needs) subtract-requires
-    (λ c. search needs) multiply-requires (λ c. search needs) quotient-requires (λ c. search needs) root-requires returns
-    returns-2 returns-3 returns-4 (λ c. search needs) returns-5 (λ c. search needs) returns-6)
+    (λ c. search needs) load-requires (λ c. search needs)
+    (λ c κs. rw (c .enum-told2 .given .1) at (c .before .before .before .pre .0)) (λ c. search needs)
+    (λ c κs. rw (c .enum-told3 .given .1) at (c .before .before .before .pre .0)) (λ c. search needs)
+    (λ c κs. rw (c .enum-told4 .given .1) at (c .before .before .before .pre .0)) (λ c. search needs) quotient-requires
+    (λ c. search needs) root-requires returns returns-2 returns-3 returns-4 (λ c. search needs) returns-5 (λ c. search needs)
+    returns-6)

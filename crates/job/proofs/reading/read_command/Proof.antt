@@ -105,15 +105,9 @@ returns-3 c =
     rw (left2 d)
     (simp (lt-ltb (length (job a)) (at a + 1 + s a .width) (omega (arith, c .if3 .taken, a .before .before .if1 .left))))
 
-has-bad-values-requires : tie.Need-has-bad-values-requires
-has-bad-values-requires c κs = values-fit c
-
 returns-4 : tie.Need-returns-4
 unfolding passing
 returns-4 c = rw (left3 (c .before .before)) (simp (sym (c .before .has-bad-values .ensures) ∙ c .if4 .taken))
-
-has-bad-names-requires : tie.Need-has-bad-names-requires
-has-bad-names-requires c κs = names-fit (c .before .before)
 
 returns-5 : tie.Need-returns-5
 unfolding passing
@@ -136,5 +130,5 @@ pub read-command-spec : {M : Type 1} → statement M
 read-command-spec =
     tie.close (tie.spec
     returns (λ c. search needs) (λ c κs. search needs) (λ c κs. search needs) returns-2 (λ c. search needs) returns-3
-    has-bad-values-requires returns-4 has-bad-names-requires returns-5 (λ c κs. search needs) returns-6 (λ c. search needs)
-    (λ c. search needs) (λ c κs. search needs) returns-7 returns-8)
+    (λ c κs. values-fit c) returns-4 (λ c κs. names-fit (c .before .before)) returns-5 (λ c κs. search needs) returns-6
+    (λ c. search needs) (λ c. search needs) (λ c κs. search needs) returns-7 returns-8)

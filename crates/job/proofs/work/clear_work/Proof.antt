@@ -19,9 +19,6 @@ loop-holds c = clearing-begins workSize _ (c .pre)
 loop-again : tie.Need-loop-again Inv-loop μ-loop
 loop-again c = clearing-turn (c .before .loop .inv) (c .loop-test .taken)
 
-same-length : tie.Need-same-length Inv-loop μ-loop
-same-length c = c .before .loop .inv .same
-
 returns : tie.Need-returns Inv-loop μ-loop
 returns c = ends (c .before .loop .inv) (c .loop-test .left)
 
@@ -29,4 +26,4 @@ pub clear-work-spec : {M : Type 1} → statement M
 clear-work-spec =
     tie.close (tie.spec
     Inv-loop μ-loop loop-holds (λ c. search needs) (λ c. search needs) (λ c. search needs) (λ c. search needs) loop-again
-    same-length returns)
+    (λ c. c .before .loop .inv .same) returns)

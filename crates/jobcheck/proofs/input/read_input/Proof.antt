@@ -59,27 +59,19 @@ module _ (c : tie.After-known-told Inv-loop μ-loop) where
   came : (0 < c .before .read2 .given .0 .0) × (c .before .read2 .given .0 .0 ≤ length (buffer k) - done k)
   came = room k (c .before .read2 .given .0 .0) (c .before .read2 .given .1)
 
-add-done : tie.Need-add-done Inv-loop μ-loop
-add-done c = record { fits = omega (arith, came c) }
-
 loop-less : tie.Need-loop-less Inv-loop μ-loop
 loop-less c = omega (arith, came c, kept (k c))
 
 loop-again : tie.Need-loop-again Inv-loop μ-loop
 loop-again c = (omega (arith, kept (k c)), omega (arith, came c, kept (k c)))
 
-same-length : tie.Need-same-length Inv-loop μ-loop
-same-length c = omega (arith, kept (c .before .before))
-
 returns : tie.Need-returns Inv-loop μ-loop
 returns c = omega (arith, kept (c .before .before))
-
-same-length-2 : tie.Need-same-length-2 Inv-loop μ-loop
-same-length-2 c = omega (arith, kept (c .before .before))
 
 pub read-input-spec : {M : Type 1} → statement M
 read-input-spec =
     tie.close (tie.spec
     Inv-loop μ-loop (λ c. search needs) (λ c. search needs) (λ c. search needs) (λ c. search needs) (λ c κs. search needs)
-    (λ c κs. search needs) (λ c. search needs) add-done loop-less loop-again (λ c. search needs) same-length returns
-    (λ c. search needs) same-length-2 (λ c. search needs) (λ c. search needs) (λ c. search needs))
+    (λ c κs. search needs) (λ c. search needs) (λ c. record { fits = omega (arith, came c) }) loop-less loop-again
+    (λ c. search needs) (λ c. omega (arith, kept (c .before .before))) returns (λ c. search needs)
+    (λ c. omega (arith, kept (c .before .before))) (λ c. search needs) (λ c. search needs) (λ c. search needs))
