@@ -1,4 +1,4 @@
--- The step from what the check of a job answers and leaves to the definitions of specs/JobAnswers.antt, and to requirement 3 over
+-- The step from what the check of a job answers and leaves to the definitions of JobAnswers.antt, and to requirement 3 over
 -- one more lent area.
 use mathlib.Core.Path.{_≡_, refl, ap, sym, subst, _∙_}
 use mathlib.Core.Bool.{not}

@@ -126,7 +126,7 @@ fn answer_evaluation(answer: BoundsOutcome, bounds: &mut [i64]) -> u32
     verdict_number(verdict)
 }
 
-// BoundsOutcome of the values that a allows at p/S.
+// Bounds of the values that a allows at p/S.
 #[no_mangle]
 pub extern "C" fn ferruntzo_evaluate(a: &[i32], p: i32, bounds: &mut [i64]) -> u32
     ensures { λ r. ⌜ evaluationAnswer r (now (bounds .exit)) ≡ evaluateAnswer (now (a .entry)) p (now (bounds .entry)) ⌝ }

@@ -54,7 +54,7 @@ pub enum Step {
     Refused(Refusal),
 }
 
-// Accepted with the count of results, or refused with the verdict and the command's number, counted from 0.
+// Accepted with the count of results, or refused with the refusal and the command's number, counted from 0.
 pub enum JobOutcome {
     Accepted(usize),
     Refused(Refusal, usize),

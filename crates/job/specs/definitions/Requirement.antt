@@ -1,13 +1,13 @@
 -- Requirement 3 as one definition, `Requirement3`, the owner's sentences beside its fields, 01's beside what they speak of. What
 -- else a reader believes, besides the library's numbers and lists:
 --   the commands in the bytes, signed numbers among them: Bytes, Commands, JobReading; the kinds of src/types.rt
---   what each command gives: Makers; model's Models, Operations; certificate's Tests; chebyshev's Coefficients, Product, Sign;
+--   what each command gives: Makers; model's Models, Operations; certificate's Tests; chebyshev's Coefficients, Product;
 --     integer's Rounding, Ring, Integer
---   what refusals there are, and their order: `Meets` of Order, `areaPlaces` of Work, `Passed` of model's Outcomes
+--   what refusals there are, and their order: `Meets` of Order, `areaPlaces` of Work; model's Outcomes
 --   what the code's answer means: `jobOutcomeOf` of Outcomes
 --   where the models stand in the work area: `stretch`, `modelsIn` of Work; model's Areas
---   what a model allows, "from -1 to 1": model's Values; chebyshev's Allows, Coefficients, Kinds
---   fractions, their order and division: integer's Fraction, FractionOrder, FractionInverse
+--   what a model allows, "from -1 to 1": model's Values; chebyshev's Allows, Coefficients, Recurrences
+--   fractions, their order and division: integer's Fraction, Pairs, FractionRing
 use mathlib.Core.Path.{_≡_}
 use mathlib.Core.Bool.{Bool, false}
 use mathlib.Core.Logic.{_⊎_}
