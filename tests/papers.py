@@ -12,7 +12,7 @@ edits = {p.stem for p in ROOT.glob('crates/*/must-fail/**/*.edit')}
 
 
 def there(path):
-    pattern = re.sub(r'\b(NAME|CRATE|FUNCTION|PATH|NN)\b', '*', path.rstrip('/'))
+    pattern = re.sub(r'\b(NAME|CRATE|FUNCTION|PATH)\b', '*', path.rstrip('/'))
     return any(True for _ in ROOT.glob(pattern)) or any(True for _ in ROOT.glob(pattern.replace('/*/*/', '/**/')))
 
 
@@ -20,7 +20,8 @@ wrong, seen = [], 0
 for paper in PAPERS:
     for token in re.findall(r'`([^`\n]+)`', paper.read_text()):
         path = re.split(r'[ :#]', token)[0]
-        if path.split('/')[0] in FOLDERS and '/' in path and re.fullmatch(r'[\w./*+-]+', path):
+        # 'S-NN' stands for a note to come
+        if path.split('/')[0] in FOLDERS and '/' in path and 'NN' not in path and re.fullmatch(r'[\w./*+-]+', path):
             seen += 1
             if not there(path):
                 wrong.append(f'{paper.relative_to(ROOT)}: {path} is not there')

@@ -1,4 +1,5 @@
 pub mod MakerLaws
+pub mod OutcomeLaws
 pub mod CommandLaws
 pub mod OrderLaws
 pub mod AnswerBounds
