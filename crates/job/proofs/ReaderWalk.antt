@@ -9,7 +9,7 @@ use mir.Syntax.{Ty, place, return}
 use mir.Val.{Val}
 use base.Logic.{SProp, ent, sep, emp, ex, id⊢, via, snd∗, emp∗, monoL, exI, exE}
 use base.Fml.{Lft, Share, ftrue, flft, fat, froom, fdies}
-use prog.Wp.{Heap, Env, Calls, Loops}
+use prog.Wp.{Heap, Calls, Loops}
 use ghost.Atoms.{Atoms, sem}
 use contract.Monad.{fact}
 use types.Kit.{Given, Item, ‵, raw, _⊛_, some, later, Seq, lands, atRet, _$_, by, move, use1, split, join, pick, suffices, show, frame, await}
@@ -32,11 +32,17 @@ module _ {M : Type 1} (𝓤 : URA M) (H : Heap 𝓤) (A : Atoms 𝓤) (κ : Lft)
   Means P r = ex 𝓤 (λ w. sep 𝓤 (P w) (Right r))
 
   -- the `post` of a function whose machine value u is such an answer, at one lifetime
-  abbrev pub Answers : {X : Type 0} → (X → SProp 𝓤) → Val → SProp 𝓤
+  abbrev Answers : {X : Type 0} → (X → SProp 𝓤) → Val → SProp 𝓤
   Answers P u = H .⇛ (ex 𝓤 (λ r. sep 𝓤 (sep 𝓤 (sep 𝓤 (A .lft κ q) (emp 𝓤)) (sem 𝓤 H A (S.the-row .own r (u ∷ [])))) (Means P r)))
 
-  pub answered : {K : Type 0} {W : Given 𝓤 H A} {C : Calls 𝓤 H} {Λ : Loops 𝓤 H} {τ₁ τ₂ τ₃ τ₄ τ₅ : Ty} {l₀ l₁ l₂ l₃ l₄ l₅ : ℕ} {v₁ v₂ v₃ v₄ v₅ : Val} → K → {X Y : Type 0} (P : X → SProp 𝓤) (Q : Y → SProp 𝓤) (y : Y) → ent 𝓤 (emp 𝓤) (Q y) → (u : Val)
-      → Seq K W (raw (Answers P u) ∷ ‵ (fat fullShare τ₅ l₅ zero v₅) ∷ ‵ (fdies τ₅ l₅) ∷ ‵ (fat fullShare τ₄ l₄ zero v₄) ∷ ‵ (fdies τ₄ l₄) ∷ ‵ (fat fullShare τ₃ l₃ zero v₃) ∷ ‵ (fdies τ₃ l₃) ∷ ‵ (fat fullShare τ₂ l₂ zero v₂) ∷ ‵ (fdies τ₂ l₂) ∷ ‵ (fat fullShare τ₁ l₁ zero v₁) ∷ ‵ (fdies τ₁ l₁) ∷ ‵ (froom S′.mir l₀ zero) ∷ ‵ (fdies S′.mir l₀) ∷ [])
+  -- a local of the type τ at the address l, which holds v
+  abbrev holds : Ty → ℕ → Val → List (Item 𝓤) → List (Item 𝓤)
+  holds τ l v Γ = ‵ (fat fullShare τ l zero v) ∷ ‵ (fdies τ l) ∷ Γ
+
+  -- after the call, which answered u: Q, of the caller, holds of some last values where nothing is owned
+  pub answered : {K : Type 0} {W : Given 𝓤 H A} {C : Calls 𝓤 H} {Λ : Loops 𝓤 H} {τ₁ τ₂ τ₃ τ₄ τ₅ : Ty} {l₀ l₁ l₂ l₃ l₄ l₅ : ℕ} {v₁ v₂ v₃ v₄ v₅ : Val}
+      → K → {X Y : Type 0} (P : X → SProp 𝓤) (Q : Y → SProp 𝓤) (y : Y) → ent 𝓤 (emp 𝓤) (Q y) → (u : Val)
+      → Seq K W (raw (Answers P u) ∷ holds τ₅ l₅ v₅ (holds τ₄ l₄ v₄ (holds τ₃ l₃ v₃ (holds τ₂ l₂ v₂ (holds τ₁ l₁ v₁ (‵ (froom S′.mir l₀ zero) ∷ ‵ (fdies S′.mir l₀) ∷ []))))))
       (lands C Λ ((S′.mir, l₀) ∷ (τ₁, l₁) ∷ (τ₂, l₂) ∷ (τ₃, l₃) ∷ (τ₄, l₄) ∷ (τ₅, l₅) ∷ []) (place 0 []) u return (atRet ((S′.mir, l₀) ∷ (τ₁, l₁) ∷ (τ₂, l₂) ∷ (τ₃, l₃) ∷ (τ₄, l₄) ∷ (τ₅, l₅) ∷ []) (Answers Q)))
   answered {W = W} t P Q y quiet u =
       use1 W (later (some (λ r. ((‵ (flft κ q) ⊛ ‵ ftrue) ⊛ ‵ (S.the-row .own r (u ∷ []))) ⊛ raw (Means P r)))) (id⊢ 𝓤 _) $ await t tt $ pick t (λ r. split t $ split t $ move t (1 ∷ []) $
