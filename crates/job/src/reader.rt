@@ -10,12 +10,6 @@ struct Reader<'a> {
     at: usize,
 }
 
-fn new<'a>(job: &'a [u8], at: usize) -> Reader<'a>
-    ensures { λ r. ⌜ (r .job ≡ job .entry) × (r .at ≡ at) ⌝ }
-{
-    Reader { job, at }
-}
-
 // Command k, at the reader's position, with so many results before it.
 fn next<'a>(reader: Reader<'a>, k: usize, count: usize) -> CommandReading
     ensures { λ r. ⌜ commandReadingOf r ≡ commandReading (now (reader .entry .job)) k count (reader .entry .at) ⌝ }
@@ -27,5 +21,5 @@ fn next<'a>(reader: Reader<'a>, k: usize, count: usize) -> CommandReading
 pub(crate) fn read_next(job: &[u8], k: usize, count: usize, at: usize) -> CommandReading
     ensures { λ r. ⌜ commandReadingOf r ≡ commandReading (now (job .entry)) k count at ⌝ }
 {
-    next(new(job, at), k, count)
+    next(Reader { job, at }, k, count)
 }
