@@ -18,7 +18,7 @@ fn next<'a>(reader: Reader<'a>, k: usize, count: usize) -> CommandReading
 }
 
 // The same with plain parameters, so that the run over the commands is covered.
-pub(crate) fn read_next(job: &[u8], k: usize, count: usize, at: usize) -> CommandReading
+pub fn read_next(job: &[u8], k: usize, count: usize, at: usize) -> CommandReading
     ensures { λ r. ⌜ commandReadingOf r ≡ commandReading (now (job .entry)) k count at ⌝ }
 {
     next(Reader { job, at }, k, count)
