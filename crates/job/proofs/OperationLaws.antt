@@ -21,7 +21,9 @@ use Rattle.model.specs.declared.types.Verdict.the-variants.{Accepted, Refused}
 use Rattle.job.specs.definitions.Makers.{Maker, untested, resultAt, namesBad, operation}
 use Rattle.job.specs.laws.CommandLaws.{both-below}
 use Rattle.job.specs.definitions.Work.{stretch}
-use Rattle.job.specs.definitions.InnerContracts.{Holds, untestedOutcome, Performs}
+use Rattle.job.specs.definitions.Commands.{makerAt}
+use Rattle.job.specs.definitions.InnerContracts.{Holds, untestedOutcome, Performs, Operable, Clear}
+use Rattle.job.specs.declared.types.Operation.{Operation}
 use Rattle.job.proofs.Results.{result-held}
 
 -- an outcome that is p
@@ -69,3 +71,12 @@ module _ {w : List ℤ} {count : ℕ} {rs : List Model} {t : List ℤ} (h : Hold
   held-two f m₁ m₂ i j e₁ e₂ n =
       let b = both-below count i j n in
       ap₂ f (e₁ ∙ result-held h i (b .0)) (e₂ ∙ result-held h j (b .1))
+
+-- ---- an arm of a match on an operation, where it is known which it is
+
+module _ {op o : Operation} (e : op ≡ o) (job : List ℕ) (at : ℕ) (w : List ℤ) where
+  pub operable-told : Operable op job at w → Operable o job at w
+  operable-told h = rw e at h
+
+  pub performs-told : (r : Outcome Certificate) → Performs (makerAt o job at) w r → Performs (makerAt op job at) w r
+  performs-told r h = rw e h
