@@ -43,19 +43,52 @@ abbrev pub kindIn : List (ℕ × Kind) → ℕ → Kind
 kindIn [] b = Unknown
 kindIn (r ∷ rs) b = cond (eqb b (r .0)) (r .1) (kindIn rs b)
 
+-- "0xFF means 32"
+abbrev pub keptByte : ℕ → ℕ
+keptByte d = cond (eqb d 0xFF) maxDegree d
+
 -- the operands of a command: their width, which of their bytes name results, and which values are asked of them
 pub record Layout : Type 0 where
   pub width : ℕ
   pub names : Names
   pub values : Values
 
+-- the row of an operation: its operands, and what they mean where the command's byte stands at a position of the job
+pub record OperationRow : Type 0 where
+  pub operands : Layout
+  pub maker : List ℕ → ℕ → Maker
+
+abbrev pub operationRow : Operation → OperationRow
+operationRow Load = record {
+  operands = record { width = 137; names = Nothing; values = Any };
+  maker = λ job at. load (blockAt job (at + 1) (unsignedAt job (at + 134)));
+}
+operationRow Add = record {
+  operands = record { width = 2; names = Two; values = Any };
+  maker = λ job at. add (byteAt job (at + 1)) (byteAt job (at + 2));
+}
+operationRow Subtract = record {
+  operands = record { width = 2; names = Two; values = Any };
+  maker = λ job at. subtract (byteAt job (at + 1)) (byteAt job (at + 2));
+}
+operationRow Multiply = record {
+  operands = record { width = 3; names = Two; values = KeptDegree };
+  maker = λ job at. multiply (byteAt job (at + 1)) (byteAt job (at + 2)) (keptByte (byteAt job (at + 3)));
+}
+operationRow Quotient = record {
+  operands = record { width = 268; names = Two; values = Any };
+  maker = λ job at. quotient (byteAt job (at + 1)) (byteAt job (at + 2)) (blockAt job (at + 3) 0) (blockAt job (at + 136) 0);
+}
+operationRow Root = record {
+  operands = record { width = 267; names = One; values = Any };
+  maker = λ job at. root byDiscriminant (byteAt job (at + 1)) (blockAt job (at + 2) 0) (blockAt job (at + 135) 0);
+}
+
 abbrev pub operandsOf : Operation → Layout
-operandsOf Load = record { width = 137; names = Nothing; values = Any }
-operandsOf Add = record { width = 2; names = Two; values = Any }
-operandsOf Subtract = record { width = 2; names = Two; values = Any }
-operandsOf Multiply = record { width = 3; names = Two; values = KeptDegree }
-operandsOf Quotient = record { width = 268; names = Two; values = Any }
-operandsOf Root = record { width = 267; names = One; values = Any }
+operandsOf op = operationRow op .operands
+
+unfoldable pub makerAt : Operation → List ℕ → ℕ → Maker
+makerAt op job at = operationRow op .maker job at
 
 abbrev pub layoutOf : Kind → Layout
 layoutOf End = record { width = 0; names = Nothing; values = Any }
@@ -76,19 +109,6 @@ pub data Command : Type 0 where
   result : Maker → Command
   finish : Command
   unknown : Command
-
--- "0xFF means 32"
-abbrev pub keptByte : ℕ → ℕ
-keptByte d = cond (eqb d 0xFF) maxDegree d
-
--- the operands of an operation, the command's byte standing at a position
-unfoldable pub makerAt : Operation → List ℕ → ℕ → Maker
-makerAt Load job at = load (blockAt job (at + 1) (unsignedAt job (at + 134)))
-makerAt Add job at = add (byteAt job (at + 1)) (byteAt job (at + 2))
-makerAt Subtract job at = subtract (byteAt job (at + 1)) (byteAt job (at + 2))
-makerAt Multiply job at = multiply (byteAt job (at + 1)) (byteAt job (at + 2)) (keptByte (byteAt job (at + 3)))
-makerAt Quotient job at = quotient (byteAt job (at + 1)) (byteAt job (at + 2)) (blockAt job (at + 3) 0) (blockAt job (at + 136) 0)
-makerAt Root job at = root byDiscriminant (byteAt job (at + 1)) (blockAt job (at + 2) 0) (blockAt job (at + 135) 0)
 
 -- the command of a kind whose byte stands at a position
 abbrev pub commandAt : Kind → List ℕ → ℕ → Command
