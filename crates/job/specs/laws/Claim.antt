@@ -10,7 +10,7 @@ use Rattle.integer.specs.laws.FractionOrder.{ℚ-ordered}
 use Rattle.model.specs.definitions.Values.{Allows, OnInterval}
 use Rattle.model.specs.definitions.Outcomes.{Outcome, accepted}
 use Rattle.model.specs.laws.OperationsSound.{addition-sound, subtraction-sound, multiplication-sound}
-use Rattle.certificate.specs.definitions.Tests.{scratchSize, quotientOf, RootRule, byDiscriminant, rootOf}
+use Rattle.certificate.specs.definitions.Tests.{scratchSize, quotientOf, RootRule, rootOf}
 use Rattle.certificate.specs.laws.QuotientSound.{quotient-sound, quotient-nonzero}
 use Rattle.certificate.specs.laws.RootSound.{root-sound, root-overlap}
 use Rattle.model.specs.declared.types.Model.{Model}
@@ -37,9 +37,9 @@ module _ {cs : List Command} {rs : List Model} (made : Made cs rs) where
       → quotientOf scratchSize (resultAt rs j) (resultAt rs k) h w ≡ accepted (from i (quotient j k h w) e .certificate)
   quotient-passes i j k h w e = sym (quotient-operation j k h w rs) ∙ from i (quotient j k h w) e .succeeds
 
-  root-passes : (i j : ℕ) (h w : Model) (e : commandOf cs i ≡ result (root byDiscriminant j h w))
-      → rootOf byDiscriminant scratchSize (resultAt rs j) h w ≡ accepted (from i (root byDiscriminant j h w) e .certificate)
-  root-passes i j h w e = sym (root-operation byDiscriminant j h w rs) ∙ from i (root byDiscriminant j h w) e .succeeds
+  root-passes : (i j : ℕ) (rule : RootRule) (h w : Model) (e : commandOf cs i ≡ result (root rule j h w))
+      → rootOf rule scratchSize (resultAt rs j) h w ≡ accepted (from i (root rule j h w) e .certificate)
+  root-passes i j rule h w e = sym (root-operation rule j h w rs) ∙ from i (root rule j h w) e .succeeds
 
   module _ (x : ℚ) (on : OnInterval x) where
     pub overlaps : (box : ℕ → Box) {i : ℕ} → Permitted cs x box i → Overlaps (box i) (resultAt rs i) x
@@ -81,14 +81,14 @@ module _ {cs : List Command} {rs : List Model} (made : Made cs rs) where
           lies = quotient-lies (box j) (box k) (box i) (r .v) (s .v) z f (r .lies) (s .lies);
           allowed = rw (from i (quotient j k h w) e .gives) (quotient-sound scratchSize (resultAt rs j) (resultAt rs k) h w (quotient-passes i j k h w e) x on (r .v) (s .v) (r .allowed) (s .allowed));
         }
-    overlaps box (root-box i j byDiscriminant h w e p l n u) =
+    overlaps box (root-box i j rule h w e p l n u) =
         let r = overlaps box p in
-        let o = root-overlap scratchSize (resultAt rs j) h w (root-passes i j h w e) x (r .v) on (r .allowed)
+        let o = root-overlap rule scratchSize (resultAt rs j) h w (root-passes i j rule h w e) x (r .v) on (r .allowed)
         (box i .low) (box i .high) (box j .low) (box j .high) l n u (box i .ordered) (r .lies .above) (r .lies .below) in
         record {
           v = o .0;
           lies = record { above = o .1; below = o .2 };
-          allowed = rw (from i (root byDiscriminant j h w) e .gives) (o .3);
+          allowed = rw (from i (root rule j h w) e .gives) (o .3);
         }
 
     pub divisor-nonzero : (i j k : ℕ) (h w : Model) → commandOf cs i ≡ result (quotient j k h w)
@@ -97,4 +97,4 @@ module _ {cs : List Command} {rs : List Model} (made : Made cs rs) where
 
     pub radicand-positive : (i j : ℕ) (rule : RootRule) (h w : Model) → commandOf cs i ≡ result (root rule j h w)
         → (v : ℚ) → Allows (resultAt rs j) x v → whole (pos 0) <ℚ v
-    radicand-positive i j byDiscriminant h w e v a = root-sound scratchSize (resultAt rs j) h w (root-passes i j h w e) x v on a .positive
+    radicand-positive i j rule h w e v a = root-sound rule scratchSize (resultAt rs j) h w (root-passes i j rule h w e) x v on a .positive
