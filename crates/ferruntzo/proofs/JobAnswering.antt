@@ -12,7 +12,7 @@ use lib.ListN.{length, drop}
 use Rattle.model.specs.definitions.Outcomes.{numberOf, here}
 use Rattle.model.specs.laws.OutcomeLaws.{numberOf-positive}
 use Rattle.job.specs.definitions.Outcomes.{JobOutcome, jobOutcomeOf, counted, refusalNumber, refusedCommand, resultCount}
-use Rattle.job.specs.definitions.Work.{areaPlaces, checkOf, workAfter, scratchAfterJob}
+use Rattle.job.specs.definitions.Work.{areaPlaces, checkOutcome, workAfter, scratchAfterJob}
 use Rattle.job.specs.definitions.Requirement.{Requirement3}
 use Rattle.job.specs.laws.RequirementLaws.{refused-required, required-behind}
 use Rattle.job.specs.declared.types.JobOutcome.{JobOutcome as CodeOutcome}
@@ -31,7 +31,7 @@ answer-means (Refused v k) answer = rw (ne-eqb (numberOf v) 0 (omega (arith, num
 
 module _ (job : List ℕ) (work scratch : List ℤ) (answer : List ℕ) where
   abbrev o : JobOutcome ℕ
-  o = counted (checkOf job work scratch)
+  o = counted (checkOutcome job work scratch)
 
   -- the area of the answer has its numbers
   module _ (r : CodeOutcome) {n : ℕ} {m : List ℕ} (long : answerSize ≤ length answer)

@@ -6,7 +6,7 @@ ghost use Rattle.model.specs.definitions.Areas.{Storable};
 ghost use Rattle.model.specs.definitions.Operations.{addition, subtraction, multiplication};
 ghost use Rattle.model.specs.definitions.Integral.{integration};
 ghost use Rattle.model.specs.definitions.Evaluation.{boundsOf};
-ghost use Rattle.ferruntzo.specs.definitions.Answers.{operationOf, shortOutcome, outcomeIn, operationAnswer};
+ghost use Rattle.ferruntzo.specs.definitions.Answers.{operationFor, shortOutcome, outcomeIn, operationAnswer};
 ghost use Rattle.ferruntzo.specs.definitions.Answers.{binaryAnswer, unaryAnswer};
 ghost use Rattle.ferruntzo.specs.definitions.Answers.{boundsIn, evaluationAnswer, evaluateAnswer};
 use crate::areas::BOUNDS_SIZE;
@@ -34,7 +34,7 @@ enum Operation {
 }
 
 fn operate(operation: Operation, a: Model, b: Model) -> ModelOutcome
-    ensures { λ (r : ModelOutcome). ⌜ outcomeOf r ≡ operationOf operation a b ⌝ }
+    ensures { λ (r : ModelOutcome). ⌜ outcomeOf r ≡ operationFor operation a b ⌝ }
 {
     match operation {
         Operation::Add => add(a, b),
@@ -67,7 +67,7 @@ fn refuse_operation(out: &mut [i32]) -> u32
 // An operation over lent areas.
 fn perform(operation: Operation, a: &[i32], b: &[i32], out: &mut [i32]) -> u32
     ensures { λ r. ⌜ operationAnswer r (now (out .exit))
-        ≡ binaryAnswer (operationOf operation) (now (a .entry)) (now (b .entry)) (now (out .entry)) ⌝ }
+        ≡ binaryAnswer (operationFor operation) (now (a .entry)) (now (b .entry)) (now (out .entry)) ⌝ }
 {
     if (MODEL_SIZE <= a.len()) & (MODEL_SIZE <= b.len()) & (MODEL_SIZE <= out.len()) {
         answer_operation(operate(operation, model_in(a), model_in(b)), out)

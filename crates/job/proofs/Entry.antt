@@ -14,8 +14,8 @@ use Rattle.certificate.specs.laws.Stages.{scratch-cleared}
 use Rattle.integer.specs.definitions.Lists.{zeros}
 use Rattle.integer.specs.laws.Clearing.{length-zeros}
 use Rattle.job.specs.definitions.Outcomes.{jobOutcomeOf, counted}
-use Rattle.job.specs.definitions.Jobs.{jobOf}
-use Rattle.job.specs.definitions.Work.{workSize, workOf, areaPlaces, areasFit, checkOf, workAfter, scratchAfterJob, resultsOf}
+use Rattle.job.specs.definitions.Jobs.{jobOutcome}
+use Rattle.job.specs.definitions.Work.{workSize, workWith, areaPlaces, areasFit, checkOutcome, workAfter, scratchAfterJob, resultsIn}
 use Rattle.job.specs.laws.CheckLaws.{areas-fit, areas-short}
 use Rattle.job.specs.definitions.Requirement.{Requirement3}
 use Rattle.job.specs.laws.RequirementLaws.{refused-required, required-behind}
@@ -38,11 +38,11 @@ cleared-clear s s′ e h = record { long = h; clear = scratch-cleared s′ h ∙
 module _ (job : List ℕ) (w s : List ℤ) where
   abbrev pub Leaves : CodeOutcome → List ℤ → List ℤ → Type 0
   Leaves r w′ s′ =
-      (jobOutcomeOf r ≡ counted (checkOf job w s))
+      (jobOutcomeOf r ≡ counted (checkOutcome job w s))
       × ((w′ ≡ workAfter job w s) × ((s′ ≡ scratchAfterJob w s) × Requirement3 (areaPlaces w s) job (jobOutcomeOf r) w′))
 
   untouched : areasFit w s ≡ false → Leaves (Refused ShortArea 0) w s
-  unfolding checkOf workAfter scratchAfterJob
+  unfolding checkOutcome workAfter scratchAfterJob
   untouched e =
       let claim = refused-required {job = job} (inl (areas-short w s e, refl)) 1 0 w in
       simp e (refl, (refl, (refl, claim)))
@@ -56,9 +56,9 @@ module _ (job : List ℕ) (w s : List ℤ) where
   pub ran-leaves : workSize ≤ length w → scratchSize ≤ length s → (w₁ w₂ s₁ : List ℤ) (r : CodeOutcome)
       → w₁ ≡ zeros workSize ++ drop workSize w → Ran job w₁ r w₂
       → s₁ ≡ zeros scratchSize ++ drop scratchSize s → Leaves r w₂ s₁
-  unfolding checkOf workAfter scratchAfterJob
+  unfolding checkOutcome workAfter scratchAfterJob
   ran-leaves g h w₁ w₂ s₁ r e f es =
       let fit : areasFit w s ≡ true = simp (le-leb _ _ g, le-leb _ _ h) in
       let claim = required-behind (areaPlaces w s) (areas-fit w s fit) (f .claim) in
       simp fit
-      (f .answer, (f .work-is ∙ ap (λ (l : List ℤ). workOf (resultsOf (jobOf job)) ++ l) (cleared-behind workSize w w₁ e), (es, claim)))
+      (f .answer, (f .work-is ∙ ap (λ (l : List ℤ). workWith (resultsIn (jobOutcome job)) ++ l) (cleared-behind workSize w w₁ e), (es, claim)))

@@ -9,7 +9,7 @@ use borrow.Author.Tests.{ne-eqb}
 use lib.Dec.{eqb, leb, ltb}
 use denote.Enum.Declared.{tagOf}
 use types.Run.{OneOf, miss}
-use Rattle.job.specs.definitions.Commands.{maxResults, kindIn, layoutOf, makerAt, commandAt, badKind, badNames, badBytes, nameBytes, valueBytes, makesResult, isEnd}
+use Rattle.job.specs.definitions.Commands.{maxResults, kindIn, layoutFor, makerAt, commandAt, badKind, badNames, badBytes, nameBytes, valueBytes, makesResult, isEnd}
 use Rattle.job.specs.declared.types.Operation.{Operation}
 use Rattle.job.specs.declared.types.Operation.the-variants.{Load, Add, Subtract, Multiply, Quotient, Root}
 use Rattle.job.specs.declared.types.Kind.{Kind}
@@ -36,9 +36,9 @@ kind-unknown (r ∷ rs) b known h =
 
 -- the bytes that reading looks at are operand bytes, and those that name results are the results that the command names
 pub record Agrees (kind : Kind) : Type 0 where
-  pub names-inside : nameBytes (layoutOf kind .names) ≤ layoutOf kind .width
-  pub values-inside : valueBytes (layoutOf kind .values) ≤ layoutOf kind .width
-  pub named : (job : List ℕ) (at count : ℕ) → badBytes (layoutOf kind .names) job at count ≡ badNames (commandAt kind job at) count
+  pub names-inside : nameBytes (layoutFor kind .names) ≤ layoutFor kind .width
+  pub values-inside : valueBytes (layoutFor kind .values) ≤ layoutFor kind .width
+  pub named : (job : List ℕ) (at count : ℕ) → badBytes (layoutFor kind .names) job at count ≡ badNames (commandAt kind job at) count
 
 operation-agrees : (op : Operation) → Agrees (Result op)
 unfolding makerAt

@@ -12,8 +12,8 @@ use Rattle.model.specs.declared.types.Model.{Model}
 use Rattle.model.specs.declared.types.Refusal.{Refusal}
 use Rattle.job.specs.definitions.Commands.{maxResults}
 use Rattle.job.specs.definitions.Outcomes.{accepted, refused, jobOutcomeOf, counted}
-use Rattle.job.specs.definitions.Jobs.{Step, more, over, command, jobOf}
-use Rattle.job.specs.definitions.Work.{workSize, workOf, stretches, resultsOf}
+use Rattle.job.specs.definitions.Jobs.{Step, more, over, command, jobOutcome}
+use Rattle.job.specs.definitions.Work.{workSize, workWith, stretches, resultsIn}
 use Rattle.job.specs.definitions.Order.{Reaches, start}
 use Rattle.job.specs.laws.OrderLaws.{reaches-bounds, stops-there, ends-there, moves-on, refused-exactly}
 use Rattle.job.specs.definitions.InnerContracts.{Holds, Stepped}
@@ -39,7 +39,7 @@ pub record Going (job : List ℕ) (begun work : List ℤ) (at k count : ℕ) : T
 
 pub going-begins : (job : List ℕ) (w : List ℤ) → workSize ≤ length w
     → w ≡ zeros workSize ++ drop workSize w → Going job w w 0 0 0
-unfolding workOf stretches
+unfolding workWith stretches
 going-begins job w long e = record {
   rs = [];
   reaches = start;
@@ -53,8 +53,8 @@ going-begins job w long e = record {
 
 -- what the run answers and leaves
 pub record Ran (job : List ℕ) (begun : List ℤ) (r : CodeOutcome) (work : List ℤ) : Type 0 where
-  pub answer : jobOutcomeOf r ≡ counted (jobOf job)
-  pub work-is : work ≡ workOf (resultsOf (jobOf job)) ++ drop workSize begun
+  pub answer : jobOutcomeOf r ≡ counted (jobOutcome job)
+  pub work-is : work ≡ workWith (resultsIn (jobOutcome job)) ++ drop workSize begun
   pub claim : Requirement3 [] job (jobOutcomeOf r) work
 
 module _ {job : List ℕ} {begun work : List ℤ} {at k count : ℕ} (g : Going job begun work at k count) (work′ : List ℤ) where
@@ -86,7 +86,7 @@ module _ {job : List ℕ} {begun work : List ℤ} {at k count : ℕ} (g : Going 
   pub going-ends : (s : Step (List Model)) → command job k (g .rs) at ≡ s → Stepped Over work′ (g .rs) t s
       → Ran job begun (Accepted count) work′
   going-ends over e d =
-      let o : jobOf job ≡ accepted (g .rs) = ends-there (g .reaches) e in
+      let o : jobOutcome job ≡ accepted (g .rs) = ends-there (g .reaches) e in
       record {
         answer = rw o (ap accepted (g .holds .count-is));
         work-is = rw o (d .holds .work-is);
@@ -98,10 +98,10 @@ module _ {job : List ℕ} {begun work : List ℤ} {at k count : ℕ} (g : Going 
   -- after a refusal the area is cleared
   pub going-stops : (s : Step (List Model)) (v : Refusal) (work″ : List ℤ) → command job k (g .rs) at ≡ s
       → Stepped (Stopped v) work′ (g .rs) t s → work″ ≡ zeros workSize ++ drop workSize work′ → Ran job begun (Refused v k) work″
-  unfolding workOf stretches
+  unfolding workWith stretches
   going-stops (Step.refused n) v work″ e d c =
       let b = reaches-bounds (g .reaches) in
-      let o : jobOf job ≡ refused n k = stops-there (g .reaches) e in
+      let o : jobOutcome job ≡ refused n k = stops-there (g .reaches) e in
       let en : numberOf v ≡ n = cc (d .answer) in
       record {
         answer = rw (o, en);

@@ -15,8 +15,8 @@ use Rattle.model.specs.declared.types.Model.{Model}
 use Rattle.job.specs.definitions.Makers.{Maker, quotient, root, resultAt, namesBad}
 use Rattle.job.specs.definitions.Commands.{Command, result}
 use Rattle.job.specs.definitions.Outcomes.{accepted}
-use Rattle.job.specs.definitions.Jobs.{jobOf}
-use Rattle.job.specs.definitions.JobReading.{commandOf}
+use Rattle.job.specs.definitions.Jobs.{jobOutcome}
+use Rattle.job.specs.definitions.JobReading.{commandFor}
 use Rattle.job.specs.definitions.Work.{stretch}
 use Rattle.job.specs.definitions.InnerContracts.{Holds}
 use Rattle.job.specs.laws.CommandLaws.{both-below}
@@ -26,7 +26,7 @@ use Rattle.job.specs.laws.Accepted.{accepted-read}
 use Rattle.job.specs.laws.Claim.{overlaps, divisor-nonzero, radicand-positive}
 use Rattle.job.proofs.Results.{result-held, models-held}
 
-module _ (job : List ℕ) (rs : List Model) (e : jobOf job ≡ accepted rs) (work t : List ℤ) (holds : Holds work (length rs) rs t) where
+module _ (job : List ℕ) (rs : List Model) (e : jobOutcome job ≡ accepted rs) (work t : List ℤ) (holds : Holds work (length rs) rs t) where
   abbrev cs : List Command
   cs = accepted-read job rs e .0
 
@@ -34,7 +34,7 @@ module _ (job : List ℕ) (rs : List Model) (e : jobOf job ≡ accepted rs) (wor
   all-made = accepted-read job rs e .2
 
   -- the results that a command names stand before its own
-  named : (i : ℕ) (m : Maker) → commandOf cs i ≡ result m → namesBad m i ≡ false
+  named : (i : ℕ) (m : Maker) → commandFor cs i ≡ result m → namesBad m i ≡ false
   named i m f = made-maker all-made i m f .names
 
   -- what a stretch allows, its result allows

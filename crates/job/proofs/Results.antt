@@ -14,7 +14,7 @@ use Rattle.model.specs.laws.AreaLaws.{length-words, model-words}
 use Rattle.model.specs.declared.types.Model.{Model}
 use Rattle.job.specs.definitions.Commands.{maxResults}
 use Rattle.job.specs.definitions.Makers.{resultAt}
-use Rattle.job.specs.definitions.Work.{workSize, stretch, modelsIn, stretches, workOf, storedAt}
+use Rattle.job.specs.definitions.Work.{workSize, stretch, modelsIn, stretches, workWith, storedAt}
 use Rattle.job.specs.definitions.InnerContracts.{Sized, Holds}
 
 length-stretches : (rs : List Model) → Sized rs → length (stretches rs) ≡ modelSize * length rs
@@ -57,9 +57,9 @@ drop-zeros n k t h =
     ∙ ap (λ (l : List ℤ). drop k l) (append-assoc (zeros k) (zeros (n - k)) t)
     ∙ drop-at (zeros k) (zeros (n - k) ++ t) k (length-zeros k)
 
-length-workOf : (rs : List Model) → Sized rs → length rs ≤ maxResults → length (workOf rs) ≡ workSize
-unfolding workOf
-length-workOf rs s few =
+length-workWith : (rs : List Model) → Sized rs → length rs ≤ maxResults → length (workWith rs) ≡ workSize
+unfolding workWith
+length-workWith rs s few =
     length-append (stretches rs) (zeros (workSize - modelSize * length rs))
     ∙ omega (arith, length-stretches rs s, length-zeros (workSize - modelSize * length rs))
 
@@ -70,7 +70,7 @@ module _ {w : List ℤ} {count : ℕ} {rs : List Model} {t : List ℤ} (h : Hold
   z = zeros (workSize - modelSize * length rs)
 
   front-is : w ≡ stretches rs ++ (z ++ t)
-  unfolding workOf
+  unfolding workWith
   front-is = h .work-is ∙ append-assoc (stretches rs) z t
 
   -- the count is the number of results
@@ -96,12 +96,12 @@ module _ {w : List ℤ} {count : ℕ} {rs : List Model} {t : List ℤ} (h : Hold
   -- the numbers behind
   pub behind : length rs ≤ maxResults → drop workSize w ≡ t
   behind few =
-      ap (λ (l : List ℤ). drop workSize l) (h .work-is) ∙ drop-at (workOf rs) t workSize (length-workOf rs (h .sized) few)
+      ap (λ (l : List ℤ). drop workSize l) (h .work-is) ∙ drop-at (workWith rs) t workSize (length-workWith rs (h .sized) few)
 
   -- a model stored as the next result
   pub stored-holds : (m : Model) → count < maxResults → length (m .coefficients) ≡ coefficientCount
       → Holds (storedAt w count m) (length (rs ++ (m ∷ []))) (rs ++ (m ∷ [])) t
-  unfolding workOf
+  unfolding workWith
   stored-holds m few h33 =
       let rs′ : List Model = rs ++ (m ∷ []) in
       let a : ℕ = modelSize * count in

@@ -11,7 +11,7 @@ use lib.ListN.{length}
 use Rattle.model.specs.definitions.Outcomes.{Passed, First}
 use Rattle.model.specs.laws.PlaceLaws.{passing-passed, passing-unrefused, first-or-passed, passing-first}
 use Rattle.model.specs.declared.types.Model.{Model}
-use Rattle.job.specs.definitions.Makers.{Maker, Row, of-none, of-one, of-two, rowOf, badIn, namesBad}
+use Rattle.job.specs.definitions.Makers.{Maker, Row, of-none, of-one, of-two, rowFor, badIn, namesBad}
 use Rattle.job.specs.definitions.Commands.{maxResults, shapeAt, nextAt, commandAt, readingPlaces, CommandReading, found, commandReading}
 use Rattle.job.specs.definitions.Jobs.{refused, performed, command}
 use Rattle.job.specs.laws.CommandLaws.{both-below, Readable, readable}
@@ -89,4 +89,4 @@ module _ (count : ℕ) (few : count ≤ maxResults) where
       simp (lt-leb maxResults i (omega (arith, b)), lt-leb maxResults j (omega (arith, b)))
 
   pub names-below : (m : Maker) → namesBad m count ≡ false → namesBad m maxResults ≡ false
-  names-below m h = row-below (rowOf m) h
+  names-below m h = row-below (rowFor m) h

@@ -4,9 +4,10 @@ ghost use mathlib.Core.List.{[], _++_};
 ghost use Prim.Native.Nat.{_≤_};
 ghost use lib.ListN.{length, drop};
 ghost use Rattle.job.specs.definitions.Outcomes.{jobOutcomeOf, counted};
-ghost use Rattle.job.specs.definitions.Jobs.{jobOf};
+ghost use Rattle.job.specs.definitions.Jobs.{jobOutcome};
 ghost use Rattle.integer.specs.definitions.Lists.{zeros};
-ghost use Rattle.job.specs.definitions.Work.{workSize, workOf, areaPlaces, resultsOf, checkOf, workAfter, scratchAfterJob};
+ghost use Rattle.job.specs.definitions.Work.{workSize, workWith, areaPlaces, resultsIn, workAfter};
+ghost use Rattle.job.specs.definitions.Work.{checkOutcome, scratchAfterJob};
 ghost use Rattle.job.specs.definitions.InnerContracts.{Clear};
 ghost use Rattle.job.specs.definitions.Requirement.{Requirement3};
 use crate::step::step;
@@ -22,8 +23,9 @@ use model::types::Refusal;
 fn run(job: &[u8], work: &mut [i32], scratch: &mut [i64]) -> JobOutcome
     requires { ⌜ (workSize ≤ length (now work))
         × ((now work ≡ zeros workSize ++ drop workSize (now work)) × Clear (now scratch)) ⌝ }
-    ensures { λ r. ⌜ jobOutcomeOf r ≡ counted (jobOf (now (job .entry))) ⌝ }
-    ensures { λ _. ⌜ now (work .exit) ≡ workOf (resultsOf (jobOf (now (job .entry)))) ++ drop workSize (now (work .entry)) ⌝ }
+    ensures { λ r. ⌜ jobOutcomeOf r ≡ counted (jobOutcome (now (job .entry))) ⌝ }
+    ensures { λ _. ⌜ now (work .exit)
+        ≡ workWith (resultsIn (jobOutcome (now (job .entry)))) ++ drop workSize (now (work .entry)) ⌝ }
     ensures { λ _. ⌜ now (scratch .exit) ≡ now (scratch .entry) ⌝ }
     ensures { λ r. ⌜ Requirement3 [] (now (job .entry)) (jobOutcomeOf r) (now (work .exit)) ⌝ }
 {
@@ -52,7 +54,7 @@ fn run(job: &[u8], work: &mut [i32], scratch: &mut [i64]) -> JobOutcome
 // Checks a job: the work area gets its results, or zeros on a refusal; areas that are too short are not touched. The last
 // clause is requirement 3.
 pub fn check(job: &[u8], work: &mut [i32], scratch: &mut [i64]) -> JobOutcome
-    ensures { λ r. ⌜ jobOutcomeOf r ≡ counted (checkOf (now (job .entry)) (now (work .entry)) (now (scratch .entry))) ⌝ }
+    ensures { λ r. ⌜ jobOutcomeOf r ≡ counted (checkOutcome (now (job .entry)) (now (work .entry)) (now (scratch .entry))) ⌝ }
     ensures { λ _. ⌜ now (work .exit) ≡ workAfter (now (job .entry)) (now (work .entry)) (now (scratch .entry)) ⌝ }
     ensures { λ _. ⌜ now (scratch .exit) ≡ scratchAfterJob (now (work .entry)) (now (scratch .entry)) ⌝ }
     ensures { λ r. ⌜ Requirement3 (areaPlaces (now (work .entry)) (now (scratch .entry)))

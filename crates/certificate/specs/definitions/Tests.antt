@@ -113,8 +113,8 @@ quotientCertificate f g h w =
     let b = displacement w n in
     makeCertificate (quotientModel h m b) m n b
 
-unfoldable pub quotientOf : ℕ → Model → Model → Model → Model → Outcome Certificate
-quotientOf len f g h w = outcome (quotientPlaces len f g h w) (quotientCertificate f g h w) zeroCertificate
+unfoldable pub quotientOutcome : ℕ → Model → Model → Model → Model → Outcome Certificate
+quotientOutcome len f g h w = outcome (quotientPlaces len f g h w) (quotientCertificate f g h w) zeroCertificate
 
 -- Root of f, through N: the places that every root command shares; "root: helper", 7, "Σ w_k ≤ 0"
 unfoldable pub rootPlaces : ℕ → Model → Model → Model → List (Bool × ℕ)
@@ -146,12 +146,12 @@ rootCertificate byDiscriminant f h w =
     let b = displacement w n in
     makeCertificate (rootModel h m b) m n b
 
-unfoldable pub rootOf : RootRule → ℕ → Model → Model → Model → Outcome Certificate
-rootOf rule len f h w = outcome (rootTestPlaces rule len f h w) (rootCertificate rule f h w) zeroCertificate
+unfoldable pub rootOutcome : RootRule → ℕ → Model → Model → Model → Outcome Certificate
+rootOutcome rule len f h w = outcome (rootTestPlaces rule len f h w) (rootCertificate rule f h w) zeroCertificate
 
 -- the entries' definitions. "A candidate is a model without a radius (taken as 0)."
 abbrev pub quotientTest : ℕ → Model → Model → Candidate → Candidate → Outcome Certificate
-quotientTest len f g h w = quotientOf len f g (candidateModel h) (candidateModel w)
+quotientTest len f g h w = quotientOutcome len f g (candidateModel h) (candidateModel w)
 
 abbrev pub rootTest : ℕ → Model → Candidate → Candidate → Outcome Certificate
-rootTest len f h w = rootOf byDiscriminant len f (candidateModel h) (candidateModel w)
+rootTest len f h w = rootOutcome byDiscriminant len f (candidateModel h) (candidateModel w)

@@ -8,7 +8,7 @@ use Rattle.model.specs.definitions.Models.{scale, maxRadius, good, tooLarge}
 use Rattle.model.specs.definitions.Outcomes.{accepted, Passed}
 use Rattle.model.specs.laws.PlaceLaws.{outcome-passed, outcome-accepted, not-of-true}
 use Rattle.model.specs.declared.types.Model.{Model}
-use Rattle.certificate.specs.definitions.Tests.{scratchSize, quotientPlaces, quotientOf, quotientModel, quotientContraction, quotientResidual, displacement}
+use Rattle.certificate.specs.definitions.Tests.{scratchSize, quotientPlaces, quotientOutcome, quotientModel, quotientContraction, quotientResidual, displacement}
 use Rattle.certificate.specs.definitions.Tests.{Certificate, zeroCertificate, quotientCertificate}
 
 -- b and the result of the test
@@ -45,14 +45,14 @@ module _ (len : ℕ) (f g h w : Model) where
   )
 
   -- accepted exactly where these hold, with model, m, N and b of the test
-  pub quotient-passes : {c : Certificate} → quotientOf len f g h w ≡ accepted c
+  pub quotient-passes : {c : Certificate} → quotientOutcome len f g h w ≡ accepted c
       → QuotientConditions len f g h w × (c ≡ quotientCertificate f g h w)
-  unfolding quotientOf
+  unfolding quotientOutcome
   quotient-passes e =
       let (passed, same) = outcome-accepted (quotientPlaces len f g h w) (quotientCertificate f g h w) zeroCertificate e in
       (quotient-conditions .0 passed, same)
 
-  pub quotient-result : QuotientConditions len f g h w → quotientOf len f g h w ≡ accepted (quotientCertificate f g h w)
-  unfolding quotientOf
+  pub quotient-result : QuotientConditions len f g h w → quotientOutcome len f g h w ≡ accepted (quotientCertificate f g h w)
+  unfolding quotientOutcome
   quotient-result c =
       outcome-passed (quotientPlaces len f g h w) (quotientCertificate f g h w) zeroCertificate (quotient-conditions .1 c)

@@ -25,7 +25,7 @@ use Rattle.model.specs.laws.ValueLaws.{valueAt, valueAt-scale, valueAt-weight, 
 use Rattle.model.specs.laws.GoodLaws.{value-productList}
 use Rattle.model.specs.declared.types.Model.{Model}
 use Rattle.model.specs.definitions.Outcomes.{accepted}
-use Rattle.certificate.specs.definitions.Tests.{Certificate, quotientOf, quotientContraction, quotientResidual, quotientModel, displacement}
+use Rattle.certificate.specs.definitions.Tests.{Certificate, quotientOutcome, quotientContraction, quotientResidual, quotientModel, displacement}
 use Rattle.certificate.specs.laws.QuotientAlgebra.{contraction-bound, residual-bound, divisor-away, divisor-nonzero, quotient-bound}
 use Rattle.certificate.specs.laws.QuotientConditions.{QuotientConditions, quotientDisplacement, quotient-passes}
 
@@ -74,7 +74,7 @@ radius-bound w n k positive = chain _ _ _ (le-upℕ (weight (w .coefficients) * 
     chain : (p q r : ℕ) → p ≤ q → q ≤ r * k → p ≤ k * r
     chain p q r i j = omega arith
 
-module _ (len : ℕ) (f g h w : Model) {c : Certificate} (passes : quotientOf len f g h w ≡ accepted c) (x : ℚ) (on : OnInterval x) where
+module _ (len : ℕ) (f g h w : Model) {c : Certificate} (passes : quotientOutcome len f g h w ≡ accepted c) (x : ℚ) (on : OnInterval x) where
   conditions : QuotientConditions len f g h w
   conditions = quotient-passes len f g h w passes .0
 

@@ -8,7 +8,7 @@ use borrow.Author.Tests.{ltb-false, le-ltb}
 use Rattle.model.specs.definitions.Models.{scale, maxRadius, good, makeModel}
 use Rattle.model.specs.definitions.Outcomes.{accepted}
 use Rattle.model.specs.declared.types.Model.{Model}
-use Rattle.certificate.specs.definitions.Tests.{scratchSize, quotientOf, quotientContraction, quotientResidual, quotientModel, displacement}
+use Rattle.certificate.specs.definitions.Tests.{scratchSize, quotientOutcome, quotientContraction, quotientResidual, quotientModel, displacement}
 use Rattle.certificate.specs.definitions.Tests.{Certificate, makeCertificate, quotientCertificate}
 use Rattle.certificate.specs.definitions.TwoSums.{quotientM, quotientN, quotientB, quotientRadius}
 use Rattle.certificate.specs.laws.TwoSumsLaws.{productList-good}
@@ -58,10 +58,10 @@ module _ (len : ℕ) (f g h w : Model) (enough : scratchSize ≤ len)
       )
 
   -- accepted where the test holds
-  pub quotient-accepted : QuotientHolds → quotientOf len f g h w ≡ accepted quotientGiven
+  pub quotient-accepted : QuotientHolds → quotientOutcome len f g h w ≡ accepted quotientGiven
   quotient-accepted t = quotient-result len f g h w (conditions-holds .1 t) ∙ ap accepted given-is
 
   -- and only there
-  pub quotient-accepted-only : {c : Certificate} → quotientOf len f g h w ≡ accepted c → QuotientHolds × (c ≡ quotientGiven)
+  pub quotient-accepted-only : {c : Certificate} → quotientOutcome len f g h w ≡ accepted c → QuotientHolds × (c ≡ quotientGiven)
   quotient-accepted-only e =
       let (conditions, same) = quotient-passes len f g h w e in (conditions-holds .0 conditions, same ∙ given-is)

@@ -30,7 +30,7 @@ use Rattle.model.specs.laws.GoodLaws.{value-productList}
 use Rattle.model.specs.definitions.Operations.{productList}
 use Rattle.model.specs.declared.types.Model.{Model}
 use Rattle.model.specs.definitions.Outcomes.{accepted}
-use Rattle.certificate.specs.definitions.Tests.{Certificate, RootRule, byDiscriminant, rootOf, rootModel, rootContraction, rootResidual, displacement}
+use Rattle.certificate.specs.definitions.Tests.{Certificate, RootRule, byDiscriminant, rootOutcome, rootModel, rootContraction, rootResidual, displacement}
 use Rattle.certificate.specs.definitions.RootBounds.{RootBounds, ofUnits}
 use Rattle.certificate.specs.laws.RootAlgebra.{helper-bound, residual-bound, root-algebra, root-choice}
 use Rattle.certificate.specs.laws.RootConditions.{RootConditions, rootDisplacement, rootResult, root-passes}
@@ -134,7 +134,7 @@ module _ (len : ℕ) (f h w : Model) (c : RootConditions len f h w) where
 -- ---- the test
 
 -- what each rule gives: the bounds of the root, around the first model's values
-root-holds : (rule : RootRule) (len : ℕ) (f h w : Model) {c : Certificate} → rootOf rule len f h w ≡ accepted c
+root-holds : (rule : RootRule) (len : ℕ) (f h w : Model) {c : Certificate} → rootOutcome rule len f h w ≡ accepted c
     → (x v : ℚ) → OnInterval x → Allows f x v
     → RootBounds (ofUnits (valueAt x (h .coefficients))) (ofUnits (whole (pos (c .model .radius)))) v × (c .model .coefficients ≡ h .coefficients)
 unfolding position rootModel
@@ -142,7 +142,7 @@ root-holds byDiscriminant len f h w passed x v on allowed =
     let (conditions, small, same) = root-passes len f h w passed in
     (rw same (bounds len f h w conditions x v on allowed), ap (λ (t : Certificate). t .model .coefficients) same)
 
-module _ (rule : RootRule) (len : ℕ) (f h w : Model) {c : Certificate} (passed : rootOf rule len f h w ≡ accepted c)
+module _ (rule : RootRule) (len : ℕ) (f h w : Model) {c : Certificate} (passed : rootOutcome rule len f h w ≡ accepted c)
     (x v : ℚ) (on : OnInterval x) (allowed : Allows f x v) where
   pub root-sound : RootBounds (ofUnits (valueAt x (h .coefficients))) (ofUnits (whole (pos (c .model .radius)))) v
   root-sound = root-holds rule len f h w passed x v on allowed .0

@@ -8,7 +8,7 @@ use Rattle.model.specs.definitions.Outcomes.{accepted, refused}
 use Rattle.model.specs.laws.PlaceLaws.{outcome-accepted, outcome-behind, outcome-refused}
 use Rattle.model.specs.declared.types.Model.{Model}
 use Rattle.certificate.specs.definitions.Tests.{rootPlaces, rootContraction, rootResidual, displacement}
-use Rattle.certificate.specs.definitions.Tests.{zeroCertificate, byDiscriminant, rootOf}
+use Rattle.certificate.specs.definitions.Tests.{zeroCertificate, byDiscriminant, rootOutcome}
 use Rattle.certificate.specs.definitions.InnerContracts.{RootLast, Reach, makeReach, zeroReach, rootReach, refusedTest, rootEnd}
 use Rattle.certificate.specs.laws.Stages.{displacement-bound}
 use Rattle.certificate.specs.laws.RootConditions.{NumbersConditions, numbers-conditions}
@@ -22,10 +22,10 @@ module _ (len : ℕ) (f h w : Model) where
     pub is-m : m ≡ rootContraction h w
     pub is-n : n ≡ rootResidual f h
     pub is-b : b ≡ displacement w n
-    pub last : rootOf byDiscriminant len f h w ≡ rootEnd h M m n b
+    pub last : rootOutcome byDiscriminant len f h w ≡ rootEnd h M m n b
 
   pub root-reached-is : (M m n b : ℕ) → rootReach len f h w ≡ accepted (makeReach M m n b) → RootReached M m n b
-  unfolding rootReach rootOf
+  unfolding rootReach rootOutcome
   root-reached-is M m n b e =
       let (passed, same) = outcome-accepted (rootPlaces len f h w) _ zeroReach e in
       let eM : M ≡ weight (w .coefficients) = ap (λ (r : Reach). r .M) same in
@@ -54,6 +54,6 @@ module _ (len : ℕ) (f h w : Model) where
         square = rw (r .is-m, r .is-M) (gap-bound len f h w c);
       }
 
-  pub root-refused-is : (k : ℕ) → rootReach len f h w ≡ refused k zeroReach → rootOf byDiscriminant len f h w ≡ refusedTest k
-  unfolding rootReach rootOf
+  pub root-refused-is : (k : ℕ) → rootReach len f h w ≡ refused k zeroReach → rootOutcome byDiscriminant len f h w ≡ refusedTest k
+  unfolding rootReach rootOutcome
   root-refused-is k e = outcome-refused (rootPlaces len f h w) _ _ zeroReach _ zeroCertificate e

@@ -9,7 +9,7 @@ use Rattle.model.specs.definitions.Models.{good, makeModel}
 use Rattle.model.specs.definitions.Outcomes.{accepted}
 use Rattle.model.specs.declared.types.Model.{Model}
 use Rattle.certificate.specs.definitions.Tests.{scratchSize, rootModel, rootContraction, rootResidual, displacement}
-use Rattle.certificate.specs.definitions.Tests.{Certificate, makeCertificate, byDiscriminant, rootCertificate, rootOf}
+use Rattle.certificate.specs.definitions.Tests.{Certificate, makeCertificate, byDiscriminant, rootCertificate, rootOutcome}
 use Rattle.certificate.specs.definitions.TwoSums.{rootM, rootN, rootB, rootRadius, RootHolds}
 use Rattle.certificate.specs.laws.TwoSumsLaws.{productList-good}
 use Rattle.certificate.specs.laws.RootConditions.{RootConditions, root-passes, root-result}
@@ -50,11 +50,11 @@ module _ (len : ℕ) (f h w : Model) (enough : scratchSize ≤ len) (gf : good f
   given-is = rw (← contraction-is h w gh gw, ← residual-is f h gh)
 
   -- accepted where the test holds
-  pub root-accepted : RootHolds f h w → rootOf byDiscriminant len f h w ≡ accepted rootGiven
+  pub root-accepted : RootHolds f h w → rootOutcome byDiscriminant len f h w ≡ accepted rootGiven
   root-accepted t =
       let c = conditions-holds .1 t in root-result len f h w c (root-fits len f h w c) ∙ ap accepted given-is
 
   -- and only there
-  pub root-accepted-only : {c : Certificate} → rootOf byDiscriminant len f h w ≡ accepted c → RootHolds f h w × (c ≡ rootGiven)
+  pub root-accepted-only : {c : Certificate} → rootOutcome byDiscriminant len f h w ≡ accepted c → RootHolds f h w × (c ≡ rootGiven)
   root-accepted-only e =
       let (conditions, small, same) = root-passes len f h w e in (conditions-holds .0 conditions, same ∙ given-is)

@@ -16,7 +16,7 @@ use Rattle.chebyshev.specs.definitions.Coefficients.{weight}
 use Rattle.model.specs.definitions.Models.{scale, maxDegree, maxWeight, maxRadius, good, tooLarge}
 use Rattle.model.specs.laws.ModelLaws.{good-is}
 use Rattle.model.specs.declared.types.Model.{Model}
-use Rattle.certificate.specs.definitions.Tests.{withRadius, scratchSize, scratchAfter, quotientOf, rootPlaces, byDiscriminant, rootOf}
+use Rattle.certificate.specs.definitions.Tests.{withRadius, scratchSize, scratchAfter, quotientOutcome, rootPlaces, byDiscriminant, rootOutcome}
 
 -- ---- the place of the result
 
@@ -44,12 +44,12 @@ scratch-cleared s e = rw (le-leb scratchSize (length s) e)
 
 -- ---- a scratch that is long enough plays no further part
 
-pub quotient-room : (len : ℕ) (f g h w : Model) → scratchSize ≤ len → quotientOf len f g h w ≡ quotientOf scratchSize f g h w
-unfolding quotientOf
+pub quotient-room : (len : ℕ) (f g h w : Model) → scratchSize ≤ len → quotientOutcome len f g h w ≡ quotientOutcome scratchSize f g h w
+unfolding quotientOutcome
 quotient-room len f g h w room = rw (le-ltb len scratchSize room)
 
-pub root-room : (len : ℕ) (f h w : Model) → scratchSize ≤ len → rootOf byDiscriminant len f h w ≡ rootOf byDiscriminant scratchSize f h w
-unfolding rootOf rootPlaces
+pub root-room : (len : ℕ) (f h w : Model) → scratchSize ≤ len → rootOutcome byDiscriminant len f h w ≡ rootOutcome byDiscriminant scratchSize f h w
+unfolding rootOutcome rootPlaces
 root-room len f h w room = rw (le-ltb len scratchSize room)
 
 -- ---- models and candidates

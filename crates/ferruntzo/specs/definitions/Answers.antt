@@ -65,10 +65,10 @@ abbrev pub unaryAnswer : (Model → Outcome Model) → List ℤ → List ℤ →
 unaryAnswer f a out = outcomeIn (cond (fits modelSize a && fits modelSize out) (f (areaModel a)) shortOutcome) out
 
 -- the operations on two models
-abbrev pub operationOf : Operation → Model → Model → Outcome Model
-operationOf Add a b = addition a b
-operationOf Subtract a b = subtraction a b
-operationOf (Multiply kept) a b = multiplication kept a b
+abbrev pub operationFor : Operation → Model → Model → Outcome Model
+operationFor Add a b = addition a b
+operationFor Subtract a b = subtraction a b
+operationFor (Multiply kept) a b = multiplication kept a b
 
 -- ---- evaluate
 

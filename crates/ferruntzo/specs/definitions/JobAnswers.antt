@@ -6,7 +6,7 @@ use lib.Dec.{eqb}
 use lib.IntN.{ℤ}
 use lib.ListN.{length, getD}
 use Rattle.job.specs.definitions.Outcomes.{JobOutcome, accepted, refused, counted, refusalNumber, refusedCommand, resultCount}
-use Rattle.job.specs.definitions.Work.{areaPlace, areaPlaces, checkOf, workAfter, scratchAfterJob}
+use Rattle.job.specs.definitions.Work.{areaPlace, areaPlaces, checkOutcome, workAfter, scratchAfterJob}
 use Rattle.ferruntzo.specs.definitions.Answers.{fits, areaOut}
 
 -- how many numbers an answer has: the count of results, and the number of the refused command
@@ -27,7 +27,7 @@ jobAnswer n w s a = record { number = n; work = w; scratch = s; answer = a }
 -- neither is touched", the answer 0 and 0. An area for the answer that is too short is refusal 1 too, and touches none.
 unfoldable pub checkAnswer : List ℕ → List ℤ → List ℤ → List ℕ → JobAnswer
 checkAnswer job work scratch answer =
-    let o = counted (checkOf job work scratch) in
+    let o = counted (checkOutcome job work scratch) in
     jobAnswer
     (cond (fits answerSize answer) (refusalNumber o) 1)
     (cond (fits answerSize answer) (workAfter job work scratch) work)

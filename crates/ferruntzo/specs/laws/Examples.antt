@@ -13,10 +13,10 @@ use Rattle.model.specs.definitions.Models.{good, tooLarge, zeroModel}
 use Rattle.model.specs.definitions.Outcomes.{passing}
 use Rattle.model.specs.definitions.Operations.{sumModel, addition, productList}
 use Rattle.model.specs.definitions.Evaluation.{pointTerm, pointSum, pointError, lowBound, highBound, evaluation}
-use Rattle.certificate.specs.definitions.Tests.{scratchAfter, rootOf, rootPlaces, rootContraction, rootResidual, rootModel, displacement}
+use Rattle.certificate.specs.definitions.Tests.{scratchAfter, rootOutcome, rootPlaces, rootContraction, rootResidual, rootModel, displacement}
 use Rattle.job.specs.definitions.Commands.{readingPlaces}
-use Rattle.job.specs.definitions.Jobs.{command, run, jobOf}
-use Rattle.job.specs.definitions.Work.{checkOf, workAfter, workOf, stretches, scratchAfterJob}
+use Rattle.job.specs.definitions.Jobs.{command, run, jobOutcome}
+use Rattle.job.specs.definitions.Work.{checkOutcome, workAfter, workWith, stretches, scratchAfterJob}
 use Rattle.ferruntzo.specs.definitions.Answers.{areaOut, operationAnswer, outcomeIn, binaryAnswer, evaluationAnswer, boundsIn, evaluateAnswer}
 use Rattle.ferruntzo.specs.definitions.TestAnswers.{testAnswer, testIn, rootAnswer}
 use Rattle.ferruntzo.specs.definitions.JobAnswers.{jobAnswer, checkAnswer}
@@ -64,7 +64,7 @@ pub tests :
     ≡ testAnswer 1 (zeros 65 ++ nines 1) (nines 34) (0 ∷ 0 ∷ 0 ∷ 9 ∷ []))
     × (rootAnswer (area 0 (pos 2097152 ∷ []) 35) h w (nines 64) (nines 36) (9 ∷ 9 ∷ 9 ∷ 9 ∷ [])
     ≡ testAnswer 1 (nines 64) (zeros 35 ++ nines 1) (0 ∷ 0 ∷ 0 ∷ 9 ∷ []))
-unfolding testIn areaOut scratchAfter rootOf rootPlaces rootContraction rootResidual rootModel displacement coefficientSum productList passing good tooLarge zeroModel weight addLists subtractLists scaleList addAt addPair addRow addRows product upℕ zeros
+unfolding testIn areaOut scratchAfter rootOutcome rootPlaces rootContraction rootResidual rootModel displacement coefficientSum productList passing good tooLarge zeroModel weight addLists subtractLists scaleList addAt addPair addRow addRows product upℕ zeros
 tests = (refl, refl, refl)
 
 -- a job refused at command 1, the count before the command; and an area for the answer that is too short
@@ -73,5 +73,5 @@ pub checks :
     ≡ jobAnswer 10 (zeros 1120 ++ nines 1) (zeros 65 ++ nines 1) (0 ∷ 1 ∷ 9 ∷ []))
     × (checkAnswer (0x01 ∷ 1 ∷ []) (nines 1119) (nines 66) (9 ∷ 9 ∷ 9 ∷ []) ≡ jobAnswer 1 (nines 1119) (nines 66) (0 ∷ 0 ∷ 9 ∷ []))
     × (checkAnswer (0x01 ∷ 1 ∷ []) (nines 1120) (nines 65) (9 ∷ []) ≡ jobAnswer 1 (nines 1120) (nines 65) (9 ∷ []))
-unfolding checkAnswer areaOut checkOf workAfter workOf stretches scratchAfterJob jobOf run command readingPlaces passing zeros
+unfolding checkAnswer areaOut checkOutcome workAfter workWith stretches scratchAfterJob jobOutcome run command readingPlaces passing zeros
 checks = (refl, refl, refl)

@@ -84,21 +84,21 @@ operationRow Root = record {
   maker = λ job at. root byDiscriminant (byteAt job (at + 1)) (blockAt job (at + 2) 0) (blockAt job (at + 135) 0);
 }
 
-abbrev pub operandsOf : Operation → Layout
-operandsOf op = operationRow op .operands
+abbrev pub operandsFor : Operation → Layout
+operandsFor op = operationRow op .operands
 
 unfoldable pub makerAt : Operation → List ℕ → ℕ → Maker
 makerAt op job at = operationRow op .maker job at
 
-abbrev pub layoutOf : Kind → Layout
-layoutOf End = record { width = 0; names = Nothing; values = Any }
-layoutOf Edition = record { width = 1; names = Nothing; values = EditionOne }
-layoutOf (Result o) = operandsOf o
-layoutOf Unknown = record { width = 0; names = Nothing; values = Any }
+abbrev pub layoutFor : Kind → Layout
+layoutFor End = record { width = 0; names = Nothing; values = Any }
+layoutFor Edition = record { width = 1; names = Nothing; values = EditionOne }
+layoutFor (Result o) = operandsFor o
+layoutFor Unknown = record { width = 0; names = Nothing; values = Any }
 
 -- "The command byte decides the operand width and the operation"
 abbrev pub shapeWith : Kind → Shape
-shapeWith kind = let o = layoutOf kind in record { kind = kind; width = o .width; names = o .names; values = o .values }
+shapeWith kind = let o = layoutFor kind in record { kind = kind; width = o .width; names = o .names; values = o .values }
 
 abbrev pub shapeOf : ℕ → Shape
 shapeOf b = shapeWith (kindIn commandBytes b)

@@ -14,9 +14,9 @@ use Rattle.certificate.specs.definitions.Tests.{scratchSize, scratchAfter, Cert
 use Rattle.model.specs.declared.types.Model.{Model}
 use Rattle.job.specs.definitions.Bytes.{byteAt}
 use Rattle.job.specs.definitions.Makers.{Maker, untested, namesBad, operation}
-use Rattle.job.specs.definitions.Commands.{maxResults, operandsOf, layoutOf, makerAt, commandAt, badNames, makesResult}
+use Rattle.job.specs.definitions.Commands.{maxResults, operandsFor, layoutFor, makerAt, commandAt, badNames, makesResult}
 use Rattle.job.specs.definitions.Jobs.{Step, more, over}
-use Rattle.job.specs.definitions.Work.{workSize, workOf}
+use Rattle.job.specs.definitions.Work.{workSize, workWith}
 use Rattle.job.specs.declared.types.Step.{Step as CodeStep}
 use Rattle.job.specs.declared.types.Step.the-variants.{More, Over, Refused}
 use Rattle.job.specs.declared.types.Kind.{Kind}
@@ -29,7 +29,7 @@ Sized (m ∷ rs) = (length (m .coefficients) ≡ coefficientCount) × Sized rs
 
 -- a work area holds these results, with t behind its 1,120 numbers
 pub record Holds (w : List ℤ) (count : ℕ) (rs : List Model) (t : List ℤ) : Type 0 where
-  pub work-is : w ≡ workOf rs ++ t
+  pub work-is : w ≡ workWith rs ++ t
   pub count-is : count ≡ length rs
   pub sized : Sized rs
 
@@ -75,7 +75,7 @@ pub record Performs (m : Maker) (w : List ℤ) (o : Outcome Certificate) : Type 
 -- a command that was read, as its operation needs it
 pub record Operable (op : Operation) (job : List ℕ) (at : ℕ) (work : List ℤ) : Type 0 where
   pub names : namesBad (makerAt op job at) maxResults ≡ false
-  pub room : at + 1 + operandsOf op .width ≤ length job
+  pub room : at + 1 + operandsFor op .width ≤ length job
   pub long : workSize ≤ length work
 
 -- the two bytes after a command name results, as reading them needs it
@@ -89,7 +89,7 @@ pub record Performable (kind : Kind) (job : List ℕ) (count at : ℕ) (work : L
   pub names : badNames (commandAt kind job at) count ≡ false
   pub space : (makesResult kind && leb maxResults count) ≡ false
   pub few : count ≤ maxResults
-  pub room : at + 1 + layoutOf kind .width ≤ length job
+  pub room : at + 1 + layoutFor kind .width ≤ length job
   pub long : workSize ≤ length work
 
 -- a scratch whose 65 numbers are zero

@@ -35,5 +35,5 @@ abbrev pub ReadsWell : List ℕ → Type 0
 ReadsWell job = (cs : List Command) × (jobReading job ≡ well cs)
 
 -- the command that makes result i
-abbrev pub commandOf : List Command → ℕ → Command
-commandOf cs i = getD cs i finish
+abbrev pub commandFor : List Command → ℕ → Command
+commandFor cs i = getD cs i finish

@@ -44,5 +44,5 @@ unfoldable pub run : ℕ → List ℕ → ℕ → List Model → ℕ → JobOutc
 run zero job k rs at = JobOutcome.refused 10 k
 run (suc f) job k rs at = onward (run f job) k rs (command job k rs at)
 
-unfoldable pub jobOf : List ℕ → JobOutcome (List Model)
-jobOf job = run (length job + 1) job 0 [] 0
+unfoldable pub jobOutcome : List ℕ → JobOutcome (List Model)
+jobOutcome job = run (length job + 1) job 0 [] 0

@@ -37,15 +37,16 @@ pub data Row : Type 0 where
   of-one : ℕ → (Model → Given) → Row
   of-two : ℕ → ℕ → (Model → Model → Given) → Row
 
-abbrev pub rowOf : Maker → Row
-rowOf (load m) = of-none (record { places = loadingPlaces m; certificate = untested m })
-rowOf (add i j) = of-two i j (λ f g. record { places = additionPlaces f g; certificate = untested (sumModel f g) })
-rowOf (subtract i j) = of-two i j (λ f g. record { places = subtractionPlaces f g; certificate = untested (differenceModel f g) })
-rowOf (multiply i j d) =
+abbrev pub rowFor : Maker → Row
+rowFor (load m) = of-none (record { places = loadingPlaces m; certificate = untested m })
+rowFor (add i j) = of-two i j (λ f g. record { places = additionPlaces f g; certificate = untested (sumModel f g) })
+rowFor (subtract i j) =
+    of-two i j (λ f g. record { places = subtractionPlaces f g; certificate = untested (differenceModel f g) })
+rowFor (multiply i j d) =
     of-two i j (λ f g. record { places = multiplicationPlaces d f g; certificate = untested (productModel d f g) })
-rowOf (quotient i j h w) =
+rowFor (quotient i j h w) =
     of-two i j (λ f g. record { places = quotientPlaces scratchSize f g h w; certificate = quotientCertificate f g h w })
-rowOf (root rule i h w) =
+rowFor (root rule i h w) =
     of-one i (λ f. record { places = rootTestPlaces rule scratchSize f h w; certificate = rootCertificate rule f h w })
 
 -- ---- what follows from a row
@@ -67,11 +68,11 @@ givenIn (of-two i j g) rs = g (resultAt rs i) (resultAt rs j)
 
 -- a maker names a result that is not one of so many
 abbrev pub namesBad : Maker → ℕ → Bool
-namesBad m count = badIn (rowOf m) count
+namesBad m count = badIn (rowFor m) count
 
 -- the places that it passes through for the results rs, and its outcome
 unfoldable pub makerPlaces : Maker → List Model → List (Bool × ℕ)
-makerPlaces m rs = givenIn (rowOf m) rs .places
+makerPlaces m rs = givenIn (rowFor m) rs .places
 
 unfoldable pub operation : Maker → List Model → Outcome Certificate
-operation m rs = outcome (makerPlaces m rs) (givenIn (rowOf m) rs .certificate) zeroCertificate
+operation m rs = outcome (makerPlaces m rs) (givenIn (rowFor m) rs .certificate) zeroCertificate

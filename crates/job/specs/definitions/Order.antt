@@ -29,8 +29,8 @@ resultsAfter unknown rs = rs
 -- command k at a position, after the results rs
 module _ (job : List ℕ) (k : ℕ) (rs : List Model) (at : ℕ) where
   -- the places that it passes through: those of reading, then those of its operation
-  unfoldable pub placesOf : List (Bool × ℕ)
-  placesOf = readingPlaces job k (length rs) at ++ operationPlaces (commandRead job k (length rs) at) rs
+  unfoldable pub commandPlaces : List (Bool × ℕ)
+  commandPlaces = readingPlaces job k (length rs) at ++ operationPlaces (commandRead job k (length rs) at) rs
 
   abbrev pub isLast : Bool
   isLast = isEnd (shapeAt job k (length rs) at .kind)
@@ -39,16 +39,17 @@ module _ (job : List ℕ) (k : ℕ) (rs : List Model) (at : ℕ) where
 -- the end
 pub data Reaches (job : List ℕ) : ℕ → List Model → ℕ → Type 0 where
   start : Reaches job 0 [] 0
-  next : {k : ℕ} {rs : List Model} {at : ℕ} → Reaches job k rs at → Passed (placesOf job k rs at) → isLast job k rs at ≡ false
+  next : {k : ℕ} {rs : List Model} {at : ℕ} → Reaches job k rs at
+      → Passed (commandPlaces job k rs at) → isLast job k rs at ≡ false
       → Reaches job (k + 1) (resultsAfter (commandRead job k (length rs) at) rs) (nextAt job k (length rs) at)
 
 -- command k refuses with number n: it is reached, and its first place that holds has this number
 abbrev pub RefusesAt : List ℕ → ℕ → ℕ → Type 0
-RefusesAt job n k = (rs : List Model) × (at : ℕ) × Reaches job k rs at × First (placesOf job k rs at) n
+RefusesAt job n k = (rs : List Model) × (at : ℕ) × Reaches job k rs at × First (commandPlaces job k rs at) n
 
 -- an end is reached with the results rs, and passes all its places
 abbrev pub EndsWith : List ℕ → List Model → Type 0
-EndsWith job rs = (k : ℕ) × (at : ℕ) × Reaches job k rs at × Passed (placesOf job k rs at) × (isLast job k rs at ≡ true)
+EndsWith job rs = (k : ℕ) × (at : ℕ) × Reaches job k rs at × Passed (commandPlaces job k rs at) × (isLast job k rs at ≡ true)
 
 -- a job over lent areas meets refusal n at command k: in the places of the areas, "refusal 1 goes with command 0", or behind
 -- them in those of its commands

@@ -22,7 +22,7 @@ use Rattle.certificate.specs.definitions.Tests.{Certificate, RootRule}
 use Rattle.model.specs.declared.types.Model.{Model}
 use Rattle.job.specs.definitions.Makers.{Maker, load, add, subtract, multiply, quotient, root, namesBad, operation}
 use Rattle.job.specs.definitions.Commands.{Command, result}
-use Rattle.job.specs.definitions.JobReading.{jobReading, well, commandOf}
+use Rattle.job.specs.definitions.JobReading.{jobReading, well, commandFor}
 use Rattle.job.specs.definitions.Outcomes.{JobOutcome, accepted}
 use Rattle.job.specs.definitions.Order.{Meets}
 use Rattle.job.specs.definitions.Work.{stretch, modelsIn}
@@ -58,28 +58,28 @@ pub record ContainsFour (op : ℚ → ℚ → ℚ) (a b c : Box) : Type 0 where
 -- job's bytes; d, h and w play no part.
 pub data Permitted (cs : List Command) (x : ℚ) (box : ℕ → Box) : ℕ → Type 0 where
   -- "Load: any fraction that the loaded model allows at x, as low and as high."
-  load-box : (i : ℕ) (m : Model) (v : ℚ) → commandOf cs i ≡ result (load m)
+  load-box : (i : ℕ) (m : Model) (v : ℚ) → commandFor cs i ≡ result (load m)
       → Allows m x v → box i .low ≡ v → box i .high ≡ v
       → Permitted cs x box i
   -- "Add and subtract: the exact ends, low + low and high + high, or low − high and high − low."
-  add-box : (i j k : ℕ) → commandOf cs i ≡ result (add j k) → Permitted cs x box j → Permitted cs x box k
+  add-box : (i j k : ℕ) → commandFor cs i ≡ result (add j k) → Permitted cs x box j → Permitted cs x box k
       → box i .low ≡ box j .low +ℚ box k .low → box i .high ≡ box j .high +ℚ box k .high
       → Permitted cs x box i
-  subtract-box : (i j k : ℕ) → commandOf cs i ≡ result (subtract j k) → Permitted cs x box j → Permitted cs x box k
+  subtract-box : (i j k : ℕ) → commandFor cs i ≡ result (subtract j k) → Permitted cs x box j → Permitted cs x box k
       → box i .low ≡ box j .low -ℚ box k .high → box i .high ≡ box j .high -ℚ box k .low
       → Permitted cs x box i
   -- "Multiply: any box that contains the four products of ends. d plays no part."
-  multiply-box : (i j k d : ℕ) → commandOf cs i ≡ result (multiply j k d) → Permitted cs x box j → Permitted cs x box k
+  multiply-box : (i j k d : ℕ) → commandFor cs i ≡ result (multiply j k d) → Permitted cs x box j → Permitted cs x box k
       → ContainsFour _*ℚ_ (box j) (box k) (box i)
       → Permitted cs x box i
   -- "Quotient: the box of g excludes 0, and the new box is any that contains the four quotients of ends."
-  quotient-box : (i j k : ℕ) (h w : Model) → commandOf cs i ≡ result (quotient j k h w)
+  quotient-box : (i j k : ℕ) (h w : Model) → commandFor cs i ≡ result (quotient j k h w)
       → Permitted cs x box j → Permitted cs x box k
       → ¬ Lies (whole (pos 0)) (box k)
       → ContainsFour _/ℚ_ (box j) (box k) (box i)
       → Permitted cs x box i
   -- "Root: low = 0 or low > 0 with low² ≤ the old low, and high ≥ 0 with high² ≥ the old high."
-  root-box : (i j : ℕ) (rule : RootRule) (h w : Model) → commandOf cs i ≡ result (root rule j h w) → Permitted cs x box j
+  root-box : (i j : ℕ) (rule : RootRule) (h w : Model) → commandFor cs i ≡ result (root rule j h w) → Permitted cs x box j
       → (box i .low ≡ whole (pos 0)) ⊎ ((whole (pos 0) <ℚ box i .low) × ((box i .low *ℚ box i .low) ≤ℚ box j .low))
       → whole (pos 0) ≤ℚ box i .high → box j .high ≤ℚ (box i .high *ℚ box i .high)
       → Permitted cs x box i
@@ -95,10 +95,10 @@ pub record Vouched (cs : List Command) (work : List ℤ) (i : ℕ) (x : ℚ) : T
   -- "Whichever boxes document 01 permits there for it and all it is formed from, … its box overlaps its model"
   pub overlaps : (box : ℕ → Box) → Permitted cs x box i → Overlaps (box i) (stretch work i) x
   -- "If it is a quotient, no value that the divisor's model allows there is zero;"
-  pub divisor : (j k : ℕ) (h w : Model) → commandOf cs i ≡ result (quotient j k h w)
+  pub divisor : (j k : ℕ) (h w : Model) → commandFor cs i ≡ result (quotient j k h w)
       → (v : ℚ) → Allows (stretch work k) x v → ¬ (v ≡ whole (pos 0))
   -- "if a root, no value that the model under the root allows there is negative."
-  pub radicand : (j : ℕ) (rule : RootRule) (h w : Model) → commandOf cs i ≡ result (root rule j h w)
+  pub radicand : (j : ℕ) (rule : RootRule) (h w : Model) → commandFor cs i ≡ result (root rule j h w)
       → (v : ℚ) → Allows (stretch work j) x v → ¬ (v <ℚ whole (pos 0))
 
 -- what is vouched for of an accepted job

@@ -11,7 +11,7 @@ use Rattle.model.specs.definitions.Areas.{modelSize, words, areaModel}
 use Rattle.certificate.specs.definitions.Tests.{scratchSize}
 use Rattle.model.specs.declared.types.Model.{Model}
 use Rattle.job.specs.definitions.Outcomes.{JobOutcome, accepted, refused}
-use Rattle.job.specs.definitions.Jobs.{jobOf}
+use Rattle.job.specs.definitions.Jobs.{jobOutcome}
 
 -- the numbers of the whole area
 abbrev pub workSize : ℕ
@@ -35,8 +35,8 @@ stretches [] = []
 stretches (m ∷ rs) = words m ++ stretches rs
 
 -- the 1,120 numbers: the results, later stretches zero
-unfoldable pub workOf : List Model → List ℤ
-workOf rs = stretches rs ++ zeros (workSize - modelSize * length rs)
+unfoldable pub workWith : List Model → List ℤ
+workWith rs = stretches rs ++ zeros (workSize - modelSize * length rs)
 
 -- ---- the entry
 
@@ -53,17 +53,17 @@ abbrev pub areasFit : List ℤ → List ℤ → Bool
 areasFit w s = leb workSize (length w) && leb scratchSize (length s)
 
 -- "too short; neither is touched"; "refusal 1 goes with command 0"
-unfoldable pub checkOf : List ℕ → List ℤ → List ℤ → JobOutcome (List Model)
-checkOf job w s = cond (areasFit w s) (jobOf job) (refused 1 0)
+unfoldable pub checkOutcome : List ℕ → List ℤ → List ℤ → JobOutcome (List Model)
+checkOutcome job w s = cond (areasFit w s) (jobOutcome job) (refused 1 0)
 
-abbrev pub resultsOf : JobOutcome (List Model) → List Model
-resultsOf (accepted rs) = rs
-resultsOf (refused n k) = []
+abbrev pub resultsIn : JobOutcome (List Model) → List Model
+resultsIn (accepted rs) = rs
+resultsIn (refused n k) = []
 
 -- "An accepted job leaves later stretches zero; a refused one leaves all 1,120 zero, save that refusal 1 touches nothing.
 -- Numbers behind stay."
 unfoldable pub workAfter : List ℕ → List ℤ → List ℤ → List ℤ
-workAfter job w s = cond (areasFit w s) (workOf (resultsOf (jobOf job)) ++ drop workSize w) w
+workAfter job w s = cond (areasFit w s) (workWith (resultsIn (jobOutcome job)) ++ drop workSize w) w
 
 -- the scratch after a job: its 65 numbers are zero unless an area was too short
 unfoldable pub scratchAfterJob : List ℤ → List ℤ → List ℤ

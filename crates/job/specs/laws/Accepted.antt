@@ -10,9 +10,9 @@ use Rattle.model.specs.laws.PlaceLaws.{passing-passed, passed-append}
 use Rattle.model.specs.declared.types.Model.{Model}
 use Rattle.job.specs.definitions.Commands.{Command, edition, result, finish, unknown, commandAt, shapeAt, commandRead, nextAt, badKind, badNames, isEnd, readingPlaces}
 use Rattle.job.specs.definitions.Outcomes.{accepted}
-use Rattle.job.specs.definitions.Jobs.{jobOf}
+use Rattle.job.specs.definitions.Jobs.{jobOutcome}
 use Rattle.job.specs.definitions.JobReading.{JobReading, well, ill, readOn, readFrom, jobReading, ReadsWell}
-use Rattle.job.specs.definitions.Order.{operationPlaces, resultsAfter, placesOf, isLast, Reaches, start, next}
+use Rattle.job.specs.definitions.Order.{operationPlaces, resultsAfter, commandPlaces, isLast, Reaches, start, next}
 use Rattle.job.specs.laws.CommandLaws.{isEnd-is, operation-passed, command-readable, command-passed}
 use Rattle.job.specs.laws.OrderLaws.{reaches-bounds, accepted-exactly}
 use Rattle.job.specs.definitions.Requirement.{Made, nothing, one-more}
@@ -69,9 +69,9 @@ module _ {job : List ℕ} {k : ℕ} {rs : List Model} {at : ℕ} (r : Reaches jo
       let f : length job + 1 - k ≡ suc (length job + 1 - (k + 1)) = omega (arith, b) in
       sym (ap (λ (f : ℕ). readFrom f job k (h .cs) at) f ∙ rw (made-length (h .made))) ∙ h .left
 
-  module _ (f : Passed (placesOf job k rs at)) where
+  module _ (f : Passed (commandPlaces job k rs at)) where
     by-reading : readOn k onward (h .cs) c ≡ jobReading job
-    unfolding placesOf
+    unfolding commandPlaces
     by-reading = sym (passing-passed reading _ _ (passed-append reading (operationPlaces c rs) .0 f .0)) ∙ reads-there
 
     reached-next : isLast job k rs at ≡ false → Reached job (k + 1) (resultsAfter c rs) (nextAt job k (length rs) at)
@@ -91,7 +91,7 @@ reached (next r f e) = reached-next r (reached r) f e
 
 -- ---- an accepted job
 
-module _ (job : List ℕ) (rs : List Model) (h : jobOf job ≡ accepted rs) where
+module _ (job : List ℕ) (rs : List Model) (h : jobOutcome job ≡ accepted rs) where
   -- its results are made by the commands that its bytes hold
   pub accepted-read : (cs : List Command) × (jobReading job ≡ well cs) × Made cs rs
   accepted-read =

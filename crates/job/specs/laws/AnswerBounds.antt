@@ -14,8 +14,8 @@ use Rattle.job.specs.definitions.Makers.{operation}
 use Rattle.job.specs.definitions.Commands.{makerAt, commandAt, shapeAt, maxResults, badKind, isEnd}
 use Rattle.model.specs.definitions.Outcomes.{values}
 use Rattle.job.specs.definitions.Outcomes.{JobOutcome, accepted, refused, counted, refusedCommand, resultCount}
-use Rattle.job.specs.definitions.Jobs.{jobOf}
-use Rattle.job.specs.definitions.Work.{areasFit, checkOf}
+use Rattle.job.specs.definitions.Jobs.{jobOutcome}
+use Rattle.job.specs.definitions.Work.{areasFit, checkOutcome}
 use Rattle.job.specs.definitions.Order.{resultsAfter, Reaches, start, next}
 use Rattle.job.specs.laws.OrderLaws.{reaches-bounds, refused-exactly, accepted-exactly}
 use Rattle.job.specs.laws.CommandLaws.{command-readable}
@@ -38,7 +38,7 @@ pub record Small (o : JobOutcome ℕ) : Type 0 where
   pub number : refusedCommand o ≤ maxResults + 1
 
 module _ (job : List ℕ) where
-  outcome-small : (o : JobOutcome (List Model)) → jobOf job ≡ o → Small (counted o)
+  outcome-small : (o : JobOutcome (List Model)) → jobOutcome job ≡ o → Small (counted o)
   outcome-small (accepted rs) e =
       let m = accepted-exactly job rs .0 e in
       let b = reaches-bounds (m .2) in
@@ -48,10 +48,10 @@ module _ (job : List ℕ) where
       let b = reaches-bounds (m .2) in
       record { results = omega arith; number = omega (arith, b .results, reaches-number (m .2)) }
 
-  pub answer-small : (w s : List ℤ) → Small (counted (checkOf job w s))
-  unfolding checkOf
+  pub answer-small : (w s : List ℤ) → Small (counted (checkOutcome job w s))
+  unfolding checkOutcome
   answer-small w s = by (areasFit w s) refl
     where
-      by : (t : Bool) → areasFit w s ≡ t → Small (counted (checkOf job w s))
-      by true e = rw e (outcome-small (jobOf job) refl)
+      by : (t : Bool) → areasFit w s ≡ t → Small (counted (checkOutcome job w s))
+      by true e = rw e (outcome-small (jobOutcome job) refl)
       by false e = rw e (record { results = omega arith; number = omega arith })

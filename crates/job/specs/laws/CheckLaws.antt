@@ -12,10 +12,10 @@ use Rattle.model.specs.definitions.Outcomes.{Passed, First, here, later}
 use Rattle.certificate.specs.definitions.Tests.{scratchSize}
 use Rattle.model.specs.declared.types.Model.{Model}
 use Rattle.job.specs.definitions.Outcomes.{JobOutcome, accepted, refused}
-use Rattle.job.specs.definitions.Jobs.{jobOf}
+use Rattle.job.specs.definitions.Jobs.{jobOutcome}
 use Rattle.job.specs.definitions.Order.{EndsWith, Meets}
 use Rattle.job.specs.laws.OrderLaws.{refused-exactly, accepted-exactly}
-use Rattle.job.specs.definitions.Work.{workSize, areaPlaces, areasFit, checkOf}
+use Rattle.job.specs.definitions.Work.{workSize, areaPlaces, areasFit, checkOutcome}
 
 -- two tests that are to hold
 module _ where
@@ -59,19 +59,19 @@ module _ (job : List ℕ) (w s : List ℤ) where
   abbrev b : Bool
   b = leb scratchSize (length s)
 
-  fit : areasFit w s ≡ true → checkOf job w s ≡ jobOf job
-  unfolding checkOf
+  fit : areasFit w s ≡ true → checkOutcome job w s ≡ jobOutcome job
+  unfolding checkOutcome
   fit e = rw e
 
-  short : areasFit w s ≡ false → checkOf job w s ≡ refused 1 0
-  unfolding checkOf
+  short : areasFit w s ≡ false → checkOutcome job w s ≡ refused 1 0
+  unfolding checkOutcome
   short e = rw e
 
   -- a check is refused with (n, k) exactly if that is the refusal that the job over these areas meets
-  pub check-refused-exactly : (n k : ℕ) → (checkOf job w s ≡ refused n k) ↔ Meets (areaPlaces w s) job n k
+  pub check-refused-exactly : (n k : ℕ) → (checkOutcome job w s ≡ refused n k) ↔ Meets (areaPlaces w s) job n k
   check-refused-exactly n k = (into (areasFit w s) refl, from)
     where
-      into : (t : Bool) → areasFit w s ≡ t → checkOf job w s ≡ refused n k → Meets (areaPlaces w s) job n k
+      into : (t : Bool) → areasFit w s ≡ t → checkOutcome job w s ≡ refused n k → Meets (areaPlaces w s) job n k
       into true e h = inr (areas-fit w s e, refused-exactly job n k .0 (sym (fit e) ∙ h))
       into false e h =
           let x : _≡_ {A = JobOutcome (List Model)} (refused 1 0) (refused n k) = sym (short e) ∙ h in
@@ -79,13 +79,13 @@ module _ (job : List ℕ) (w s : List ℤ) where
           let z : k ≡ 0 = cc x in
           inl (rw (← y) (areas-short w s e), z)
 
-      from : Meets (areaPlaces w s) job n k → checkOf job w s ≡ refused n k
+      from : Meets (areaPlaces w s) job n k → checkOutcome job w s ≡ refused n k
       from (inl f) = let g = failing a b (f .0) in short (g .0) ∙ ap₂ refused (sym (g .1)) (sym (f .1))
       from (inr f) = fit (both-hold a b (f .0)) ∙ refused-exactly job n k .1 (f .1)
 
-  pub check-accepted-exactly : (rs : List Model) → (checkOf job w s ≡ accepted rs) ↔ (Passed (areaPlaces w s) × EndsWith job rs)
+  pub check-accepted-exactly : (rs : List Model) → (checkOutcome job w s ≡ accepted rs) ↔ (Passed (areaPlaces w s) × EndsWith job rs)
   check-accepted-exactly rs = (into (areasFit w s) refl, λ f. fit (both-hold a b (f .0)) ∙ accepted-exactly job rs .1 (f .1))
     where
-      into : (t : Bool) → areasFit w s ≡ t → checkOf job w s ≡ accepted rs → Passed (areaPlaces w s) × EndsWith job rs
+      into : (t : Bool) → areasFit w s ≡ t → checkOutcome job w s ≡ accepted rs → Passed (areaPlaces w s) × EndsWith job rs
       into true e h = (areas-fit w s e, accepted-exactly job rs .0 (sym (fit e) ∙ h))
       into false e h = let x : refused 1 0 ≡ accepted rs = sym (short e) ∙ h in let z : _≡_ {A = ℕ} 0 1 = cc x in absurd (omega arith)

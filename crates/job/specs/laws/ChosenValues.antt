@@ -10,7 +10,7 @@ use lib.IntN.{pos}
 use Rattle.integer.specs.definitions.Fraction.{ℚ, whole, _+ℚ_, _-ℚ_, _*ℚ_, _/ℚ_}
 use Rattle.job.specs.definitions.Makers.{Maker, load, add, subtract, multiply, quotient, root, namesBad}
 use Rattle.job.specs.definitions.Commands.{Command, edition, result, finish, unknown}
-use Rattle.job.specs.definitions.JobReading.{commandOf}
+use Rattle.job.specs.definitions.JobReading.{commandFor}
 use Rattle.job.specs.laws.CommandLaws.{both-below}
 use Rattle.job.specs.definitions.ExactValues.{valueBy, Follows}
 
@@ -25,22 +25,22 @@ value-named choice v w i (quotient j k h h′) n s = let b = both-below i j k n 
 value-named choice v w i (root rule j h h′) n s = refl
 
 -- the results that a command names stand before its own
-module _ (commands : List Command) (named : (i : ℕ) (m : Maker) → commandOf commands i ≡ result m → namesBad m i ≡ false) (choice : ℕ → ℚ) where
-  valueOf : (ℕ → ℚ) → ℕ → Command → ℚ
-  valueOf v i edition = whole (pos 0)
-  valueOf v i (result m) = valueBy choice v i m
-  valueOf v i finish = whole (pos 0)
-  valueOf v i unknown = whole (pos 0)
+module _ (commands : List Command) (named : (i : ℕ) (m : Maker) → commandFor commands i ≡ result m → namesBad m i ≡ false) (choice : ℕ → ℚ) where
+  valueFor : (ℕ → ℚ) → ℕ → Command → ℚ
+  valueFor v i edition = whole (pos 0)
+  valueFor v i (result m) = valueBy choice v i m
+  valueFor v i finish = whole (pos 0)
+  valueFor v i unknown = whole (pos 0)
 
   extended : ℕ → (ℕ → ℚ) → ℕ → ℚ
-  extended n v i = cond (eqb i n) (valueOf v n (commandOf commands n)) (v i)
+  extended n v i = cond (eqb i n) (valueFor v n (commandFor commands n)) (v i)
 
   extended-before : (n : ℕ) (v : ℕ → ℚ) (i : ℕ) → i < n → v i ≡ extended n v i
   unfolding extended
   extended-before n v i h = simp (ne-eqb i n (omega arith))
 
   extended-follows : (n : ℕ) (v : ℕ → ℚ) → Follows commands choice n v → Follows commands choice (suc n) (extended n v)
-  unfolding extended valueOf
+  unfolding extended valueFor
   extended-follows n v f i h m e = by (eqb i n) refl
     where
       same : valueBy choice v i m ≡ valueBy choice (extended n v) i m
@@ -49,7 +49,7 @@ module _ (commands : List Command) (named : (i : ℕ) (m : Maker) → commandOf 
       by : (t : Bool) → eqb i n ≡ t → extended n v i ≡ valueBy choice (extended n v) i m
       by true t =
           let en : i ≡ n = eqb-true i n t in
-          rw t (ap (λ (k : ℕ). valueOf v k (commandOf commands k)) (sym en) ∙ ap (valueOf v i) e) ∙ same
+          rw t (ap (λ (k : ℕ). valueFor v k (commandFor commands k)) (sym en) ∙ ap (valueFor v i) e) ∙ same
       by false t = let lt : i < n = omega (arith, eqb-false i n t) in sym (extended-before n v i lt) ∙ f i lt m e ∙ same
 
   pub values-to : (n : ℕ) → (v : ℕ → ℚ) × Follows commands choice n v

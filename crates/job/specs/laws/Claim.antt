@@ -10,13 +10,13 @@ use Rattle.integer.specs.laws.FractionOrder.{ℚ-ordered}
 use Rattle.model.specs.definitions.Values.{Allows, OnInterval}
 use Rattle.model.specs.definitions.Outcomes.{Outcome, accepted}
 use Rattle.model.specs.laws.OperationsSound.{addition-sound, subtraction-sound, multiplication-sound}
-use Rattle.certificate.specs.definitions.Tests.{scratchSize, quotientOf, RootRule, rootOf}
+use Rattle.certificate.specs.definitions.Tests.{scratchSize, quotientOutcome, RootRule, rootOutcome}
 use Rattle.certificate.specs.laws.QuotientSound.{quotient-sound, quotient-nonzero}
 use Rattle.certificate.specs.laws.RootSound.{root-sound, root-overlap}
 use Rattle.model.specs.declared.types.Model.{Model}
 use Rattle.job.specs.definitions.Makers.{Maker, load, add, subtract, multiply, quotient, root, resultAt, operation}
 use Rattle.job.specs.definitions.Commands.{Command, result}
-use Rattle.job.specs.definitions.JobReading.{commandOf}
+use Rattle.job.specs.definitions.JobReading.{commandFor}
 use Rattle.job.specs.definitions.InnerContracts.{untestedOutcome}
 use Rattle.job.specs.laws.MakerLaws.{untested-accepted, loading-same, load-operation, add-operation, subtract-operation, multiply-operation, quotient-operation, root-operation}
 use Rattle.job.specs.laws.MadeLaws.{MadeFrom, made-maker}
@@ -25,20 +25,20 @@ use Rattle.job.specs.laws.Hull.{sum-lies, difference-lies, product-lies,
 
 -- each result is what its command gives for the results, without a refusal
 module _ {cs : List Command} {rs : List Model} (made : Made cs rs) where
-  from : (i : ℕ) (m : Maker) → commandOf cs i ≡ result m → MadeFrom m rs i (resultAt rs i)
+  from : (i : ℕ) (m : Maker) → commandFor cs i ≡ result m → MadeFrom m rs i (resultAt rs i)
   from i m e = made-maker made i m e
 
   -- a maker that tests nothing: what its operation accepts is its result
-  given : (i : ℕ) (m : Maker) {o : Outcome Model} → commandOf cs i ≡ result m → operation m rs ≡ untestedOutcome o
+  given : (i : ℕ) (m : Maker) {o : Outcome Model} → commandFor cs i ≡ result m → operation m rs ≡ untestedOutcome o
       → o ≡ accepted (resultAt rs i)
   given i m {o} e f = let r = from i m e in untested-accepted o (sym f ∙ r .succeeds) ∙ ap accepted (sym (r .gives))
 
-  quotient-passes : (i j k : ℕ) (h w : Model) (e : commandOf cs i ≡ result (quotient j k h w))
-      → quotientOf scratchSize (resultAt rs j) (resultAt rs k) h w ≡ accepted (from i (quotient j k h w) e .certificate)
+  quotient-passes : (i j k : ℕ) (h w : Model) (e : commandFor cs i ≡ result (quotient j k h w))
+      → quotientOutcome scratchSize (resultAt rs j) (resultAt rs k) h w ≡ accepted (from i (quotient j k h w) e .certificate)
   quotient-passes i j k h w e = sym (quotient-operation j k h w rs) ∙ from i (quotient j k h w) e .succeeds
 
-  root-passes : (i j : ℕ) (rule : RootRule) (h w : Model) (e : commandOf cs i ≡ result (root rule j h w))
-      → rootOf rule scratchSize (resultAt rs j) h w ≡ accepted (from i (root rule j h w) e .certificate)
+  root-passes : (i j : ℕ) (rule : RootRule) (h w : Model) (e : commandFor cs i ≡ result (root rule j h w))
+      → rootOutcome rule scratchSize (resultAt rs j) h w ≡ accepted (from i (root rule j h w) e .certificate)
   root-passes i j rule h w e = sym (root-operation rule j h w rs) ∙ from i (root rule j h w) e .succeeds
 
   module _ (x : ℚ) (on : OnInterval x) where
@@ -91,10 +91,10 @@ module _ {cs : List Command} {rs : List Model} (made : Made cs rs) where
           allowed = rw (from i (root rule j h w) e .gives) (o .3);
         }
 
-    pub divisor-nonzero : (i j k : ℕ) (h w : Model) → commandOf cs i ≡ result (quotient j k h w)
+    pub divisor-nonzero : (i j k : ℕ) (h w : Model) → commandFor cs i ≡ result (quotient j k h w)
         → (v : ℚ) → Allows (resultAt rs k) x v → ¬ (v ≡ whole (pos 0))
     divisor-nonzero i j k h w e v a = quotient-nonzero scratchSize (resultAt rs j) (resultAt rs k) h w (quotient-passes i j k h w e) x on v a
 
-    pub radicand-positive : (i j : ℕ) (rule : RootRule) (h w : Model) → commandOf cs i ≡ result (root rule j h w)
+    pub radicand-positive : (i j : ℕ) (rule : RootRule) (h w : Model) → commandFor cs i ≡ result (root rule j h w)
         → (v : ℚ) → Allows (resultAt rs j) x v → whole (pos 0) <ℚ v
     radicand-positive i j rule h w e v a = root-sound rule scratchSize (resultAt rs j) h w (root-passes i j rule h w e) x v on a .positive

@@ -12,10 +12,10 @@ use Rattle.model.specs.definitions.Outcomes.{Outcome, accepted, values, passing
 use Rattle.model.specs.laws.PlaceLaws.{passing-passed, outcome-passed, first-parts, passed-append, passing-first}
 use Rattle.certificate.specs.definitions.Tests.{zeroCertificate}
 use Rattle.model.specs.declared.types.Model.{Model}
-use Rattle.job.specs.definitions.Makers.{Maker, rowOf, givenIn, operation, makerPlaces}
+use Rattle.job.specs.definitions.Makers.{Maker, rowFor, givenIn, operation, makerPlaces}
 use Rattle.job.specs.definitions.Commands.{Command, edition, result, finish, unknown, makerAt, commandAt, shapeAt, commandRead, nextAt, maxResults, badKind, badValues, badNames, makesResult, isEnd, readingPlaces}
 use Rattle.job.specs.definitions.Jobs.{more, over, refused, resulting, performed, command}
-use Rattle.job.specs.definitions.Order.{operationPlaces, resultsAfter, placesOf, isLast}
+use Rattle.job.specs.definitions.Order.{operationPlaces, resultsAfter, commandPlaces, isLast}
 use Rattle.job.specs.declared.types.Kind.{Kind}
 use Rattle.job.specs.declared.types.Kind.the-variants.{End, Edition, Result, Unknown}
 
@@ -26,11 +26,11 @@ pub operation-passed : (m : Maker) (rs : List Model) → Passed (makerPlaces m r
     → operation m rs ≡ accepted (values (operation m rs))
 unfolding operation
 operation-passed m rs f =
-    let e = outcome-passed (makerPlaces m rs) (givenIn (rowOf m) rs .certificate) zeroCertificate f in e ∙ ap accepted (ap values (sym e))
+    let e = outcome-passed (makerPlaces m rs) (givenIn (rowFor m) rs .certificate) zeroCertificate f in e ∙ ap accepted (ap values (sym e))
 
 pub operation-refuses : (m : Maker) (rs : List Model) {n : ℕ} → First (makerPlaces m rs) n → operation m rs ≡ Outcome.refused n zeroCertificate
 unfolding operation
-operation-refuses m rs f = passing-first (accepted (givenIn (rowOf m) rs .certificate)) (λ k. Outcome.refused k zeroCertificate) f
+operation-refuses m rs f = passing-first (accepted (givenIn (rowFor m) rs .certificate)) (λ k. Outcome.refused k zeroCertificate) f
 
 -- ---- reading without a refusal
 
@@ -107,33 +107,33 @@ module _ (job : List ℕ) (k : ℕ) (rs : List Model) (at : ℕ) where
   unfolding command
   reads f = passing-passed reading _ _ f
 
-  pub command-readable : Passed (placesOf job k rs at) → Readable job k (length rs) at
-  unfolding placesOf
+  pub command-readable : Passed (commandPlaces job k rs at) → Readable job k (length rs) at
+  unfolding commandPlaces
   command-readable f = readable job k (length rs) at (passed-append reading (operationPlaces c rs) .0 f .0)
 
-  pub command-refuses : {n : ℕ} → First (placesOf job k rs at) n → command job k rs at ≡ refused n
-  unfolding placesOf command
+  pub command-refuses : {n : ℕ} → First (commandPlaces job k rs at) n → command job k rs at ≡ refused n
+  unfolding commandPlaces command
   command-refuses {n} f = by (first-parts reading (operationPlaces c rs) f)
     where
       by : First reading n ⊎ (Passed reading × First (operationPlaces c rs) n) → command job k rs at ≡ refused n
       by (inl g) = passing-first _ _ g
       by (inr g) = reads (g .0) ∙ performed-refuses rs (nextAt job k (length rs) at) n c (g .1)
 
-  pub command-ends : Passed (placesOf job k rs at) → isLast job k rs at ≡ true → command job k rs at ≡ over
-  unfolding placesOf
+  pub command-ends : Passed (commandPlaces job k rs at) → isLast job k rs at ≡ true → command job k rs at ≡ over
+  unfolding commandPlaces
   command-ends f e =
       reads (passed-append reading (operationPlaces c rs) .0 f .0)
       ∙ ap (λ (x : Kind). performed (commandAt x job at) rs (nextAt job k (length rs) at)) (isEnd-is kind e)
 
-  pub command-goes-on : Passed (placesOf job k rs at) → isLast job k rs at ≡ false
+  pub command-goes-on : Passed (commandPlaces job k rs at) → isLast job k rs at ≡ false
       → command job k rs at ≡ more (resultsAfter c rs) (nextAt job k (length rs) at)
-  unfolding placesOf
+  unfolding commandPlaces
   command-goes-on f e =
       reads (passed-append reading (operationPlaces c rs) .0 f .0)
       ∙ performed-takes job k at rs (nextAt job k (length rs) at) kind e (command-readable f .kind-good)
       (passed-append reading (operationPlaces c rs) .0 f .1)
 
   -- the places of its operation alone
-  pub command-passed : Passed (placesOf job k rs at) → Passed (operationPlaces c rs)
-  unfolding placesOf
+  pub command-passed : Passed (commandPlaces job k rs at) → Passed (operationPlaces c rs)
+  unfolding commandPlaces
   command-passed f = passed-append reading (operationPlaces c rs) .0 f .1

@@ -14,7 +14,7 @@ use Rattle.certificate.specs.definitions.Tests.{RootRule}
 use Rattle.model.specs.declared.types.Model.{Model}
 use Rattle.job.specs.definitions.Makers.{quotient, root}
 use Rattle.job.specs.definitions.Commands.{Command, result}
-use Rattle.job.specs.definitions.JobReading.{commandOf}
+use Rattle.job.specs.definitions.JobReading.{commandFor}
 use Rattle.job.specs.definitions.Outcomes.{JobOutcome, accepted}
 use Rattle.job.specs.definitions.Work.{stretch}
 use Rattle.job.specs.definitions.Requirement.{Box, Lies, Permitted, load-box, add-box, subtract-box, multiply-box, quotient-box, root-box, Results, Requirement3}
@@ -69,12 +69,12 @@ module _ {areas : List (Bool × ℕ)} {job : List ℕ} {answer : JobOutcome ℕ}
         subst (λ z. Allows (stretch work i) x z) (point-is (o .lies)) (o .allowed)
 
     -- no divisor is zero
-    pub exact-divisor : {v : ℕ → ℚ} {i j k : ℕ} {h w : Model} → i < count → k < count → commandOf cs i ≡ result (quotient j k h w)
+    pub exact-divisor : {v : ℕ → ℚ} {i j k : ℕ} {h w : Model} → i < count → k < count → commandFor cs i ≡ result (quotient j k h w)
         → Exact cs x v k → ¬ (v k ≡ whole (pos 0))
     exact-divisor {v} {i} {j} {k} {h} {w} hi hk f p = vouchedFor .vouched i hi x on .divisor j k h w f (v k) (exact-allowed hk p)
 
     -- what the model under a root allows is not negative
-    pub exact-radicand : (u : ℚ) {i j : ℕ} {rule : RootRule} {h w : Model} → i < count → commandOf cs i ≡ result (root rule j h w)
+    pub exact-radicand : (u : ℚ) {i j : ℕ} {rule : RootRule} {h w : Model} → i < count → commandFor cs i ≡ result (root rule j h w)
         → Allows (stretch work j) x u → whole (pos 0) ≤ℚ u
     exact-radicand u {i} {j} {rule} {h} {w} hi f a = pick (≤ℚ-decide (whole (pos 0)) u)
       where

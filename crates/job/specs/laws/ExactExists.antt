@@ -12,9 +12,9 @@ use Rattle.integer.specs.definitions.Fraction.{ℚ, _*ℚ_, -ℚ_, ∣_∣ℚ}
 use Rattle.integer.specs.laws.FractionSolver.{reifyℚ, solveℚ}
 use Rattle.integer.specs.laws.FractionOrder.{absℚ-nonneg, absℚ-cases}
 use Rattle.model.specs.definitions.Values.{Allows, OnInterval}
-use Rattle.job.specs.definitions.Makers.{Maker, load, add, subtract, multiply, quotient, root, rowOf, namesBad}
+use Rattle.job.specs.definitions.Makers.{Maker, load, add, subtract, multiply, quotient, root, rowFor, namesBad}
 use Rattle.job.specs.definitions.Commands.{Command, result}
-use Rattle.job.specs.definitions.JobReading.{commandOf}
+use Rattle.job.specs.definitions.JobReading.{commandFor}
 use Rattle.job.specs.definitions.Outcomes.{JobOutcome, accepted}
 use Rattle.job.specs.definitions.Work.{stretch}
 use Rattle.job.specs.laws.WorkLaws.{length-modelsIn}
@@ -40,10 +40,10 @@ module _ {areas : List (Bool × ℕ)} {job : List ℕ} {answer : JobOutcome ℕ}
   abbrev commands : List Command
   commands = cs claim e
 
-  named : (i : ℕ) (m : Maker) → commandOf commands i ≡ result m → namesBad m i ≡ false
+  named : (i : ℕ) (m : Maker) → commandFor commands i ≡ result m → namesBad m i ≡ false
   named i m f = made-maker (vouchedFor claim e .made) i m f .names
 
-  maker : (i : ℕ) → i < count → (m : Maker) × (commandOf commands i ≡ result m)
+  maker : (i : ℕ) → i < count → (m : Maker) × (commandFor commands i ≡ result m)
   maker i h = made-by-maker (vouchedFor claim e .made) i (omega (arith, length-modelsIn work count))
 
   module _ (x : ℚ) (on : OnInterval x) (choice v : ℕ → ℚ) (follows : Follows commands choice count v) where
@@ -52,9 +52,9 @@ module _ {areas : List (Bool × ℕ)} {job : List ℕ} {answer : JobOutcome ℕ}
 
     -- a result below i that its command names, for a choice that suits result i
     abbrev Named : ℕ → Maker → Type 0
-    Named i m = (j : ℕ) → j < i → Names (rowOf m) j → Found j
+    Named i m = (j : ℕ) → j < i → Names (rowFor m) j → Found j
 
-    by-maker : (i : ℕ) → i < count → Chosen commands x choice v i → (m : Maker) → commandOf commands i ≡ result m → Named i m → Found i
+    by-maker : (i : ℕ) → i < count → Chosen commands x choice v i → (m : Maker) → commandFor commands i ≡ result m → Named i m → Found i
     by-maker i h c (load m) f r = load-value i m f (subst⁻¹ (Allows m x) (follows i h (load m) f) (c i (load m) (itself i) f))
     by-maker i h c (add j k) f r =
         let b = both-below i j k (named i (add j k) f) in

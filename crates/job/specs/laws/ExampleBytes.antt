@@ -7,12 +7,12 @@ use Rattle.model.specs.definitions.Models.{makeModel}
 use Rattle.model.specs.declared.types.Model.{Model}
 
 -- natural numbers as four bytes each, the lowest first
-abbrev pub wordsOf : List ℕ → List ℕ
-wordsOf [] = []
-wordsOf (n ∷ ns) = n % 256 ∷ n / 256 % 256 ∷ n / 65536 % 256 ∷ n / 16777216 % 256 ∷ wordsOf ns
+abbrev pub wordsFor : List ℕ → List ℕ
+wordsFor [] = []
+wordsFor (n ∷ ns) = n % 256 ∷ n / 256 % 256 ∷ n / 65536 % 256 ∷ n / 16777216 % 256 ∷ wordsFor ns
 
 abbrev pub block : ℕ → List ℕ → List ℕ
-block n cs = n ∷ (wordsOf cs ++ replicate (132 - 4 * length cs) 0)
+block n cs = n ∷ (wordsFor cs ++ replicate (132 - 4 * length cs) 0)
 
 abbrev positives : List ℕ → List ℤ
 positives [] = []
@@ -26,7 +26,7 @@ abbrev pub job : List ℕ → List ℕ
 job commands = (0x01 ∷ 1 ∷ []) ++ (commands ++ (0x00 ∷ []))
 
 abbrev pub loading : ℕ → List ℕ → ℕ → List ℕ
-loading n cs e = (0x10 ∷ block n cs) ++ wordsOf (e ∷ [])
+loading n cs e = (0x10 ∷ block n cs) ++ wordsFor (e ∷ [])
 
 -- loads of the constants 1, 2 and −2^28
 abbrev pub one : List ℕ

@@ -15,15 +15,15 @@ use Rattle.job.specs.definitions.Makers.{load, add, subtract, multiply, 
 use Rattle.job.specs.definitions.Commands.{Command, result, makerAt, readingPlaces}
 use Rattle.job.specs.definitions.JobReading.{readFrom, jobReading, well}
 use Rattle.job.specs.definitions.Outcomes.{accepted}
-use Rattle.job.specs.definitions.Jobs.{command, run, jobOf}
-use Rattle.job.specs.laws.ExampleBytes.{wordsOf, block, modelBy}
+use Rattle.job.specs.definitions.Jobs.{command, run, jobOutcome}
+use Rattle.job.specs.laws.ExampleBytes.{wordsFor, block, modelBy}
 
 -- edition 1; the commands below; end
 abbrev pub exampleJob : List ℕ
 exampleJob =
     (0x01 ∷ 1 ∷ [])
-    ++ ((0x10 ∷ block 0 (2097152 ∷ [])) ++ wordsOf (16384 ∷ [])
-    ++ ((0x10 ∷ block 1 (0 ∷ 1048576 ∷ [])) ++ wordsOf (16384 ∷ [])
+    ++ ((0x10 ∷ block 0 (2097152 ∷ [])) ++ wordsFor (16384 ∷ [])
+    ++ ((0x10 ∷ block 1 (0 ∷ 1048576 ∷ [])) ++ wordsFor (16384 ∷ [])
     ++ ((0x13 ∷ 0 ∷ 0 ∷ 0 ∷ [])
     ++ ((0x21 ∷ 2 ∷ block 0 (2097152 ∷ [])) ++ block 0 (262144 ∷ [])
     ++ ((0x11 ∷ 3 ∷ 1 ∷ [])
@@ -64,6 +64,6 @@ pub example-read : jobReading exampleJob ≡ well exampleCommands
 unfolding jobReading readFrom readingPlaces makerAt signedsAt passing
 example-read = refl
 
-pub example-run : jobOf exampleJob ≡ accepted exampleResults
-unfolding jobOf run command operation makerPlaces readingPlaces makerAt signedsAt rootPlaces quotientContraction quotientResidual quotientModel rootContraction rootResidual rootModel displacement coefficientSum sumModel differenceModel productModel productList productLoss rounded roundingLoss good tooLarge zeroModel weight addLists subtractLists scaleList addAt addPair addRow addRows product upℕ near floor passing
+pub example-run : jobOutcome exampleJob ≡ accepted exampleResults
+unfolding jobOutcome run command operation makerPlaces readingPlaces makerAt signedsAt rootPlaces quotientContraction quotientResidual quotientModel rootContraction rootResidual rootModel displacement coefficientSum sumModel differenceModel productModel productList productLoss rounded roundingLoss good tooLarge zeroModel weight addLists subtractLists scaleList addAt addPair addRow addRows product upℕ near floor passing
 example-run = refl

@@ -7,8 +7,8 @@ use Rattle.model.specs.laws.Examples as operations
 use Rattle.certificate.specs.laws.Examples as tests
 use Rattle.job.specs.definitions.Commands.{readingPlaces}
 use Rattle.job.specs.definitions.Outcomes.{refused}
-use Rattle.job.specs.definitions.Jobs.{command, run, jobOf}
+use Rattle.job.specs.definitions.Jobs.{command, run, jobOutcome}
 
-pub benchmarks : operations.Benchmarks × tests.Benchmarks × (jobOf [] ≡ refused 10 0)
-unfolding jobOf run command readingPlaces passing
+pub benchmarks : operations.Benchmarks × tests.Benchmarks × (jobOutcome [] ≡ refused 10 0)
+unfolding jobOutcome run command readingPlaces passing
 benchmarks = (operations.benchmarks, tests.benchmarks, refl)

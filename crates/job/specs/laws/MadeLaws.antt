@@ -13,9 +13,9 @@ use Rattle.model.specs.definitions.Models.{zeroModel}
 use Rattle.model.specs.definitions.Outcomes.{accepted, outcome}
 use Rattle.certificate.specs.definitions.Tests.{Certificate, zeroCertificate}
 use Rattle.model.specs.declared.types.Model.{Model}
-use Rattle.job.specs.definitions.Makers.{Maker, Given, Row, of-none, of-one, of-two, rowOf, badIn, resultAt, givenIn, namesBad, makerPlaces, operation}
+use Rattle.job.specs.definitions.Makers.{Maker, Given, Row, of-none, of-one, of-two, rowFor, badIn, resultAt, givenIn, namesBad, makerPlaces, operation}
 use Rattle.job.specs.definitions.Commands.{Command, edition, result, finish, unknown}
-use Rattle.job.specs.definitions.JobReading.{commandOf}
+use Rattle.job.specs.definitions.JobReading.{commandFor}
 use Rattle.job.specs.definitions.Requirement.{Made, nothing, one-more}
 use Rattle.job.specs.laws.CommandLaws.{both-below}
 
@@ -43,9 +43,9 @@ MadeBy unknown before i r = ⊥
 -- a result and its command added at the end
 module _ (cs : List Command) (rs : List Model) (c : Command) (x : Model) (n : length cs ≡ length rs) (i : ℕ) where
   abbrev Added : Type 0
-  Added = MadeBy (commandOf (cs ++ (c ∷ [])) i) (take i (rs ++ (x ∷ []))) i (resultAt (rs ++ (x ∷ [])) i)
+  Added = MadeBy (commandFor (cs ++ (c ∷ [])) i) (take i (rs ++ (x ∷ []))) i (resultAt (rs ++ (x ∷ [])) i)
 
-  earlier : i < length rs → MadeBy (commandOf cs i) (take i rs) i (resultAt rs i) → Added
+  earlier : i < length rs → MadeBy (commandFor cs i) (take i rs) i (resultAt rs i) → Added
   earlier h b =
       rw
       (List·getD-append cs (c ∷ []) finish i (omega arith), List·getD-append rs (x ∷ []) zeroModel i h, take-append-le i rs (x ∷ []) (omega arith))
@@ -55,15 +55,15 @@ module _ (cs : List Command) (rs : List Model) (c : Command) (x : Model) (n : le
   last e b = rw (getD-at cs c [] finish i (omega arith), getD-at rs x [] zeroModel i (sym e), take-at rs (x ∷ []) i (sym e), e) b
 
 pub made-at : {cs : List Command} {rs : List Model} → Made cs rs → (i : ℕ) → i < length rs
-    → MadeBy (commandOf cs i) (take i rs) i (resultAt rs i)
+    → MadeBy (commandFor cs i) (take i rs) i (resultAt rs i)
 made-at nothing i lt = absurd (omega arith)
 made-at (one-more {cs} {rs} {c} d m h₁ h₂) i lt = by (ltb i (length rs)) refl (λ h. made-at d i h)
   where
     x : Model
     x = c .model
 
-    by : (t : Bool) → ltb i (length rs) ≡ t → (i < length rs → MadeBy (commandOf cs i) (take i rs) i (resultAt rs i))
-        → MadeBy (commandOf (cs ++ (result m ∷ [])) i) (take i (rs ++ (x ∷ []))) i (resultAt (rs ++ (x ∷ [])) i)
+    by : (t : Bool) → ltb i (length rs) ≡ t → (i < length rs → MadeBy (commandFor cs i) (take i rs) i (resultAt rs i))
+        → MadeBy (commandFor (cs ++ (result m ∷ [])) i) (take i (rs ++ (x ∷ []))) i (resultAt (rs ++ (x ∷ [])) i)
     by true e b = let h = ltb-true i (length rs) e in earlier cs rs (result m) x (made-length d) i h (b h)
     by false e b =
         last cs rs (result m) x (made-length d) i (omega (arith, ltb-false i (length rs) e, length-append rs (x ∷ [])))
@@ -82,7 +82,7 @@ module _ (i : ℕ) (rs : List Model) where
 
   operation-named : (m : Maker) → namesBad m i ≡ false → operation m (take i rs) ≡ operation m rs
   unfolding operation makerPlaces
-  operation-named m h = ap (λ (g : Given). outcome (g .places) (g .certificate) zeroCertificate) (row-named (rowOf m) h)
+  operation-named m h = ap (λ (g : Given). outcome (g .places) (g .certificate) zeroCertificate) (row-named (rowFor m) h)
 
   from-all : (c : Command) (r : Model) → MadeBy c (take i rs) i r → MadeBy c rs i r
   from-all edition r b = b
@@ -93,33 +93,33 @@ module _ (i : ℕ) (rs : List Model) where
 
 -- so result i is what its command gives for all the results
 pub made-from-all : {cs : List Command} {rs : List Model} → Made cs rs → (i : ℕ) → i < length rs
-    → MadeBy (commandOf cs i) rs i (resultAt rs i)
-made-from-all {cs} {rs} d i h = from-all i rs (commandOf cs i) (resultAt rs i) (made-at d i h)
+    → MadeBy (commandFor cs i) rs i (resultAt rs i)
+made-from-all {cs} {rs} d i h = from-all i rs (commandFor cs i) (resultAt rs i) (made-at d i h)
 
 -- ---- by the maker of a result
 
 -- a command that makes a result is among those of the list
-command-listed : (cs : List Command) (i : ℕ) (m : Maker) → commandOf cs i ≡ result m → i < length cs
+command-listed : (cs : List Command) (i : ℕ) (m : Maker) → commandFor cs i ≡ result m → i < length cs
 command-listed cs i m e = pick (decLt i (length cs))
   where
     pick : Dec (i < length cs) → i < length cs
     pick (yes h) = h
     pick (no h) =
-        let d : commandOf cs i ≡ finish = List·getD-eq-default cs finish (omega arith) in
+        let d : commandFor cs i ≡ finish = List·getD-eq-default cs finish (omega arith) in
         let z : _≡_ {A = ℕ} 0 1 = cc in
         absurd (omega arith)
 
-pub made-maker : {cs : List Command} {rs : List Model} → Made cs rs → (i : ℕ) (m : Maker) → commandOf cs i ≡ result m
+pub made-maker : {cs : List Command} {rs : List Model} → Made cs rs → (i : ℕ) (m : Maker) → commandFor cs i ≡ result m
     → MadeFrom m rs i (resultAt rs i)
 made-maker {cs} {rs} d i m e =
     subst (λ (c : Command). MadeBy c rs i (resultAt rs i)) e
     (made-from-all d i (omega (arith, made-length d, command-listed cs i m e)))
 
 -- each of the results has its maker
-pub made-by-maker : {cs : List Command} {rs : List Model} → Made cs rs → (i : ℕ) → i < length rs → (m : Maker) × (commandOf cs i ≡ result m)
-made-by-maker {cs} {rs} d i h = by (commandOf cs i) refl (made-from-all d i h)
+pub made-by-maker : {cs : List Command} {rs : List Model} → Made cs rs → (i : ℕ) → i < length rs → (m : Maker) × (commandFor cs i ≡ result m)
+made-by-maker {cs} {rs} d i h = by (commandFor cs i) refl (made-from-all d i h)
   where
-    by : (c : Command) → commandOf cs i ≡ c → MadeBy c rs i (resultAt rs i) → (m : Maker) × (commandOf cs i ≡ result m)
+    by : (c : Command) → commandFor cs i ≡ c → MadeBy c rs i (resultAt rs i) → (m : Maker) × (commandFor cs i ≡ result m)
     by edition e b = absurd b
     by (result m) e b = (m, e)
     by finish e b = absurd b

@@ -11,7 +11,7 @@ use Rattle.certificate.specs.definitions.Tests.{Certificate}
 use Rattle.model.specs.declared.types.Model.{Model}
 use Rattle.job.specs.definitions.Makers.{resultAt}
 use Rattle.job.specs.definitions.Commands.{Command, edition, result, finish, unknown}
-use Rattle.job.specs.definitions.JobReading.{commandOf}
+use Rattle.job.specs.definitions.JobReading.{commandFor}
 use Rattle.job.specs.definitions.Requirement.{Made}
 use Rattle.job.specs.laws.MadeLaws.{MadeBy, made-at, made-length}
 
@@ -24,13 +24,13 @@ made-same unknown before i b b′ = absurd b
 
 module _ {cs cs′ : List Command} {rs rs′ : List Model} (d : Made cs rs) (d′ : Made cs′ rs′) where
   -- the same commands at first, the same results
-  pub same-first : (n : ℕ) → n ≤ length rs → n ≤ length rs′ → ((i : ℕ) → i < n → commandOf cs i ≡ commandOf cs′ i) → take n rs ≡ take n rs′
+  pub same-first : (n : ℕ) → n ≤ length rs → n ≤ length rs′ → ((i : ℕ) → i < n → commandFor cs i ≡ commandFor cs′ i) → take n rs ≡ take n rs′
   same-first zero h h′ c = refl
   same-first (suc i) h h′ c =
       let t = same-first i (omega arith) (omega arith) (λ j l. c j (omega arith)) in
-      let b : MadeBy (commandOf cs′ i) (take i rs′) i (resultAt rs i) = rw (t, c i (omega arith)) at (made-at d i (omega arith)) in
+      let b : MadeBy (commandFor cs′ i) (take i rs′) i (resultAt rs i) = rw (t, c i (omega arith)) at (made-at d i (omega arith)) in
       take-suc rs i zeroModel (omega arith)
-      ∙ ap₂ (λ (l : List Model) (m : Model). l ++ (m ∷ [])) t (made-same (commandOf cs′ i) (take i rs′) i b (made-at d′ i (omega arith)))
+      ∙ ap₂ (λ (l : List Model) (m : Model). l ++ (m ∷ [])) t (made-same (commandFor cs′ i) (take i rs′) i b (made-at d′ i (omega arith)))
       ∙ sym (take-suc rs′ i zeroModel (omega arith))
 
 pub made-unique : {cs : List Command} {rs rs′ : List Model} → Made cs rs → Made cs rs′ → rs ≡ rs′

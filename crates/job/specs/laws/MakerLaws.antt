@@ -7,7 +7,7 @@ use Rattle.model.specs.definitions.Models.{zeroModel}
 use Rattle.model.specs.definitions.Outcomes.{Outcome, accepted, refused, values, passing, outcome}
 use Rattle.model.specs.laws.PlaceLaws.{refused-not-accepted, outcome-accepted}
 use Rattle.model.specs.definitions.Operations.{loadingPlaces, loading, addition, subtraction, multiplication}
-use Rattle.certificate.specs.definitions.Tests.{scratchSize, Certificate, zeroCertificate, quotientOf, RootRule, rootOf}
+use Rattle.certificate.specs.definitions.Tests.{scratchSize, Certificate, zeroCertificate, quotientOutcome, RootRule, rootOutcome}
 use Rattle.model.specs.declared.types.Model.{Model}
 use Rattle.job.specs.definitions.InnerContracts.{untestedOutcome}
 use Rattle.job.specs.definitions.Makers.{load, add, subtract, multiply, quotient, root, untested, resultAt, makerPlaces, operation}
@@ -50,11 +50,11 @@ unfolding operation makerPlaces multiplication
 multiply-operation i j d rs = untested-passing _ _
 
 pub quotient-operation : (i j : ℕ) (h w : Model) (rs : List Model)
-    → operation (quotient i j h w) rs ≡ quotientOf scratchSize (resultAt rs i) (resultAt rs j) h w
-unfolding operation makerPlaces quotientOf
+    → operation (quotient i j h w) rs ≡ quotientOutcome scratchSize (resultAt rs i) (resultAt rs j) h w
+unfolding operation makerPlaces quotientOutcome
 quotient-operation i j h w rs = refl
 
 pub root-operation : (rule : RootRule) (i : ℕ) (h w : Model) (rs : List Model)
-    → operation (root rule i h w) rs ≡ rootOf rule scratchSize (resultAt rs i) h w
-unfolding operation makerPlaces rootOf
+    → operation (root rule i h w) rs ≡ rootOutcome rule scratchSize (resultAt rs i) h w
+unfolding operation makerPlaces rootOutcome
 root-operation rule i h w rs = refl

@@ -13,9 +13,9 @@ use Rattle.model.specs.laws.PlaceLaws.{passing-passed, passing-unrefused, refus
 use Rattle.model.specs.declared.types.Model.{Model}
 use Rattle.job.specs.definitions.Makers.{Maker, makerPlaces, operation, resultAt}
 use Rattle.job.specs.definitions.Commands.{Command, edition, result, finish, unknown, commandRead, nextAt, readingPlaces}
-use Rattle.job.specs.definitions.JobReading.{JobReading, well, ill, readOn, readFrom, jobReading, commandOf}
+use Rattle.job.specs.definitions.JobReading.{JobReading, well, ill, readOn, readFrom, jobReading, commandFor}
 use Rattle.job.specs.definitions.Outcomes.{JobOutcome, accepted}
-use Rattle.job.specs.definitions.Order.{operationPlaces, placesOf, RefusesAt}
+use Rattle.job.specs.definitions.Order.{operationPlaces, commandPlaces, RefusesAt}
 use Rattle.job.specs.laws.CommandLaws.{operation-refuses, nowhere}
 use Rattle.job.specs.definitions.Requirement.{Made, Requirement3}
 use Rattle.job.specs.laws.MadeLaws.{made-length, made-at, MadeBy}
@@ -62,10 +62,10 @@ module _ {cs : List Command} {rs : List Model} (made : Made cs rs) where
       let l : length cs ≡ length rs = made-length made in
       let e : cs ≡ cs₀ ++ (result m ∷ b .0) = b .1 ∙ append-assoc cs₀ (result m ∷ []) (b .0) in
       let n₁ : length cs ≡ length cs₀ + suc (length (b .0)) = ap length e ∙ length-append cs₀ (result m ∷ b .0) in
-      let here : commandOf cs i ≡ result m = ap (λ (z : List Command). commandOf z i) e ∙ getD-at cs₀ (result m) (b .0) finish i l₀ in
+      let here : commandFor cs i ≡ result m = ap (λ (z : List Command). commandFor z i) e ∙ getD-at cs₀ (result m) (b .0) finish i l₀ in
       let same : take i rs ≡ rs₀ =
       same-first made made₀ i (omega arith) (omega arith)
-      (λ j h. ap (λ (z : List Command). commandOf z j) e ∙ List·getD-append cs₀ (result m ∷ b .0) finish j (omega arith))
+      (λ j h. ap (λ (z : List Command). commandFor z j) e ∙ List·getD-append cs₀ (result m ∷ b .0) finish j (omega arith))
       ∙ take-length rs₀ in
       let t : MadeBy (result m) (take i rs) i (resultAt rs i) = rw here at (made-at made i (omega arith)) in
       let z : operation m rs₀ ≡ Outcome.accepted (t .certificate) = ap (operation m) (sym same) ∙ t .succeeds in
@@ -79,7 +79,7 @@ module _ {cs : List Command} {rs : List Model} (made : Made cs rs) where
   by-operation k next cs₀ {rs₀} n unknown d e r f = nowhere rs₀ 0 n f
 
   refuses-nowhere : (job : List ℕ) → jobReading job ≡ well cs → (n k : ℕ) → ¬ RefusesAt job n k
-  unfolding placesOf
+  unfolding commandPlaces
   refuses-nowhere job read n k m =
       by (first-parts (readingPlaces job k (length (m .0)) (m .1)) (operationPlaces (commandRead job k (length (m .0)) (m .1)) (m .0)) (m .3))
     where

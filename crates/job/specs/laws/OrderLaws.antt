@@ -15,8 +15,8 @@ use Rattle.model.specs.declared.types.Model.{Model}
 use Rattle.job.specs.definitions.Makers.{operation}
 use Rattle.job.specs.definitions.Commands.{makerAt, commandAt, shapeAt, commandRead, nextAt, maxResults, makesResult}
 use Rattle.job.specs.definitions.Outcomes.{JobOutcome, accepted, refused}
-use Rattle.job.specs.definitions.Jobs.{Step, more, over, command, onward, run, jobOf}
-use Rattle.job.specs.definitions.Order.{resultsAfter, placesOf, isLast, Reaches, start, next, RefusesAt, EndsWith}
+use Rattle.job.specs.definitions.Jobs.{Step, more, over, command, onward, run, jobOutcome}
+use Rattle.job.specs.definitions.Order.{resultsAfter, commandPlaces, isLast, Reaches, start, next, RefusesAt, EndsWith}
 use Rattle.job.specs.laws.CommandLaws.{command-readable, command-refuses, command-ends, command-goes-on}
 use Rattle.job.specs.declared.types.Kind.{Kind}
 use Rattle.job.specs.declared.types.Kind.the-variants.{End, Edition, Result, Unknown}
@@ -55,8 +55,8 @@ unfolding run
 run-suc f job k rs at = refl
 
 module _ {job : List ℕ} {k : ℕ} {rs : List Model} {at : ℕ} (r : Reaches job k rs at)
-    (left : run (length job + 1 - k) job k rs at ≡ jobOf job) where
-  by-command : (s : Step (List Model)) → command job k rs at ≡ s → jobOf job ≡ onward (run (length job + 1 - (k + 1)) job) k rs s
+    (left : run (length job + 1 - k) job k rs at ≡ jobOutcome job) where
+  by-command : (s : Step (List Model)) → command job k rs at ≡ s → jobOutcome job ≡ onward (run (length job + 1 - (k + 1)) job) k rs s
   by-command s e =
       let b = reaches-bounds r in
       let f : length job + 1 - k ≡ suc (length job + 1 - (k + 1)) = omega (arith, b) in
@@ -64,25 +64,25 @@ module _ {job : List ℕ} {k : ℕ} {rs : List Model} {at : ℕ} (r : Reaches jo
       ∙ ap (onward (run (length job + 1 - (k + 1)) job) k rs) e
 
 reaches-left : {job : List ℕ} {k : ℕ} {rs : List Model} {at : ℕ} → Reaches job k rs at
-    → run (length job + 1 - k) job k rs at ≡ jobOf job
-unfolding jobOf
+    → run (length job + 1 - k) job k rs at ≡ jobOutcome job
+unfolding jobOutcome
 reaches-left {job} start = ap (λ (f : ℕ). run f job 0 [] 0) (omega arith)
 reaches-left {job} (next {k} {rs} {at} r f e) =
     sym (by-command r (reaches-left r) (more _ _) (command-goes-on job k rs at f e))
 
 -- what the whole job gives, by what the command does there
 module _ {job : List ℕ} {k : ℕ} {rs : List Model} {at : ℕ} (r : Reaches job k rs at) where
-  pub stops-there : {n : ℕ} → command job k rs at ≡ Step.refused n → jobOf job ≡ refused n k
+  pub stops-there : {n : ℕ} → command job k rs at ≡ Step.refused n → jobOutcome job ≡ refused n k
   stops-there {n} e = by-command r (reaches-left r) (Step.refused n) e
 
-  pub ends-there : command job k rs at ≡ over → jobOf job ≡ accepted rs
+  pub ends-there : command job k rs at ≡ over → jobOutcome job ≡ accepted rs
   ends-there e = by-command r (reaches-left r) over e
 
   -- a command that is done moves on within the job, to a command that is reached
   pub moves-on : {rs′ : List Model} {at′ : ℕ} → command job k rs at ≡ more rs′ at′ → (at < at′) × Reaches job (k + 1) rs′ at′
-  moves-on {rs′} {at′} h = by (first-or-passed (placesOf job k rs at)) (isLast job k rs at) refl
+  moves-on {rs′} {at′} h = by (first-or-passed (commandPlaces job k rs at)) (isLast job k rs at) refl
     where
-      by : ((n : ℕ) × First (placesOf job k rs at) n) ⊎ Passed (placesOf job k rs at)
+      by : ((n : ℕ) × First (commandPlaces job k rs at) n) ⊎ Passed (commandPlaces job k rs at)
           → (t : Bool) → isLast job k rs at ≡ t → (at < at′) × Reaches job (k + 1) rs′ at′
       by (inl g) t e = let z : _≡_ {A = ℕ} 0 1 = cc (h, command-refuses job k rs at (g .1)) in absurd (omega arith)
       by (inr g) true e = let z : _≡_ {A = ℕ} 0 1 = cc (h, command-ends job k rs at g e) in absurd (omega arith)
@@ -100,37 +100,37 @@ module _ (job : List ℕ) where
   Meant (accepted rs) = EndsWith job rs
 
   -- from command k on, with enough commands left
-  meant : (f k : ℕ) (rs : List Model) (at : ℕ) → Reaches job k rs at → f + k ≡ length job + 1 → Meant (jobOf job)
+  meant : (f k : ℕ) (rs : List Model) (at : ℕ) → Reaches job k rs at → f + k ≡ length job + 1 → Meant (jobOutcome job)
   meant zero k rs at r h = let b = reaches-bounds r in absurd (omega (arith, b))
   meant (suc f) k rs at r h =
-      by (λ rs′ at′ r′. meant f (k + 1) rs′ at′ r′ (omega arith)) (first-or-passed (placesOf job k rs at)) (isLast job k rs at)
+      by (λ rs′ at′ r′. meant f (k + 1) rs′ at′ r′ (omega arith)) (first-or-passed (commandPlaces job k rs at)) (isLast job k rs at)
       refl
     where
-      by : ((rs′ : List Model) (at′ : ℕ) → Reaches job (k + 1) rs′ at′ → Meant (jobOf job))
-          → ((n : ℕ) × First (placesOf job k rs at) n) ⊎ Passed (placesOf job k rs at)
-          → (t : Bool) → isLast job k rs at ≡ t → Meant (jobOf job)
+      by : ((rs′ : List Model) (at′ : ℕ) → Reaches job (k + 1) rs′ at′ → Meant (jobOutcome job))
+          → ((n : ℕ) × First (commandPlaces job k rs at) n) ⊎ Passed (commandPlaces job k rs at)
+          → (t : Bool) → isLast job k rs at ≡ t → Meant (jobOutcome job)
       by on (inl g) t e = subst Meant (sym (stops-there r (command-refuses job k rs at (g .1)))) (rs, at, r, g .1)
       by on (inr g) true e = subst Meant (sym (ends-there r (command-ends job k rs at g e))) (k, at, r, g, e)
       by on (inr g) false e = on _ _ (next r g e)
 
-  whole : Meant (jobOf job)
+  whole : Meant (jobOutcome job)
   whole = meant (length job + 1) 0 [] 0 start (omega arith)
 
-  refuses : {n k : ℕ} → RefusesAt job n k → jobOf job ≡ refused n k
+  refuses : {n k : ℕ} → RefusesAt job n k → jobOutcome job ≡ refused n k
   refuses {n} {k} m = stops-there (m .2) (command-refuses job k (m .0) (m .1) (m .3))
 
   -- "refused with (n, k) exactly if that is the first place, in 01's order, whose stated condition holds"
-  pub refused-exactly : (n k : ℕ) → (jobOf job ≡ refused n k) ↔ RefusesAt job n k
+  pub refused-exactly : (n k : ℕ) → (jobOutcome job ≡ refused n k) ↔ RefusesAt job n k
   refused-exactly n k = (λ e. subst Meant e whole, λ m. refuses m)
 
-  pub accepted-exactly : (rs : List Model) → (jobOf job ≡ accepted rs) ↔ EndsWith job rs
+  pub accepted-exactly : (rs : List Model) → (jobOutcome job ≡ accepted rs) ↔ EndsWith job rs
   accepted-exactly rs = (λ e. subst Meant e whole, λ m. ends-there (m .2) (command-ends job (m .0) rs (m .1) (m .3) (m .4)))
 
   -- "A job that meets no numbered refusal is accepted"
-  pub accepted-unless-refused : ((rs : List Model) × (jobOf job ≡ accepted rs)) ↔ ((n k : ℕ) → RefusesAt job n k → ⊥)
-  accepted-unless-refused = (λ a n k m. let z : _≡_ {A = ℕ} 0 1 = cc (a .1, refuses m) in omega arith, by (jobOf job) refl)
+  pub accepted-unless-refused : ((rs : List Model) × (jobOutcome job ≡ accepted rs)) ↔ ((n k : ℕ) → RefusesAt job n k → ⊥)
+  accepted-unless-refused = (λ a n k m. let z : _≡_ {A = ℕ} 0 1 = cc (a .1, refuses m) in omega arith, by (jobOutcome job) refl)
     where
-      by : (o : JobOutcome (List Model)) → jobOf job ≡ o → ((n k : ℕ) → RefusesAt job n k → ⊥)
-          → (rs : List Model) × (jobOf job ≡ accepted rs)
+      by : (o : JobOutcome (List Model)) → jobOutcome job ≡ o → ((n k : ℕ) → RefusesAt job n k → ⊥)
+          → (rs : List Model) × (jobOutcome job ≡ accepted rs)
       by (accepted rs) e h = (rs, e)
       by (refused n k) e h = absurd (h n k (refused-exactly n k .0 e))

@@ -14,7 +14,7 @@ use Rattle.job.specs.definitions.Bytes.{signedsAt}
 use Rattle.job.specs.definitions.Makers.{makerPlaces, operation}
 use Rattle.job.specs.definitions.Commands.{makerAt, readingPlaces}
 use Rattle.job.specs.definitions.Outcomes.{JobOutcome, accepted, refused, counted}
-use Rattle.job.specs.definitions.Jobs.{command, run, jobOf}
+use Rattle.job.specs.definitions.Jobs.{command, run, jobOutcome}
 use Rattle.job.specs.laws.ExampleBytes.{block, job, loading, one, lowest, repeated}
 
 -- ---- refusals of reading, 9 to 13
@@ -45,8 +45,8 @@ readings =
     ∷ (job (0x00 ∷ []), refused 11 1)
     ∷ []
 
-pub readings-are : map (λ c. counted (jobOf (c .0))) readings ≡ map (λ c. c .1) readings
-unfolding jobOf run command readingPlaces makerAt passing
+pub readings-are : map (λ c. counted (jobOutcome (c .0))) readings ≡ map (λ c. c .1) readings
+unfolding jobOutcome run command readingPlaces makerAt passing
 readings-are = refl
 
 -- ---- refusals of models and tests, 2 to 8
@@ -73,6 +73,6 @@ operations =
     ∷ (job (loading 0 [] 0 ++ repeated 32 (0x12 ∷ 0 ∷ 0 ∷ [])), refused 13 33)
     ∷ []
 
-pub operations-are : map (λ c. counted (jobOf (c .0))) operations ≡ map (λ c. c .1) operations
-unfolding jobOf run command operation makerPlaces readingPlaces makerAt signedsAt rootPlaces quotientContraction quotientResidual quotientModel rootContraction rootResidual rootModel displacement coefficientSum sumModel differenceModel productModel productList productLoss rounded roundingLoss good tooLarge zeroModel weight addLists subtractLists scaleList addAt addPair addRow addRows product upℕ near floor passing
+pub operations-are : map (λ c. counted (jobOutcome (c .0))) operations ≡ map (λ c. c .1) operations
+unfolding jobOutcome run command operation makerPlaces readingPlaces makerAt signedsAt rootPlaces quotientContraction quotientResidual quotientModel rootContraction rootResidual rootModel displacement coefficientSum sumModel differenceModel productModel productList productLoss rounded roundingLoss good tooLarge zeroModel weight addLists subtractLists scaleList addAt addPair addRow addRows product upℕ near floor passing
 operations-are = refl

@@ -18,8 +18,8 @@ use Rattle.job.specs.definitions.Bytes.{signedsAt}
 use Rattle.job.specs.definitions.Makers.{makerPlaces, operation}
 use Rattle.job.specs.definitions.Commands.{makerAt, readingPlaces}
 use Rattle.job.specs.definitions.Outcomes.{JobOutcome, accepted, refused}
-use Rattle.job.specs.definitions.Jobs.{command, run, jobOf}
-use Rattle.job.specs.definitions.Work.{checkOf, workOf, stretches, workAfter, scratchAfterJob}
+use Rattle.job.specs.definitions.Jobs.{command, run, jobOutcome}
+use Rattle.job.specs.definitions.Work.{checkOutcome, workWith, stretches, workAfter, scratchAfterJob}
 use Rattle.job.specs.laws.ExampleBytes.{block, modelBy, job, loading, one, two}
 
 -- 01: "A job of edition 1, load of constant 4·S with radius 0, root with h = 2·S and w = S/4, end"
@@ -64,8 +64,8 @@ operands =
     ∷ (rootOfFour, accepted (fourModel ∷ twoModel ∷ []))
     ∷ []
 
-pub operands-are : map (λ c. jobOf (c .0)) operands ≡ map (λ c. c .1) operands
-unfolding jobOf run command operation makerPlaces readingPlaces makerAt signedsAt rootPlaces quotientContraction quotientResidual quotientModel rootContraction rootResidual rootModel displacement coefficientSum sumModel differenceModel productModel productList productLoss rounded roundingLoss good tooLarge zeroModel weight addLists subtractLists scaleList addAt addPair addRow addRows product upℕ near floor passing
+pub operands-are : map (λ c. jobOutcome (c .0)) operands ≡ map (λ c. c .1) operands
+unfolding jobOutcome run command operation makerPlaces readingPlaces makerAt signedsAt rootPlaces quotientContraction quotientResidual quotientModel rootContraction rootResidual rootModel displacement coefficientSum sumModel differenceModel productModel productList productLoss rounded roundingLoss good tooLarge zeroModel weight addLists subtractLists scaleList addAt addPair addRow addRows product upℕ near floor passing
 operands-are = refl
 
 -- ---- areas
@@ -75,18 +75,18 @@ abbrev sevens : ℕ → List ℤ
 sevens n = replicate n (pos 7)
 
 -- an area too short: 1, with command 0, whatever the job
-pub short-areas : (checkOf [] (sevens 1119) (sevens 65) ≡ refused 1 0) × (checkOf [] (sevens 1120) (sevens 64) ≡ refused 1 0)
-unfolding checkOf
+pub short-areas : (checkOutcome [] (sevens 1119) (sevens 65) ≡ refused 1 0) × (checkOutcome [] (sevens 1120) (sevens 64) ≡ refused 1 0)
+unfolding checkOutcome
 short-areas = (refl, refl)
 
 -- its results, and its work area, one number longer than asked: degree, 33 coefficients and radius of both results, zeros, and the
 -- number behind; the scratch, one number longer
-root-run : jobOf rootOfFour ≡ accepted (fourModel ∷ twoModel ∷ [])
+root-run : jobOutcome rootOfFour ≡ accepted (fourModel ∷ twoModel ∷ [])
 root-run = ap (λ l. getD l 4 (accepted [])) operands-are
 
 pub root-work : workAfter rootOfFour (sevens 1121) (sevens 65)
     ≡ (pos 0 ∷ pos 4194304 ∷ replicate 33 (pos 0)) ++ ((pos 0 ∷ pos 2097152 ∷ replicate 33 (pos 0)) ++ (replicate 1050 (pos 0) ++ (pos 7 ∷ [])))
-unfolding workAfter workOf stretches zeros
+unfolding workAfter workWith stretches zeros
 root-work = rw root-run
 
 pub root-scratch : scratchAfterJob (sevens 1121) (sevens 66) ≡ replicate 65 (pos 0) ++ (pos 7 ∷ [])

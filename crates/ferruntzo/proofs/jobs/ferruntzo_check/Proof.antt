@@ -10,7 +10,7 @@ use denote.Ref.{now}
 use Rattle.job.specs.laws.AnswerBounds.{answer-small}
 use Rattle.job.specs.definitions.Commands.{maxResults}
 use Rattle.job.specs.definitions.Outcomes.{jobOutcomeOf, counted, refusedCommand, resultCount}
-use Rattle.job.specs.definitions.Work.{areaPlaces, checkOf}
+use Rattle.job.specs.definitions.Work.{areaPlaces, checkOutcome}
 use Rattle.job.specs.definitions.Requirement.{Requirement3}
 use Rattle.job.specs.declared.types.JobOutcome.{JobOutcome as CodeOutcome}
 use Rattle.job.specs.declared.types.JobOutcome.the-variants.{Accepted, Refused}
@@ -21,7 +21,7 @@ use Rattle.ferruntzo.proofs.jobs.ferruntzo_check.Tie as tie
 -- what the check of the job answers, case by case
 module _ (c : tie.After-check) (r : CodeOutcome) (e : c .check .result ≡ r) where
   same : let g = c .before .before .before .before .before .before .args in
-      jobOutcomeOf r ≡ counted (checkOf (now (g .job)) (now (g .work)) (now (g .scratch)))
+      jobOutcomeOf r ≡ counted (checkOutcome (now (g .job)) (now (g .work)) (now (g .scratch)))
   same = rw e at (c .check .ensures .0)
 
   claim : let g = c .before .before .before .before .before .before .args in

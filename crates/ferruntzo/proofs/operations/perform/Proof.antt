@@ -8,14 +8,14 @@ use Rattle.model.specs.definitions.Outcomes.{Outcome, values}
 use Rattle.model.specs.definitions.Areas.{modelSize, Storable}
 use Rattle.model.specs.laws.ResultLaws.{addition-storable, subtraction-storable, multiplication-storable}
 use Rattle.model.specs.declared.types.Model.{Model}
-use Rattle.ferruntzo.specs.definitions.Answers.{operationOf, outcomeIn}
+use Rattle.ferruntzo.specs.definitions.Answers.{operationFor, outcomeIn}
 use Rattle.ferruntzo.specs.declared.operations.Operation.{Operation}
 use Rattle.ferruntzo.specs.declared.operations.Operation.the-variants.{Add, Subtract, Multiply}
 use Rattle.ferruntzo.proofs.Answering.{three-fit, outcome-storable}
 use Rattle.ferruntzo.proofs.operations.perform.Statement.{statement}
 use Rattle.ferruntzo.proofs.operations.perform.Tie as tie
 
-operation-storable : (o : Operation) (a b : Model) → Storable (values (operationOf o a b))
+operation-storable : (o : Operation) (a b : Model) → Storable (values (operationFor o a b))
 operation-storable Add a b = addition-storable a b
 operation-storable Subtract a b = subtraction-storable a b
 operation-storable (Multiply kept) a b = multiplication-storable kept a b
@@ -37,7 +37,7 @@ returns c =
     rw (d .if1 .taken)
     (c .before .answer-operation .ensures
     ∙ ap (λ (x : Outcome Model). outcomeIn x (now (g .out)))
-    (o .operate .ensures ∙ ap₂ (operationOf (g .operation)) (o .before .before .model-in .ensures) (o .before .model-in2 .ensures)))
+    (o .operate .ensures ∙ ap₂ (operationFor (g .operation)) (o .before .before .model-in .ensures) (o .before .model-in2 .ensures)))
 
 returns-2 : tie.Need-returns-2
 returns-2 c = rw (c .before .before .before .if1 .left) (c .before .refuse-operation .ensures)

@@ -4,7 +4,7 @@ use Prim.Native.Nat.{_+_}
 use native.Mathlib.Omega.{arith}
 use lib.ListN.{length}
 use denote.Ref.{now}
-use Rattle.certificate.specs.definitions.Tests.{scratchSize, quotientOf}
+use Rattle.certificate.specs.definitions.Tests.{scratchSize, quotientOutcome}
 use Rattle.certificate.specs.laws.Stages.{quotient-room}
 use Rattle.certificate.specs.laws.TestFits.{quotient-storable}
 use Rattle.job.specs.definitions.Bytes.{byteAt, blockAt}
@@ -35,11 +35,11 @@ returns c =
     let w = blockAt job (at + 136) 0 in (
       performs
           (q .quotient .ensures .0
-          ∙ ap₂ (quotientOf len f g) (d .before .read-candidate .ensures) (d .read-candidate2 .ensures)
+          ∙ ap₂ (quotientOutcome len f g) (d .before .read-candidate .ensures) (d .read-candidate2 .ensures)
           ∙ quotient-room len f g h w (s .pre .1 .long))
           (quotient-storable scratchSize f g h w)
           (λ count rs t z n.
-          held-two z (λ f g. quotientOf scratchSize f g h w) f g (byteAt job (at + 1)) (byteAt job (at + 2))
+          held-two z (λ f g. quotientOutcome scratchSize f g h w) f g (byteAt job (at + 1)) (byteAt job (at + 2))
           (o .read-operands .ensures .0) (o .read-operands .ensures .1) n
           ∙ sym (quotient-operation _ _ h w rs)),
       q .quotient .ensures .1 ∙ s .pre .1 .clear,

@@ -5,7 +5,7 @@ use native.Mathlib.Omega.{arith}
 use borrow.Author.Tests.{leb-false}
 use lib.ListN.{length}
 use denote.Ref.{now}
-use Rattle.certificate.specs.definitions.Tests.{scratchSize, byDiscriminant, rootOf}
+use Rattle.certificate.specs.definitions.Tests.{scratchSize, byDiscriminant, rootOutcome}
 use Rattle.certificate.specs.laws.Stages.{root-room}
 use Rattle.certificate.specs.laws.TestFits.{root-storable}
 use Rattle.job.specs.definitions.Bytes.{byteAt, blockAt}
@@ -38,11 +38,11 @@ returns c =
     let w = blockAt job (at + 135) 0 in (
       performs
           (q .root .ensures .0
-          ∙ ap₂ (rootOf byDiscriminant len f) (d .before .read-candidate .ensures) (d .read-candidate2 .ensures)
+          ∙ ap₂ (rootOutcome byDiscriminant len f) (d .before .read-candidate .ensures) (d .read-candidate2 .ensures)
           ∙ root-room len f h w (s .pre .1 .long))
           (root-storable scratchSize f h w)
           (λ count rs t z n.
-          held-one z (λ f. rootOf byDiscriminant scratchSize f h w) f (byteAt job (at + 1)) (e .named .ensures) n
+          held-one z (λ f. rootOutcome byDiscriminant scratchSize f h w) f (byteAt job (at + 1)) (e .named .ensures) n
           ∙ sym (root-operation byDiscriminant _ h w rs)),
       q .root .ensures .1 ∙ s .pre .1 .clear,
     )
