@@ -22,7 +22,7 @@ use Rattle.job.specs.definitions.Makers.{Maker, untested, resultAt, name
 use Rattle.job.specs.laws.CommandLaws.{both-below}
 use Rattle.job.specs.definitions.Work.{stretch}
 use Rattle.job.specs.definitions.Commands.{makerAt}
-use Rattle.job.specs.definitions.InnerContracts.{Holds, untestedOutcome, Performs, Operable, Clear}
+use Rattle.job.specs.definitions.InnerContracts.{Holds, untestedOutcome, Performs, Operable}
 use Rattle.job.specs.declared.types.Operation.{Operation}
 use Rattle.job.proofs.Results.{result-held}
 

@@ -1,15 +1,15 @@
 // The operations of the commands that make a result, on the results and blocks that they name.
 ghost use mathlib.Core.Path.{_≡_};
 ghost use mathlib.Core.List.{List};
-ghost use Prim.Native.Nat.{_+_, _≤_, _<_};
+ghost use Prim.Native.Nat.{_+_, _≤_};
 ghost use lib.IntN.{ℤ};
 ghost use lib.ListN.{length};
 ghost use Rattle.model.specs.definitions.Outcomes.{outcomeOf};
 ghost use Rattle.certificate.specs.definitions.Tests.{testOf};
 ghost use Rattle.job.specs.definitions.Bytes.{byteAt};
-ghost use Rattle.job.specs.definitions.Commands.{keptByte, maxResults, makerAt};
-ghost use Rattle.job.specs.definitions.Work.{workSize, stretch};
-ghost use Rattle.job.specs.definitions.InnerContracts.{untestedOutcome, Performs, Operable, NamesTwo, Clear};
+ghost use Rattle.job.specs.definitions.Commands.{keptByte, makerAt};
+ghost use Rattle.job.specs.definitions.Work.{stretch};
+ghost use Rattle.job.specs.definitions.InnerContracts.{untestedOutcome, Performs, Operable, NamesOne, NamesTwo, Clear};
 use crate::bytes::read_candidate;
 use crate::bytes::read_model;
 use crate::bytes::read_unsigned;
@@ -21,7 +21,7 @@ use model::types::ModelOutcome;
 
 // The result that byte i of the job names.
 fn named(job: &[u8], i: usize, work: &[i32]) -> Model
-    requires { ⌜ (i < length (now job)) × ((byteAt (now job) i < maxResults) × (workSize ≤ length (now work))) ⌝ }
+    requires { ⌜ NamesOne (now job) i (now work) ⌝ }
     ensures { λ (m : Model). ⌜ m ≡ stretch (now (work .entry)) (byteAt (now (job .entry)) i) ⌝ }
 {
     stretch_at(work, job[i] as usize)

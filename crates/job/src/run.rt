@@ -1,14 +1,12 @@
 // The check of a whole job.
 ghost use mathlib.Core.Path.{_≡_};
 ghost use mathlib.Core.List.{[], _++_};
-ghost use Prim.Native.Nat.{_≤_};
-ghost use lib.ListN.{length, drop};
+ghost use lib.ListN.{drop};
 ghost use Rattle.job.specs.definitions.Outcomes.{jobOutcomeOf, counted};
 ghost use Rattle.job.specs.definitions.Jobs.{jobOutcome};
-ghost use Rattle.integer.specs.definitions.Lists.{zeros};
 ghost use Rattle.job.specs.definitions.Work.{workSize, workWith, areaPlaces, resultsIn, workAfter};
 ghost use Rattle.job.specs.definitions.Work.{checkOutcome, scratchAfterJob};
-ghost use Rattle.job.specs.definitions.InnerContracts.{Clear};
+ghost use Rattle.job.specs.definitions.InnerContracts.{Cleared};
 ghost use Rattle.job.specs.definitions.Requirement.{Requirement3};
 use crate::step::step;
 use crate::types::JobOutcome;
@@ -21,8 +19,7 @@ use model::types::Refusal;
 
 // A job over cleared areas.
 fn run(job: &[u8], work: &mut [i32], scratch: &mut [i64]) -> JobOutcome
-    requires { ⌜ (workSize ≤ length (now work))
-        × ((now work ≡ zeros workSize ++ drop workSize (now work)) × Clear (now scratch)) ⌝ }
+    requires { ⌜ Cleared (now work) (now scratch) ⌝ }
     ensures { λ r. ⌜ jobOutcomeOf r ≡ counted (jobOutcome (now (job .entry))) ⌝ }
     ensures { λ _. ⌜ now (work .exit)
         ≡ workWith (resultsIn (jobOutcome (now (job .entry)))) ++ drop workSize (now (work .entry)) ⌝ }

@@ -1,13 +1,9 @@
 // One command: its reading, its operation, and its result's stretch of the work area.
 ghost use mathlib.Core.Path.{_≡_};
-ghost use Prim.Native.Nat.{_≤_, _<_};
-ghost use lib.ListN.{length};
 ghost use Rattle.certificate.specs.definitions.Tests.{testOf};
-ghost use Rattle.model.specs.definitions.Areas.{Storable};
-ghost use Rattle.job.specs.definitions.Commands.{maxResults, commandAt};
+ghost use Rattle.job.specs.definitions.Commands.{commandAt};
 ghost use Rattle.job.specs.definitions.Jobs.{resulting, performed, command};
-ghost use Rattle.job.specs.definitions.Work.{workSize};
-ghost use Rattle.job.specs.definitions.InnerContracts.{StepsBy, Performable, Clear};
+ghost use Rattle.job.specs.definitions.InnerContracts.{StepsBy, Performable, Storing, Between, Clear};
 use crate::operations::operate;
 use crate::reader::read_next;
 use crate::types::CommandReading;
@@ -20,7 +16,7 @@ use model::types::Verdict;
 
 // The operation's answer becomes the next result.
 fn add_result(work: &mut [i32], count: usize, next: usize, a: TestOutcome) -> Step
-    requires { ⌜ (workSize ≤ length (now work)) × ((count < maxResults) × Storable (a .model)) ⌝ }
+    requires { ⌜ Storing (now work) count (a .model) ⌝ }
     ensures { λ r. ⌜ StepsBy r (now (work .entry)) (now (work .exit)) count (λ rs. resulting rs next (testOf a)) ⌝ }
 {
     let verdict = a.verdict;
@@ -70,7 +66,7 @@ pub(crate) fn step(
     work: &mut [i32],
     scratch: &mut [i64],
 ) -> Step
-    requires { ⌜ (workSize ≤ length (now work)) × ((count ≤ maxResults) × Clear (now scratch)) ⌝ }
+    requires { ⌜ Between (now work) count (now scratch) ⌝ }
     ensures { λ r. ⌜ StepsBy r (now (work .entry)) (now (work .exit)) count (λ rs. command (now (job .entry)) k rs at) ⌝ }
     ensures { λ _. ⌜ now (scratch .exit) ≡ now (scratch .entry) ⌝ }
 {

@@ -4,10 +4,10 @@ ghost use mathlib.Core.List.{_++_};
 ghost use Prim.Native.Nat.{_≤_, _<_};
 ghost use lib.ListN.{length, drop};
 ghost use Rattle.integer.specs.definitions.Lists.{zeros};
-ghost use Rattle.model.specs.definitions.Areas.{Storable};
 ghost use Rattle.certificate.specs.definitions.Tests.{scratchSize};
 ghost use Rattle.job.specs.definitions.Commands.{maxResults};
 ghost use Rattle.job.specs.definitions.Work.{workSize, stretch, storedAt};
+ghost use Rattle.job.specs.definitions.InnerContracts.{Storing};
 use certificate::types::SCRATCH_SIZE;
 use model::area::MODEL_SIZE;
 use model::area::read;
@@ -18,7 +18,7 @@ pub const WORK_SIZE: usize = 1120;
 
 // Writes a model into stretch i.
 pub(crate) fn store(work: &mut [i32], i: usize, m: Model)
-    requires { ⌜ (workSize ≤ length (now work)) × ((i < maxResults) × Storable m) ⌝ }
+    requires { ⌜ Storing (now work) i m ⌝ }
     ensures { λ _. ⌜ now (work .exit) ≡ storedAt (now (work .entry)) i m ⌝ }
 {
     let a = MODEL_SIZE * i;

@@ -6,7 +6,8 @@ use mathlib.Core.List.{List, [], _∷_, _++_}
 use Prim.Native.Nat.{ℕ, _+_, _≤_, _<_}
 use lib.Dec.{leb}
 use lib.IntN.{ℤ}
-use lib.ListN.{length}
+use lib.ListN.{length, drop}
+use Rattle.integer.specs.definitions.Lists.{zeros}
 use Rattle.model.specs.definitions.Models.{coefficientCount}
 use Rattle.model.specs.definitions.Outcomes.{Outcome, accepted, refused, values, numberOf}
 use Rattle.model.specs.definitions.Areas.{Storable}
@@ -78,6 +79,12 @@ pub record Operable (op : Operation) (job : List ℕ) (at : ℕ) (work : List �
   pub room : at + 1 + operandsFor op .width ≤ length job
   pub long : workSize ≤ length work
 
+-- byte i of the job names a result, as reading it needs it
+pub record NamesOne (job : List ℕ) (i : ℕ) (work : List ℤ) : Type 0 where
+  pub inside : i < length job
+  pub name : byteAt job i < maxResults
+  pub long : workSize ≤ length work
+
 -- the two bytes after a command name results, as reading them needs it
 pub record NamesTwo (job : List ℕ) (at : ℕ) (work : List ℤ) : Type 0 where
   pub names : (leb maxResults (byteAt job (at + 1)) || leb maxResults (byteAt job (at + 2))) ≡ false
@@ -92,7 +99,25 @@ pub record Performable (kind : Kind) (job : List ℕ) (count at : ℕ) (work : L
   pub room : at + 1 + layoutFor kind .width ≤ length job
   pub long : workSize ≤ length work
 
+-- a model and the stretch i that takes it
+pub record Storing (work : List ℤ) (i : ℕ) (m : Model) : Type 0 where
+  pub long : workSize ≤ length work
+  pub inside : i < maxResults
+  pub storable : Storable m
+
 -- a scratch whose 65 numbers are zero
 pub record Clear (scratch : List ℤ) : Type 0 where
   pub long : scratchSize ≤ length scratch
   pub clear : scratchAfter scratch ≡ scratch
+
+-- the areas before a command, with so many results
+pub record Between (work : List ℤ) (count : ℕ) (scratch : List ℤ) : Type 0 where
+  pub long : workSize ≤ length work
+  pub few : count ≤ maxResults
+  pub clear : Clear scratch
+
+-- the areas before the first command
+pub record Cleared (work scratch : List ℤ) : Type 0 where
+  pub long : workSize ≤ length work
+  pub zero : work ≡ zeros workSize ++ drop workSize work
+  pub clear : Clear scratch

@@ -15,10 +15,14 @@ named : (c : tie.Start)
 named c = both-below maxResults (byteAt (now (c .args .job)) (c .args .at + 1)) (byteAt (now (c .args .job)) (c .args .at + 2)) (c .pre .names)
 
 named-requires : tie.Need-named-requires
-named-requires c κs = let b = named (c .before) in omega arith
+named-requires c κs =
+    let s = c .before in
+    record { inside = omega (arith, s .pre .room); name = named s .0; long = s .pre .long }
 
 named-requires-2 : tie.Need-named-requires-2
-named-requires-2 c κs = let b = named (c .before .before) in omega arith
+named-requires-2 c κs =
+    let s = c .before .before in
+    record { inside = omega (arith, s .pre .room); name = named s .1; long = s .pre .long }
 
 returns : tie.Need-returns
 returns c = (c .before .named .ensures, c .named2 .ensures)

@@ -20,8 +20,12 @@ named-requires : tie.Need-named-requires
 unfolding makerAt
 named-requires c κs =
     let g = c .before .args in
-    let b = leb-false maxResults (byteAt (now (g .job)) (g .at + 1)) (c .before .pre .0 .names) in
-    omega (arith, b, c .before .pre .0 .room, c .before .pre .0 .long)
+    let p = c .before .pre .0 in
+    record {
+      inside = omega (arith, p .room);
+      name = leb-false maxResults (byteAt (now (g .job)) (g .at + 1)) (p .names);
+      long = p .long;
+    }
 
 returns : tie.Need-returns
 unfolding makerAt

@@ -22,14 +22,14 @@ run-requires c κs =
     let e = d .before .before .before in
     let g = e .before .before .before .before .before .args in
     let ew = e .clear-work .ensures in
-    let es = d .clear-scratch .ensures in (
-      omega (arith, e .clear-work .kept .0, e .before .before .before .if1 .left),
-      (
-        cleared-is workSize (now (g .work)) (e .clear-work .last .0) ew,
-        cleared-clear (now (g .scratch)) (d .clear-scratch .last .0) es
-            (omega (arith, d .clear-scratch .kept .0, e .before .before .if2 .left)),
-      ),
-    )
+    let es = d .clear-scratch .ensures in
+    record {
+      long = omega (arith, e .clear-work .kept .0, e .before .before .before .if1 .left);
+      zero = cleared-is workSize (now (g .work)) (e .clear-work .last .0) ew;
+      clear =
+          cleared-clear (now (g .scratch)) (d .clear-scratch .last .0) es
+          (omega (arith, d .clear-scratch .kept .0, e .before .before .if2 .left));
+    }
 
 returns-3 : tie.Need-returns-3
 returns-3 c =

@@ -64,12 +64,12 @@ module _ (c : tie.After-scratch Inv-loop μ-loop) where
 loop-holds : tie.Need-loop-holds Inv-loop μ-loop
 loop-holds c =
     let s = c .before in
-    (going-begins (now (s .args .job)) (now (s .args .work)) (s .pre .0) (s .pre .1 .0), (refl, s .pre .1 .1))
+    (going-begins (now (s .args .job)) (now (s .args .work)) (s .pre .long) (s .pre .zero), (refl, s .pre .clear))
 
 step-requires : tie.Need-step-requires Inv-loop μ-loop
 step-requires c κs =
     let i = c .before .before .loop .inv in
-    (omega (arith, i .0 .long, i .0 .same), (i .0 .few, subst⁻¹ Clear (i .1 .0) (i .1 .1)))
+    record { long = omega (arith, i .0 .long, i .0 .same); few = i .0 .few; clear = subst⁻¹ Clear (i .1 .0) (i .1 .1) }
 
 again : (c : tie.After-known-told Inv-loop μ-loop)
     → (at (c .before .before .before) < c .before .done .given .0 .0)

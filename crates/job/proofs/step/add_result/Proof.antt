@@ -47,7 +47,7 @@ returns c = λ rs t h.
       answer = ap (λ (n : ℕ). more n (a .next)) (omega (arith, h .count-is));
       holds =
           subst⁻¹ (λ (w : List ℤ). Holds w (length (rs ++ (m ∷ []))) (rs ++ (m ∷ [])) t) (c .before .store .ensures)
-          (stored-holds h m (s .pre .1 .0) (search needs));
+          (stored-holds h m (s .pre .inside) (search needs));
     })
 
 returns-2 : tie.Need-returns-2

@@ -48,7 +48,11 @@ add-result-requires c κs =
     let s = q .before .before .before in
     let g = s .args in
     let p = rw (k .1) at (s .pre .0) in
-    (p .long, (leb-false maxResults (g .count) (p .space), model-storable (d .operate .result) (d .operate .ensures .0 .storable)))
+    record {
+      long = p .long;
+      inside = leb-false maxResults (g .count) (p .space);
+      storable = model-storable (d .operate .result) (d .operate .ensures .0 .storable);
+    }
 
 returns : tie.Need-returns
 returns c =

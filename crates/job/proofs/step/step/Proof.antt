@@ -19,7 +19,7 @@ perform-requires c κs =
     let g = s .args in
     let e = sym (r .read-next .ensures) ∙ ap commandReadingOf (d .read2 .given .1) in
     let f = d .read2 .given .0 in
-    (found-performable (now (g .job)) (g .k) (g .count) (g .at) (f .0) (f .1 .0) (now (g .work)) e (s .pre .1 .0) (s .pre .0), s .pre .1 .1)
+    (found-performable (now (g .job)) (g .k) (g .count) (g .at) (f .0) (f .1 .0) (now (g .work)) e (s .pre .few) (s .pre .long), s .pre .clear)
 
 returns : tie.Need-returns
 returns c =
