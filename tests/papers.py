@@ -1,6 +1,6 @@
 #!/usr/bin/env python3
 """The papers name files and edits that are there: every path in backquotes that begins with a folder of the repository, and every
-must-fail edit of docs/ENTRIES.md's tables and lists that is written as a file's name."""
+must-fail edit that docs/ENTRIES.md names; and ENTRIES names every edit."""
 import pathlib
 import re
 import sys
@@ -29,6 +29,9 @@ entries = (ROOT / 'docs' / 'ENTRIES.md').read_text()
 named = set(re.findall(r'`([a-z0-9]+(?:_[a-z0-9]+)+)`', entries))
 for name in sorted(edits - named):
     wrong.append(f'docs/ENTRIES.md does not name the edit {name}')
+functions = {n for p in ROOT.glob('crates/*/src/**/*.rt') for n in re.findall(r'\bfn (\w+)', p.read_text())}
+for name in sorted(named - edits - functions):
+    wrong.append(f'docs/ENTRIES.md names {name}, which is no edit and no function')
 print(f'papers: {seen} paths, {len(edits)} edits, {len(wrong)} wrong')
 print('\n'.join(wrong))
 sys.exit(1 if wrong else 0)

@@ -1,4 +1,4 @@
-// The command byte decides a command's row: its kind, the width of its operands, and what reading asks of them.
+// The command byte decides a command's shape: its kind, the width of its operands, and what reading asks of them.
 ghost use mathlib.Core.Path.{_≡_};
 ghost use Rattle.job.specs.definitions.Commands.{shapeOf};
 use crate::types::Kind;

@@ -33,7 +33,7 @@ pub enum Values {
     KeptDegree,
 }
 
-// A command's row: its kind, the width of its operands in bytes, which of them name results, and what values are asked.
+// A command's shape: its kind, the width of its operands in bytes, which of them name results, and what values are asked.
 pub struct Shape {
     pub kind: Kind,
     pub width: usize,

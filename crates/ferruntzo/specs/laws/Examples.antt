@@ -14,7 +14,9 @@ use Rattle.model.specs.definitions.Outcomes.{passing}
 use Rattle.model.specs.definitions.Operations.{sumModel, addition, productList}
 use Rattle.model.specs.definitions.Evaluation.{pointTerm, pointSum, pointError, lowBound, highBound, evaluation}
 use Rattle.certificate.specs.definitions.Tests.{scratchAfter, rootOutcome, rootPlaces, rootContraction, rootResidual, rootModel, displacement}
-use Rattle.job.specs.definitions.Commands.{readingPlaces}
+use Rattle.job.specs.definitions.Bytes.{signedsAt}
+use Rattle.job.specs.definitions.Makers.{makerPlaces, operation}
+use Rattle.job.specs.definitions.Commands.{makerAt, readingPlaces}
 use Rattle.job.specs.definitions.Jobs.{command, run, jobOutcome}
 use Rattle.job.specs.definitions.Work.{checkOutcome, workAfter, workWith, stretches, scratchAfterJob}
 use Rattle.ferruntzo.specs.definitions.Answers.{areaOut, operationAnswer, outcomeIn, binaryAnswer, evaluationAnswer, boundsIn, evaluateAnswer}
@@ -50,7 +52,8 @@ pub evaluations :
 unfolding boundsIn areaOut evaluation lowBound highBound pointTerm pointSum pointError passing good weight floor up near zeros
 evaluations = (refl, refl, refl, refl)
 
--- the root whose discriminant is 0: m, N and b; and the same with an area of 34 numbers for the result
+-- the root whose discriminant is 0: m, N and b; the root of 1 with the same candidates, refused with 8; an area of 34 numbers for the
+-- result; a scratch of 64
 abbrev h : List ℤ
 h = area 0 (pos 2097152 ∷ []) 34
 
@@ -60,18 +63,21 @@ w = area 0 (pos 262144 ∷ []) 34
 pub tests :
     (rootAnswer (area 0 (pos 2097152 ∷ []) 35) h w (nines 66) (nines 36) (9 ∷ 9 ∷ 9 ∷ 9 ∷ [])
     ≡ testAnswer 0 (zeros 65 ++ nines 1) (pos 0 ∷ pos 2097152 ∷ (zeros 32 ++ (pos 1048576 ∷ nines 1))) (0 ∷ 2097152 ∷ 524288 ∷ 9 ∷ []))
+    × (rootAnswer one h w (nines 66) (nines 36) (9 ∷ 9 ∷ 9 ∷ 9 ∷ []) ≡ testAnswer 8 (zeros 65 ++ nines 1) (zeros 35 ++ nines 1) (0 ∷ 0 ∷ 0 ∷ 9 ∷ []))
     × (rootAnswer (area 0 (pos 2097152 ∷ []) 35) h w (nines 66) (nines 34) (9 ∷ 9 ∷ 9 ∷ 9 ∷ [])
     ≡ testAnswer 1 (zeros 65 ++ nines 1) (nines 34) (0 ∷ 0 ∷ 0 ∷ 9 ∷ []))
     × (rootAnswer (area 0 (pos 2097152 ∷ []) 35) h w (nines 64) (nines 36) (9 ∷ 9 ∷ 9 ∷ 9 ∷ [])
     ≡ testAnswer 1 (nines 64) (zeros 35 ++ nines 1) (0 ∷ 0 ∷ 0 ∷ 9 ∷ []))
 unfolding testIn areaOut scratchAfter rootOutcome rootPlaces rootContraction rootResidual rootModel displacement coefficientSum productList passing good tooLarge zeroModel weight addLists subtractLists scaleList addAt addPair addRow addRows product upℕ zeros
-tests = (refl, refl, refl)
+tests = (refl, refl, refl, refl)
 
--- a job refused at command 1, the count before the command; and an area for the answer that is too short
+-- a job refused at command 1, the count before the command; a job accepted with one result; and areas that are too short
 pub checks :
     (checkAnswer (0x01 ∷ 1 ∷ []) (nines 1121) (nines 66) (9 ∷ 9 ∷ 9 ∷ [])
     ≡ jobAnswer 10 (zeros 1120 ++ nines 1) (zeros 65 ++ nines 1) (0 ∷ 1 ∷ 9 ∷ []))
+    × (checkAnswer (0x01 ∷ 1 ∷ 0x10 ∷ 1 ∷ (replicate 132 0 ++ (5 ∷ 0 ∷ 0 ∷ 0 ∷ 0x00 ∷ []))) (nines 1121) (nines 66) (9 ∷ 9 ∷ 9 ∷ [])
+    ≡ jobAnswer 0 (pos 1 ∷ (zeros 33 ++ (pos 5 ∷ (zeros 1085 ++ nines 1)))) (zeros 65 ++ nines 1) (1 ∷ 0 ∷ 9 ∷ []))
     × (checkAnswer (0x01 ∷ 1 ∷ []) (nines 1119) (nines 66) (9 ∷ 9 ∷ 9 ∷ []) ≡ jobAnswer 1 (nines 1119) (nines 66) (0 ∷ 0 ∷ 9 ∷ []))
     × (checkAnswer (0x01 ∷ 1 ∷ []) (nines 1120) (nines 65) (9 ∷ []) ≡ jobAnswer 1 (nines 1120) (nines 65) (9 ∷ []))
-unfolding checkAnswer areaOut checkOutcome workAfter workWith stretches scratchAfterJob jobOutcome run command readingPlaces passing zeros
-checks = (refl, refl, refl)
+unfolding checkAnswer areaOut checkOutcome workAfter workWith stretches scratchAfterJob jobOutcome run command operation makerPlaces readingPlaces makerAt signedsAt good weight passing zeros
+checks = (refl, refl, refl, refl)

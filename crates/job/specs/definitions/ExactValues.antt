@@ -53,16 +53,16 @@ Suits x choice v i (quotient j k h w) = Unit {0}
 Suits x choice v i (root rule j h w) = v j ≡ choice i *ℚ choice i
 
 -- a row names result j
-abbrev pub Names : Row → ℕ → Type 0
-Names (of-none g) j = ⊥
-Names (of-one i g) j = j ≡ i
-Names (of-two i k g) j = (j ≡ i) ⊎ (j ≡ k)
+abbrev pub NamedBy : Row → ℕ → Type 0
+NamedBy (of-none g) j = ⊥
+NamedBy (of-one i g) j = j ≡ i
+NamedBy (of-two i k g) j = (j ≡ i) ⊎ (j ≡ k)
 
 -- result i is result r, or formed from it: "A result is formed from the results that its command names and from all that those
 -- are formed from."
 pub data FormedFrom (cs : List Command) : ℕ → ℕ → Type 0 where
   itself : (i : ℕ) → FormedFrom cs i i
-  through : (i j r : ℕ) (m : Maker) → commandFor cs i ≡ result m → Names (rowFor m) j → FormedFrom cs j r → FormedFrom cs i r
+  through : (i j r : ℕ) (m : Maker) → commandFor cs i ≡ result m → NamedBy (rowFor m) j → FormedFrom cs j r → FormedFrom cs i r
 
 -- the choice suits result i and all that it is formed from
 abbrev pub Chosen : List Command → ℚ → (ℕ → ℚ) → (ℕ → ℚ) → ℕ → Type 0

@@ -1,10 +1,10 @@
 -- Requirement 3 as one definition, `Requirement3`, the owner's sentences beside its fields, 01's beside what they speak of. What
 -- else a reader believes, besides the library's numbers and lists:
---   the commands in the bytes, signed numbers among them: Bytes, Commands, JobReading; the kinds of src/types.rt
---   what each command gives: Makers; model's Models, Operations; certificate's Tests; chebyshev's Coefficients, Product;
---     integer's Rounding, Ring, Integer
+--   the commands in the bytes, signed numbers among them: Bytes, Commands, JobReading; the types of src/types.rt
+--   what each command gives: Makers; model's Models, src/types.rt, Operations; certificate's Tests; chebyshev's Coefficients,
+--     Product; integer's Rounding, Ring, Integer
 --   what refusals there are, and their order: `Meets` of Order, `areaPlaces` of Work; model's Outcomes
---   what the code's answer means: `jobOutcomeOf` of Outcomes
+--   what the code's answer means: `jobOutcomeOf` of Outcomes; for C, `answerIn`, `exportedPlaces` of ferruntzo's JobAnswers
 --   where the models stand in the work area: `stretch`, `modelsIn` of Work; model's Areas
 --   what a model allows, "from -1 to 1": model's Values; chebyshev's Allows, Coefficients, Recurrences
 --   fractions, their order and division: integer's Fraction, Pairs, FractionRing
@@ -110,7 +110,8 @@ pub record Results (job : List ℕ) (count : ℕ) (work : List ℤ) : Type 0 whe
   -- "Of each result the following then holds at every fraction from -1 to 1."
   pub vouched : (i : ℕ) → i < count → (x : ℚ) → OnInterval x → Vouched commands work i x
 
--- Requirement 3, of the places of the lent areas, the job's bytes, the answer, and the work area as left.
+-- "For every list of bytes …, whatever the lent areas held before:" of the places that the areas can be refused at, the bytes, the
+-- answer, and the work area as left
 pub record Requirement3 (areas : List (Bool × ℕ)) (job : List ℕ) (answer : JobOutcome ℕ) (work : List ℤ) : Type 0 where
   -- "it is accepted if it meets no numbered refusal,"
   pub accepts : ((n k : ℕ) → ¬ Meets areas job n k) → (count : ℕ) × (answer ≡ accepted count)

@@ -21,7 +21,7 @@ use Rattle.job.specs.laws.WorkLaws.{length-modelsIn}
 use Rattle.job.specs.laws.CommandLaws.{both-below}
 use Rattle.job.specs.definitions.Requirement.{Requirement3}
 use Rattle.job.specs.laws.MadeLaws.{made-maker, made-by-maker}
-use Rattle.job.specs.definitions.ExactValues.{Exact, load-value, add-value, subtract-value, multiply-value, quotient-value, root-value, Names, itself, through, Chosen, Follows}
+use Rattle.job.specs.definitions.ExactValues.{Exact, load-value, add-value, subtract-value, multiply-value, quotient-value, root-value, NamedBy, itself, through, Chosen, Follows}
 use Rattle.job.specs.laws.ChosenValues.{values-to}
 use Rattle.job.specs.laws.ExactAllowed.{vouchedFor, cs, exact-allowed, exact-divisor}
 
@@ -52,7 +52,7 @@ module _ {areas : List (Bool × ℕ)} {job : List ℕ} {answer : JobOutcome ℕ}
 
     -- a result below i that its command names, for a choice that suits result i
     abbrev Named : ℕ → Maker → Type 0
-    Named i m = (j : ℕ) → j < i → Names (rowFor m) j → Found j
+    Named i m = (j : ℕ) → j < i → NamedBy (rowFor m) j → Found j
 
     by-maker : (i : ℕ) → i < count → Chosen commands x choice v i → (m : Maker) → commandFor commands i ≡ result m → Named i m → Found i
     by-maker i h c (load m) f r = load-value i m f (subst⁻¹ (Allows m x) (follows i h (load m) f) (c i (load m) (itself i) f))

@@ -25,15 +25,15 @@ modelBy n cs e = makeModel n (positives cs ++ replicate (33 - length cs) (pos 0)
 abbrev pub job : List ℕ → List ℕ
 job commands = (0x01 ∷ 1 ∷ []) ++ (commands ++ (0x00 ∷ []))
 
-abbrev pub loading : ℕ → List ℕ → ℕ → List ℕ
-loading n cs e = (0x10 ∷ block n cs) ++ wordsFor (e ∷ [])
+abbrev pub loadBytes : ℕ → List ℕ → ℕ → List ℕ
+loadBytes n cs e = (0x10 ∷ block n cs) ++ wordsFor (e ∷ [])
 
 -- loads of the constants 1, 2 and −2^28
 abbrev pub one : List ℕ
-one = loading 0 (1048576 ∷ []) 0
+one = loadBytes 0 (1048576 ∷ []) 0
 
 abbrev pub two : List ℕ
-two = loading 0 (2097152 ∷ []) 0
+two = loadBytes 0 (2097152 ∷ []) 0
 
 abbrev pub lowest : List ℕ
 lowest = 0x10 ∷ 0 ∷ 0x00 ∷ 0x00 ∷ 0x00 ∷ 0xF0 ∷ replicate 132 0

@@ -119,7 +119,7 @@ module _ (job : List ℕ) where
   refuses : {n k : ℕ} → RefusesAt job n k → jobOutcome job ≡ refused n k
   refuses {n} {k} m = stops-there (m .2) (command-refuses job k (m .0) (m .1) (m .3))
 
-  -- "refused with (n, k) exactly if that is the first place, in 01's order, whose stated condition holds"
+  -- refused with (n, k) exactly if that is the first place, in 01's order, whose stated condition holds
   pub refused-exactly : (n k : ℕ) → (jobOutcome job ≡ refused n k) ↔ RefusesAt job n k
   refused-exactly n k = (λ e. subst Meant e whole, λ m. refuses m)
 

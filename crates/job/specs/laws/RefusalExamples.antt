@@ -15,7 +15,7 @@ use Rattle.job.specs.definitions.Makers.{makerPlaces, operation}
 use Rattle.job.specs.definitions.Commands.{makerAt, readingPlaces}
 use Rattle.job.specs.definitions.Outcomes.{JobOutcome, accepted, refused, counted}
 use Rattle.job.specs.definitions.Jobs.{command, run, jobOutcome}
-use Rattle.job.specs.laws.ExampleBytes.{block, job, loading, one, lowest, repeated}
+use Rattle.job.specs.laws.ExampleBytes.{block, job, loadBytes, one, lowest, repeated}
 
 -- ---- refusals of reading, 9 to 13
 
@@ -54,13 +54,13 @@ readings-are = refl
 abbrev pub operations : List (List ℕ × JobOutcome ℕ)
 operations =
     -- a degree, a weight, a radius beyond its limit; a nonzero beyond the degree; each at its limit
-    (job (loading 33 [] 0), refused 2 1)
-    ∷ (job (loading 1 (268435456 ∷ 1 ∷ []) 0), refused 2 1)
-    ∷ (job (loading 0 [] 268435457), refused 2 1)
-    ∷ (job (loading 0 (0 ∷ 1 ∷ []) 0), refused 2 1)
-    ∷ (job (loading 32 (268435456 ∷ []) 268435456), accepted 1)
+    (job (loadBytes 33 [] 0), refused 2 1)
+    ∷ (job (loadBytes 1 (268435456 ∷ 1 ∷ []) 0), refused 2 1)
+    ∷ (job (loadBytes 0 [] 268435457), refused 2 1)
+    ∷ (job (loadBytes 0 (0 ∷ 1 ∷ []) 0), refused 2 1)
+    ∷ (job (loadBytes 32 (268435456 ∷ []) 268435456), accepted 1)
     -- a result too large
-    ∷ (job (loading 0 (268435456 ∷ []) 0 ++ (0x11 ∷ 0 ∷ 0 ∷ [])), refused 3 2)
+    ∷ (job (loadBytes 0 (268435456 ∷ []) 0 ++ (0x11 ∷ 0 ∷ 0 ∷ [])), refused 3 2)
     -- quotients: 1 by 1 with w = 0; −2^28 by 1 with h = 2^28; a bad candidate
     ∷ (job (one ++ ((0x20 ∷ 0 ∷ 0 ∷ block 0 (1048576 ∷ [])) ++ block 0 [])), refused 5 2)
     ∷ (job (one ++ (lowest ++ ((0x20 ∷ 1 ∷ 0 ∷ block 0 (268435456 ∷ [])) ++ block 0 (1048576 ∷ [])))), refused 6 3)
@@ -69,8 +69,8 @@ operations =
     ∷ (job (one ++ ((0x21 ∷ 0 ∷ block 0 (1048576 ∷ [])) ++ block 0 [])), refused 7 2)
     ∷ (job (one ++ ((0x21 ∷ 0 ∷ block 0 (2097152 ∷ [])) ++ block 0 (262144 ∷ []))), refused 8 2)
     -- 32 results, and a 33rd
-    ∷ (job (loading 0 [] 0 ++ repeated 31 (0x12 ∷ 0 ∷ 0 ∷ [])), accepted 32)
-    ∷ (job (loading 0 [] 0 ++ repeated 32 (0x12 ∷ 0 ∷ 0 ∷ [])), refused 13 33)
+    ∷ (job (loadBytes 0 [] 0 ++ repeated 31 (0x12 ∷ 0 ∷ 0 ∷ [])), accepted 32)
+    ∷ (job (loadBytes 0 [] 0 ++ repeated 32 (0x12 ∷ 0 ∷ 0 ∷ [])), refused 13 33)
     ∷ []
 
 pub operations-are : map (λ c. counted (jobOutcome (c .0))) operations ≡ map (λ c. c .1) operations

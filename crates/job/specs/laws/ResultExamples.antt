@@ -20,11 +20,11 @@ use Rattle.job.specs.definitions.Commands.{makerAt, readingPlaces}
 use Rattle.job.specs.definitions.Outcomes.{JobOutcome, accepted, refused}
 use Rattle.job.specs.definitions.Jobs.{command, run, jobOutcome}
 use Rattle.job.specs.definitions.Work.{checkOutcome, workWith, stretches, workAfter, scratchAfterJob}
-use Rattle.job.specs.laws.ExampleBytes.{block, modelBy, job, loading, one, two}
+use Rattle.job.specs.laws.ExampleBytes.{block, modelBy, job, loadBytes, one, two}
 
 -- 01: "A job of edition 1, load of constant 4·S with radius 0, root with h = 2·S and w = S/4, end"
 abbrev pub rootOfFour : List ℕ
-rootOfFour = job (loading 0 (4194304 ∷ []) 0 ++ ((0x21 ∷ 0 ∷ block 0 (2097152 ∷ [])) ++ block 0 (262144 ∷ [])))
+rootOfFour = job (loadBytes 0 (4194304 ∷ []) 0 ++ ((0x21 ∷ 0 ∷ block 0 (2097152 ∷ [])) ++ block 0 (262144 ∷ [])))
 
 abbrev oneModel : Model
 oneModel = modelBy 0 (1048576 ∷ []) 0
@@ -53,7 +53,7 @@ operands =
     )
     -- T_1 times T_1: d = 1, 32, and 255, which means 32
     ∷ (
-      job (loading 1 (0 ∷ 1048576 ∷ []) 0 ++ (0x13 ∷ 0 ∷ 0 ∷ 1 ∷ 0x13 ∷ 0 ∷ 0 ∷ 32 ∷ 0x13 ∷ 0 ∷ 0 ∷ 255 ∷ [])),
+      job (loadBytes 1 (0 ∷ 1048576 ∷ []) 0 ++ (0x13 ∷ 0 ∷ 0 ∷ 1 ∷ 0x13 ∷ 0 ∷ 0 ∷ 32 ∷ 0x13 ∷ 0 ∷ 0 ∷ 255 ∷ [])),
       accepted (modelBy 1 (0 ∷ 1048576 ∷ []) 0 ∷ modelBy 1 (524288 ∷ []) 524288 ∷ square ∷ square ∷ []),
     )
     -- 1 over 2: f before g, h before w
