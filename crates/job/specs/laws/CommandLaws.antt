@@ -1,15 +1,14 @@
 -- One command: what its places say of what it does.
 use mathlib.Core.Path.{_≡_, refl, sym, ap, _∙_}
 use mathlib.Core.Bool.{Bool, true, false, true≢false, false≢true, _&&_, _||_}
-use mathlib.Core.List.{List, []}
+use mathlib.Core.List.{List}
 use mathlib.Core.Logic.{_⊎_, inl, inr}
 use Prim.Native.Nat.{ℕ, _≤_, _<_}
-use native.Mathlib.Omega.{arith}
 use borrow.Author.Tests.{leb-false, ltb-false}
 use lib.Dec.{leb}
 use lib.ListN.{length}
-use Rattle.model.specs.definitions.Outcomes.{Outcome, accepted, values, passing, Passed, First}
-use Rattle.model.specs.laws.PlaceLaws.{passing-passed, outcome-passed, first-parts, passed-append, passing-first}
+use Rattle.model.specs.definitions.Outcomes.{Outcome, accepted, values, Passed, First}
+use Rattle.model.specs.laws.PlaceLaws.{passing-passed, outcome-passed, first-parts, passed-append, passing-first, none-first}
 use Rattle.certificate.specs.definitions.Tests.{zeroCertificate}
 use Rattle.model.specs.declared.types.Model.{Model}
 use Rattle.job.specs.definitions.Makers.{Maker, rowFor, givenIn, operation, makerPlaces}
@@ -71,15 +70,11 @@ isEnd-is Unknown e = absurd (false≢true e)
 
 -- a place of the operation that holds: a refusal
 module _ (rs : List Model) (next n : ℕ) where
-  pub nowhere : First [] n → ⊥
-  unfolding passing
-  nowhere f = let z : _≡_ {A = ℕ} 0 1 = passing-first 0 (λ m. 1) f in omega arith
-
   performed-refuses : (c : Command) → First (operationPlaces c rs) n → performed c rs next ≡ refused n
-  performed-refuses edition f = absurd (nowhere f)
+  performed-refuses edition f = absurd (none-first tt f)
   performed-refuses (result m) f = ap (resulting rs next) (operation-refuses m rs f)
-  performed-refuses finish f = absurd (nowhere f)
-  performed-refuses unknown f = absurd (nowhere f)
+  performed-refuses finish f = absurd (none-first tt f)
+  performed-refuses unknown f = absurd (none-first tt f)
 
 -- all places of the operation passed: one more result
 performed-takes : (job : List ℕ) (k at : ℕ) (rs : List Model) (next : ℕ) (kind : Kind) → isEnd kind ≡ false → badKind k kind ≡ false

@@ -68,10 +68,15 @@ module _ {areas : List (Bool × ℕ)} {job : List ℕ} {answer : JobOutcome ℕ}
         let o = vouchedFor .vouched i h x on .overlaps (λ j. point (v j)) (exact-permitted p) in
         subst (λ z. Allows (stretch work i) x z) (point-is (o .lies)) (o .allowed)
 
+    -- no value that the divisor's model allows is zero
+    pub allowed-divisor : (u : ℚ) {i j k : ℕ} {h w : Model} → i < count → commandFor cs i ≡ result (quotient j k h w)
+        → Allows (stretch work k) x u → ¬ (u ≡ whole (pos 0))
+    allowed-divisor u {i} {j} {k} {h} {w} hi f a = vouchedFor .vouched i hi x on .divisor j k h w f u a
+
     -- no divisor is zero
     pub exact-divisor : {v : ℕ → ℚ} {i j k : ℕ} {h w : Model} → i < count → k < count → commandFor cs i ≡ result (quotient j k h w)
         → Exact cs x v k → ¬ (v k ≡ whole (pos 0))
-    exact-divisor {v} {i} {j} {k} {h} {w} hi hk f p = vouchedFor .vouched i hi x on .divisor j k h w f (v k) (exact-allowed hk p)
+    exact-divisor {v} {k = k} hi hk f p = allowed-divisor (v k) hi f (exact-allowed hk p)
 
     -- what the model under a root allows is not negative
     pub exact-radicand : (u : ℚ) {i j : ℕ} {rule : RootRule} {h w : Model} → i < count → commandFor cs i ≡ result (root rule j h w)

@@ -1,4 +1,5 @@
--- Boxes that 01 permits for the job of ExampleJob.antt at x = 1/3, wider than single fractions from the first product on.
+-- Boxes that 01 permits for the job of ExampleJob.antt at x = 1/3, wider than single fractions from the first product on; a sum, a
+-- difference and a product of two different wide boxes are among them.
 use mathlib.Core.Path.{_≡_, refl, sym, subst}
 use mathlib.Core.Logic.{inl, inr}
 use mathlib.Core.List.{List, [], _∷_}
@@ -20,7 +21,7 @@ use Rattle.job.specs.laws.ExampleValues.{third, allows-a, allows-b, divi
 abbrev ends : (l : ℤ) (a : ℕ) (h : ℤ) (b : ℕ) → (l /1+ a) ≤ℚ (h /1+ b) → Box
 ends l a h b o = record { low = l /1+ a; high = h /1+ b; ordered = o }
 
--- a; b; around a·a, a, a + b, b, (a + b)·(a + b), that over a, a + b
+-- a; b; around a·a, a, a + b, b, (a + b)·(a + b), that over a, a + b, (a + b) + a, (a + b)·a
 abbrev boxes : List Box
 boxes =
     ends (pos 257) 127 (pos 257) 127 (le-refl ℚ-ordered _)
@@ -28,10 +29,12 @@ boxes =
     ∷ ends (pos 4) 0 (pos 5) 0 (simp (fraction-le, den-is) (leZ-yes tt))
     ∷ ends (pos 1) 0 (pos 3) 0 (simp (fraction-le, den-is) (leZ-yes tt))
     ∷ ends (pos 43) 31 (pos 107) 31 (simp (fraction-le, den-is) (leZ-yes tt))
-    ∷ ends (negsuc 84) 127 (pos 171) 127 (simp (fraction-le, den-is) (leZ-yes tt))
+    ∷ ends (negsuc 52) 31 (pos 75) 31 (simp (fraction-le, den-is) (leZ-yes tt))
     ∷ ends (pos 1) 0 (pos 12) 0 (simp (fraction-le, den-is) (leZ-yes tt))
     ∷ ends (pos 1) 2 (pos 12) 0 (simp (fraction-le, den-is) (leZ-yes tt))
     ∷ ends (pos 0) 0 (pos 4) 0 (simp (fraction-le, den-is) (leZ-yes tt))
+    ∷ ends (pos 1) 0 (pos 7) 0 (simp (fraction-le, den-is) (leZ-yes tt))
+    ∷ ends (pos 0) 0 (pos 12) 0 (simp (fraction-le, den-is) (leZ-yes tt))
     ∷ []
 
 abbrev pub exampleBox : ℕ → Box
@@ -77,7 +80,7 @@ fits-4 =
 
 fits-5 : Fits 5
 fits-5 =
-    subtract-box 5 4 0 refl fits-4 fits-0 (simp (fraction-neg, fraction-add) (fraction-eq _ _ _ _ (simp (den-mul, den-is))))
+    subtract-box 5 4 3 refl fits-4 fits-3 (simp (fraction-neg, fraction-add) (fraction-eq _ _ _ _ (simp (den-mul, den-is))))
     (simp (fraction-neg, fraction-add) (fraction-eq _ _ _ _ (simp (den-mul, den-is))))
 
 fits-6 : Fits 6
@@ -105,6 +108,21 @@ fits-8 =
     root-box 8 6 _ _ _ refl fits-6 (inl (sym (whole-is (pos 0)))) (simp (whole-is, fraction-le, den-is) (leZ-yes tt))
     (simp (fraction-mul, fraction-le, den-mul, den-is) (leZ-yes tt))
 
+fits-9 : Fits 9
+fits-9 =
+    add-box 9 8 3 refl fits-8 fits-3 (simp fraction-add (fraction-eq _ _ _ _ (simp (den-mul, den-is))))
+    (simp fraction-add (fraction-eq _ _ _ _ (simp (den-mul, den-is))))
+
+fits-10 : Fits 10
+fits-10 =
+    multiply-box 10 8 3 32 refl fits-8 fits-3 (record {
+      low-low = between (pos 0) 0 (pos 12) 0 _ (pos 0) 0 (simp fraction-mul (fraction-eq _ _ _ _ (simp (den-mul, den-is)))) (leZ-yes tt) (leZ-yes tt);
+      low-high = between (pos 0) 0 (pos 12) 0 _ (pos 0) 0 (simp fraction-mul (fraction-eq _ _ _ _ (simp (den-mul, den-is)))) (leZ-yes tt) (leZ-yes tt);
+      high-low = between (pos 0) 0 (pos 12) 0 _ (pos 4) 0 (simp fraction-mul (fraction-eq _ _ _ _ (simp (den-mul, den-is)))) (leZ-yes tt) (leZ-yes tt);
+      high-high = between (pos 0) 0 (pos 12) 0 _ (pos 12) 0 (simp fraction-mul (fraction-eq _ _ _ _ (simp (den-mul, den-is)))) (leZ-yes tt) (leZ-yes tt);
+    })
+
 -- every box of the example is permitted
-pub example-permitted : (i : ℕ) → i < 9 → Fits i
-example-permitted = upto-at Fits 9 (((((((((tt, fits-0), fits-1), fits-2), fits-3), fits-4), fits-5), fits-6), fits-7), fits-8)
+pub example-permitted : (i : ℕ) → i < 11 → Fits i
+example-permitted =
+    upto-at Fits 11 (((((((((((tt, fits-0), fits-1), fits-2), fits-3), fits-4), fits-5), fits-6), fits-7), fits-8), fits-9), fits-10)

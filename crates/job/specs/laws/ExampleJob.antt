@@ -27,13 +27,15 @@ exampleJob =
     ++ ((0x13 ∷ 0 ∷ 0 ∷ 0 ∷ [])
     ++ ((0x21 ∷ 2 ∷ block 0 (2097152 ∷ [])) ++ block 0 (262144 ∷ [])
     ++ ((0x11 ∷ 3 ∷ 1 ∷ [])
-    ++ ((0x12 ∷ 4 ∷ 0 ∷ [])
+    ++ ((0x12 ∷ 4 ∷ 3 ∷ [])
     ++ ((0x13 ∷ 4 ∷ 4 ∷ 0xFF ∷ [])
     ++ ((0x20 ∷ 6 ∷ 3 ∷ block 2 (2359296 ∷ 2097152 ∷ 262144 ∷ [])) ++ block 0 (524288 ∷ [])
     ++ ((0x21 ∷ 6 ∷ block 1 (2097152 ∷ 1048576 ∷ [])) ++ block 0 (262144 ∷ [])
-    ++ (0x00 ∷ []))))))))))
+    ++ ((0x11 ∷ 8 ∷ 3 ∷ [])
+    ++ ((0x13 ∷ 8 ∷ 3 ∷ 0xFF ∷ [])
+    ++ (0x00 ∷ []))))))))))))
 
--- a, about 2; b, about T_1; a·a; its root; a + b; b; (a + b)·(a + b); that over a; its root, a + b
+-- a, about 2; b, about T_1; a·a; its root, a; a + b; b; (a + b)·(a + b); that over a; its root, a + b; (a + b) + a; (a + b)·a
 abbrev pub exampleCommands : List Command
 exampleCommands =
     result (load (modelBy 0 (2097152 ∷ []) 16384))
@@ -41,10 +43,12 @@ exampleCommands =
     ∷ result (multiply 0 0 0)
     ∷ result (root byDiscriminant 2 (modelBy 0 (2097152 ∷ []) 0) (modelBy 0 (262144 ∷ []) 0))
     ∷ result (add 3 1)
-    ∷ result (subtract 4 0)
+    ∷ result (subtract 4 3)
     ∷ result (multiply 4 4 32)
     ∷ result (quotient 6 3 (modelBy 2 (2359296 ∷ 2097152 ∷ 262144 ∷ []) 0) (modelBy 0 (524288 ∷ []) 0))
     ∷ result (root byDiscriminant 6 (modelBy 1 (2097152 ∷ 1048576 ∷ []) 0) (modelBy 0 (262144 ∷ []) 0))
+    ∷ result (add 8 3)
+    ∷ result (multiply 8 3 32)
     ∷ []
 
 abbrev pub exampleResults : List Model
@@ -54,10 +58,12 @@ exampleResults =
     ∷ modelBy 0 (4194304 ∷ []) 65792
     ∷ modelBy 0 (2097152 ∷ []) 32896
     ∷ modelBy 1 (2097152 ∷ 1048576 ∷ []) 49280
-    ∷ modelBy 1 (0 ∷ 1048576 ∷ []) 65664
+    ∷ modelBy 1 (0 ∷ 1048576 ∷ []) 82176
     ∷ modelBy 2 (4718592 ∷ 4194304 ∷ 524288 ∷ []) 297997
     ∷ modelBy 2 (2359296 ∷ 2097152 ∷ 262144 ∷ []) 226569
     ∷ modelBy 1 (2097152 ∷ 1048576 ∷ []) 298000
+    ∷ modelBy 1 (4194304 ∷ 1048576 ∷ []) 330896
+    ∷ modelBy 1 (4194304 ∷ 2097152 ∷ []) 704037
     ∷ []
 
 pub example-read : jobReading exampleJob ≡ well exampleCommands

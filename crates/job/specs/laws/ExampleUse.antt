@@ -1,7 +1,7 @@
 -- Requirement 3 put to use on the job of ExampleJob.antt, from its definition alone and over areas that are long enough: the job is
--- accepted with its nine results, each is the model that 01 gives for it, and allows its exact value at 1/3.
+-- accepted with its eleven results, each is the model that 01 gives for it, and allows its exact value at 1/3.
 use mathlib.Core.Path.{_≡_, ap, sym, _∙_, subst, subst⁻¹}
-use mathlib.Core.Bool.{Bool, true≢false}
+use mathlib.Core.Bool.{Bool}
 use mathlib.Core.List.{List}
 use mathlib.Core.Logic.{inl, inr}
 use Prim.Native.Nat.{ℕ, _<_}
@@ -12,7 +12,8 @@ use lib.Signed.{leZ-yes}
 use Rattle.integer.specs.laws.FractionLaws.{whole-is}
 use Rattle.integer.specs.laws.PairLaws.{den-is}
 use Rattle.integer.specs.laws.FractionOrder.{fraction-le, fraction-neg}
-use Rattle.model.specs.definitions.Outcomes.{Passed, First, here, later}
+use Rattle.model.specs.definitions.Outcomes.{Passed}
+use Rattle.model.specs.laws.PlaceLaws.{none-first}
 use Rattle.model.specs.definitions.Values.{Allows, OnInterval}
 use Rattle.job.specs.definitions.Outcomes.{JobOutcome, accepted}
 use Rattle.job.specs.definitions.Order.{Meets}
@@ -32,10 +33,6 @@ inside : OnInterval third
 inside = record { above = simp (whole-is, fraction-neg, fraction-le, den-is) (leZ-yes tt); below = simp (whole-is, fraction-le, den-is) (leZ-yes tt) }
 
 -- ---- the job meets no numbered refusal
-
-none-first : {ps : List (Bool × ℕ)} {n : ℕ} → Passed ps → First ps n → ⊥
-none-first f (here t e) = true≢false (sym t ∙ f .0)
-none-first f (later t g) = none-first (f .1) g
 
 meets-none : {areas : List (Bool × ℕ)} → Passed areas → (n k : ℕ) → ¬ Meets areas exampleJob n k
 meets-none f n k (inl m) = none-first f (m .0)
@@ -64,24 +61,24 @@ module _ {areas : List (Bool × ℕ)} {answer : JobOutcome ℕ} {work : List ℤ
   models-are : modelsIn work (answered .0) ≡ exampleResults
   models-are = made-unique (subst (λ l. Made l (modelsIn work (answered .0))) commands-are (results .made)) made
 
-  count-is : answered .0 ≡ 9
+  count-is : answered .0 ≡ 11
   count-is = sym (length-modelsIn work (answered .0)) ∙ ap length models-are
 
-  -- it is accepted with nine results, and these are its models
-  pub example-answer : answer ≡ accepted 9
+  -- it is accepted with eleven results, and these are its models
+  pub example-answer : answer ≡ accepted 11
   example-answer = answered .1 ∙ ap accepted count-is
 
-  pub example-models : modelsIn work 9 ≡ exampleResults
+  pub example-models : modelsIn work 11 ≡ exampleResults
   example-models = ap (modelsIn work) (sym count-is) ∙ models-are
 
   -- its exact values at 1/3 are allowed by the models in the work area
-  pub example-allowed : (i : ℕ) → i < 9 → Allows (stretch work i) third (exampleValue i)
+  pub example-allowed : (i : ℕ) → i < 11 → Allows (stretch work i) third (exampleValue i)
   example-allowed i h =
       exact-allowed claim (answered .1) third inside (omega (arith, count-is))
       (subst⁻¹ (λ l. Exact l third exampleValue i) commands-are (example-exact i h))
 
   -- and its boxes overlap them
-  pub example-overlaps : (i : ℕ) → i < 9 → Overlaps (exampleBox i) (stretch work i) third
+  pub example-overlaps : (i : ℕ) → i < 11 → Overlaps (exampleBox i) (stretch work i) third
   example-overlaps i h =
       results .vouched i (omega (arith, count-is)) third inside .overlaps exampleBox
       (subst⁻¹ (λ l. Permitted l third exampleBox i) commands-are (example-permitted i h))

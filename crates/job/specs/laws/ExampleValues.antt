@@ -33,7 +33,7 @@ use Rattle.job.specs.definitions.ExactValues.{Exact, load-value, add-val
 abbrev pub third : ℚ
 third = pos 1 /1+ 2
 
--- a = 2 + 1/128; b = 1/3 + 1/96; a·a; a; a + b; b; (a + b)·(a + b); that over a; a + b
+-- a = 2 + 1/128; b = 1/3 + 1/96; a·a; a; a + b; b; (a + b)·(a + b); that over a; a + b; (a + b) + a; (a + b)·a
 abbrev exampleValues : List ℚ
 exampleValues =
     (pos 257 /1+ 127)
@@ -45,6 +45,8 @@ exampleValues =
     ∷ (pos 90601 /1+ 16383)
     ∷ (pos 90601 /1+ 32895)
     ∷ (pos 301 /1+ 127)
+    ∷ (pos 279 /1+ 63)
+    ∷ (pos 77357 /1+ 16383)
     ∷ []
 
 abbrev pub exampleValue : ℕ → ℚ
@@ -118,7 +120,7 @@ exact-4 : Found 4
 exact-4 = add-value 4 3 1 refl exact-3 exact-1 (simp fraction-add (fraction-eq _ _ _ _ (simp (den-mul, den-is))))
 
 exact-5 : Found 5
-exact-5 = subtract-value 5 4 0 refl exact-4 exact-0 (simp (fraction-neg, fraction-add) (fraction-eq _ _ _ _ (simp (den-mul, den-is))))
+exact-5 = subtract-value 5 4 3 refl exact-4 exact-3 (simp (fraction-neg, fraction-add) (fraction-eq _ _ _ _ (simp (den-mul, den-is))))
 
 exact-6 : Found 6
 exact-6 = multiply-value 6 4 4 32 refl exact-4 exact-4 (simp fraction-mul (fraction-eq _ _ _ _ (simp (den-mul, den-is))))
@@ -131,6 +133,14 @@ exact-7 =
 exact-8 : Found 8
 exact-8 = root-value 8 6 _ _ _ refl exact-6 (simp (whole-is, fraction-le, den-is) (leZ-yes tt)) (simp fraction-mul (fraction-eq _ _ _ _ (simp (den-mul, den-is))))
 
+exact-9 : Found 9
+exact-9 = add-value 9 8 3 refl exact-8 exact-3 (simp fraction-add (fraction-eq _ _ _ _ (simp (den-mul, den-is))))
+
+exact-10 : Found 10
+exact-10 = multiply-value 10 8 3 32 refl exact-8 exact-3 (simp fraction-mul (fraction-eq _ _ _ _ (simp (den-mul, den-is))))
+
 -- every value of the example is exact
-pub example-exact : (i : ℕ) → i < 9 → Found i
-example-exact = upto-at Found 9 (((((((((tt, exact-0), exact-1), exact-2), exact-3), exact-4), exact-5), exact-6), exact-7), exact-8)
+pub example-exact : (i : ℕ) → i < 11 → Found i
+example-exact =
+    upto-at Found 11
+    (((((((((((tt, exact-0), exact-1), exact-2), exact-3), exact-4), exact-5), exact-6), exact-7), exact-8), exact-9), exact-10)

@@ -9,14 +9,14 @@ use lib.IntN.{ℤ}
 use lib.ListN.{length, take, length-append, List·getD-append}
 use lib.Seq.{getD-at, take-length}
 use Rattle.model.specs.definitions.Outcomes.{Outcome, Passed, First}
-use Rattle.model.specs.laws.PlaceLaws.{passing-passed, passing-unrefused, refused-not-accepted, first-parts, passing-first}
+use Rattle.model.specs.laws.PlaceLaws.{passing-passed, passing-unrefused, refused-not-accepted, first-parts, passing-first, none-first}
 use Rattle.model.specs.declared.types.Model.{Model}
 use Rattle.job.specs.definitions.Makers.{Maker, makerPlaces, operation, resultAt}
 use Rattle.job.specs.definitions.Commands.{Command, edition, result, finish, unknown, commandRead, nextAt, readingPlaces}
 use Rattle.job.specs.definitions.JobReading.{JobReading, well, ill, readOn, readFrom, jobReading, commandFor}
 use Rattle.job.specs.definitions.Outcomes.{JobOutcome, accepted}
 use Rattle.job.specs.definitions.Order.{operationPlaces, commandPlaces, RefusesAt}
-use Rattle.job.specs.laws.CommandLaws.{operation-refuses, nowhere}
+use Rattle.job.specs.laws.CommandLaws.{operation-refuses}
 use Rattle.job.specs.definitions.Requirement.{Made, Requirement3}
 use Rattle.job.specs.laws.MadeLaws.{made-length, made-at, MadeBy}
 use Rattle.job.specs.laws.MadeUnique.{same-first}
@@ -73,10 +73,10 @@ module _ {cs : List Command} {rs : List Model} (made : Made cs rs) where
 
   by-operation : (k : ℕ) (next : List Command → JobReading) (cs₀ : List Command) {rs₀ : List Model} (n : ℕ) (c : Command) → Made cs₀ rs₀
       → readOn k next cs₀ c ≡ well cs → ((l : List Command) → next l ≡ well cs → Begins l cs) → First (operationPlaces c rs₀) n → ⊥
-  by-operation k next cs₀ {rs₀} n edition d e r f = nowhere rs₀ 0 n f
+  by-operation k next cs₀ n edition d e r f = none-first tt f
   by-operation k next cs₀ n (result m) d e r f = refuses-none n m d (r (cs₀ ++ (result m ∷ [])) e) f
-  by-operation k next cs₀ {rs₀} n finish d e r f = nowhere rs₀ 0 n f
-  by-operation k next cs₀ {rs₀} n unknown d e r f = nowhere rs₀ 0 n f
+  by-operation k next cs₀ n finish d e r f = none-first tt f
+  by-operation k next cs₀ n unknown d e r f = none-first tt f
 
   refuses-nowhere : (job : List ℕ) → jobReading job ≡ well cs → (n k : ℕ) → ¬ RefusesAt job n k
   unfolding commandPlaces

@@ -1,13 +1,13 @@
 -- Requirement 3 of a refused answer, and with further lent areas.
 use mathlib.Core.Path.{_≡_}
 use mathlib.Core.Bool.{Bool}
-use mathlib.Core.List.{List, [], _∷_, _++_}
+use mathlib.Core.List.{List, _++_}
 use mathlib.Core.Logic.{inl, inr}
 use Prim.Native.Nat.{ℕ}
 use native.Mathlib.Omega.{arith}
 use lib.IntN.{ℤ}
-use Rattle.model.specs.laws.PlaceLaws.{passed-append}
-use Rattle.model.specs.definitions.Outcomes.{Passed, First, later}
+use Rattle.model.specs.laws.PlaceLaws.{passed-append, first-behind}
+use Rattle.model.specs.definitions.Outcomes.{Passed}
 use Rattle.job.specs.definitions.Outcomes.{JobOutcome, refused}
 use Rattle.job.specs.definitions.Order.{Meets}
 use Rattle.job.specs.definitions.Requirement.{Requirement3}
@@ -21,10 +21,6 @@ refused-required {n} {k} m n′ k′ work = record {
 }
 
 -- ---- lent areas in front that are long enough
-
-first-behind : (ps : List (Bool × ℕ)) {qs : List (Bool × ℕ)} {n : ℕ} → Passed ps → First qs n → First (ps ++ qs) n
-first-behind [] f g = g
-first-behind (p ∷ ps) f g = later (f .0) (first-behind ps (f .1) g)
 
 module _ (ps : List (Bool × ℕ)) (f : Passed ps) {qs : List (Bool × ℕ)} {job : List ℕ} where
   meets-behind : {n k : ℕ} → Meets qs job n k → Meets (ps ++ qs) job n k

@@ -1,7 +1,7 @@
 -- Lists of places (Outcomes.antt): an outcome accepts exactly if no condition holds, and then has the operation's own values.
-use mathlib.Core.Path.{_≡_, refl, sym, ap}
+use mathlib.Core.Path.{_≡_, refl, sym, ap, _∙_}
 use mathlib.Core.Logic.{_↔_, _≢_, _⊎_, inl, inr}
-use mathlib.Core.Bool.{Bool, true, false, not, cond}
+use mathlib.Core.Bool.{Bool, true, false, true≢false, not, cond}
 use mathlib.Core.List.{List, [], _∷_, _++_}
 use Prim.Native.Nat.{ℕ}
 use native.Mathlib.Omega.{arith}
@@ -52,6 +52,11 @@ first-or-passed (p ∷ ps) = by (p .0) refl (first-or-passed ps)
     by false e (inl f) = inl (f .0, later e (f .1))
     by false e (inr f) = inr (e, f)
 
+-- not both
+pub none-first : {ps : List (Bool × ℕ)} {n : ℕ} → Passed ps → First ps n → ⊥
+none-first f (here t e) = true≢false (sym t ∙ f .0)
+none-first f (later t g) = none-first (f .1) g
+
 -- ---- the same of outcomes
 
 module _ {A : Type 0} where
@@ -97,6 +102,10 @@ first-parts (p ∷ ps) qs {n} (later t f) = by (first-parts ps qs f)
     by : First ps n ⊎ (Passed ps × First qs n) → First (p ∷ ps) n ⊎ (Passed (p ∷ ps) × First qs n)
     by (inl g) = inl (later t g)
     by (inr g) = inr ((t, g .0), g .1)
+
+pub first-behind : (ps : List (Bool × ℕ)) {qs : List (Bool × ℕ)} {n : ℕ} → Passed ps → First qs n → First (ps ++ qs) n
+first-behind [] f g = g
+first-behind (p ∷ ps) f g = later (f .0) (first-behind ps (f .1) g)
 
 -- the place "not (good m)" passes
 pub not-of-true : (t : Bool) → t ≡ true → not t ≡ false
