@@ -24,8 +24,8 @@ use Rattle.certificate.specs.declared.types.TestOutcome.{TestOutcome}
 abbrev pub scratchSize : ℕ
 scratchSize = productSize
 
--- "These are zero after every call, unless the scratch itself or a work area was too short; numbers behind them stay." A test has no
--- work area.
+-- "These are zero after every call, unless the scratch itself or a work area was too short; numbers behind them stay." A test
+-- has no work area.
 unfoldable pub scratchAfter : List ℤ → List ℤ
 scratchAfter s = cond (leb scratchSize (length s)) (replicate scratchSize (pos 0) ++ drop scratchSize s) s
 

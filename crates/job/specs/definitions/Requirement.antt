@@ -110,8 +110,8 @@ pub record Results (job : List ℕ) (count : ℕ) (work : List ℤ) : Type 0 whe
   -- "Of each result the following then holds at every fraction from -1 to 1."
   pub vouched : (i : ℕ) → i < count → (x : ℚ) → OnInterval x → Vouched commands work i x
 
--- "For every list of bytes …, whatever the lent areas held before:" of the places that the areas can be refused at, the bytes, the
--- answer, and the work area as left
+-- "For every list of bytes …, whatever the lent areas held before:" of the places that the areas can be refused at, the bytes,
+-- the answer, and the work area as left
 pub record Requirement3 (areas : List (Bool × ℕ)) (job : List ℕ) (answer : JobOutcome ℕ) (work : List ℤ) : Type 0 where
   -- "it is accepted if it meets no numbered refusal,"
   pub accepts : ((n k : ℕ) → ¬ Meets areas job n k) → (count : ℕ) × (answer ≡ accepted count)

@@ -62,7 +62,7 @@ module _ {areas : List (Bool × ℕ)} {job : List ℕ} {answer : JobOutcome ℕ}
   cs = vouchedFor .commands
 
   module _ (x : ℚ) (on : OnInterval x) where
-    -- "allowed by the result's model in the work area"
+    -- it is allowed by the result's model in the work area
     pub exact-allowed : {v : ℕ → ℚ} {i : ℕ} → i < count → Exact cs x v i → Allows (stretch work i) x (v i)
     exact-allowed {v} {i} h p =
         let o = vouchedFor .vouched i h x on .overlaps (λ j. point (v j)) (exact-permitted p) in
