@@ -12,6 +12,7 @@ LIBRARY ?= target/staticlib/libferruntzo.a
 PROGRAM ?= target/bin/jobcheck
 
 VERSION := $(shell sed -n 's/^\#define FERRUNTZO_VERSION "\(.*\)"/\1/p' include/ferruntzo.h)
+SOURCES := crates.txt $(shell find crates -name '*.rt' -o -name '*.antt')
 MODULES := $(wildcard tools/ferruntzo_tool/*.py)
 INSTALL ?= install
 
@@ -21,7 +22,7 @@ lib := $(root)/lib
 share := $(root)/share/ferruntzo
 man := $(root)/share/man
 doc := $(root)/share/doc/ferruntzo
-DOCS := README.md CHANGELOG.md docs/MEANING.md docs/FORMAT.md
+DOCS := README.md CHANGELOG.md docs/MEANING.md docs/FORMAT.md docs/show.png
 
 .PHONY: all help install uninstall check
 
@@ -33,11 +34,14 @@ help:
 	@echo 'make uninstall PREFIX=DIR  removes what install wrote'
 	@echo 'make check                 runs the gate, .ci/run'
 
-$(LIBRARY):
+# rt leaves a result that has not changed as it is; touch keeps make from asking again.
+target/staticlib/libferruntzo.a: $(SOURCES)
 	scripts/build_library
+	touch -c $@
 
-$(PROGRAM):
+target/bin/jobcheck: $(SOURCES)
 	rt check jobcheck
+	touch -c $@
 
 check:
 	.ci/run

@@ -72,7 +72,7 @@ def accident():
     return job.ended()
 
 
-def accident_honest():
+def accident_covered():
     """The same stretch as the solver makes it: every load's radius covers rounding and cut."""
     whole, curve = accident_stretch()
     return solver.solve_stretch(whole, curve.bur, curve.side).job.ended()
@@ -132,7 +132,7 @@ def between_instants():
 
 
 EXAMPLES = {'root_of_4': example_job, 'stretch': stretch, 'stretch32': stretch32, 'accident': accident,
-            'accident_honest': accident_honest, 'accident_degree_12': accident_degree_12,
+            'accident_covered': accident_covered, 'accident_degree_12': accident_degree_12,
             'most_work': most_work, 'most_quotients': most_quotients, 'refused': refused,
             'between_instants': between_instants}
 
@@ -141,7 +141,7 @@ def main():
     folder = Path(sys.argv[1]) if len(sys.argv) > 1 else HERE
     for name, make in EXAMPLES.items():
         job = make()
-        text = o.report_text(job)
+        text = o.printed(job)
         (folder / f'{name}.job').write_bytes(job)
         (folder / f'{name}.expected').write_text(text)
         last = text.splitlines()[-1]

@@ -63,7 +63,7 @@ def plain(stretch, **more):
 def from_rounded(stretch, radius_of):
     """The normal as the derivative of the rounded x and y, with a radius of the caller's choice."""
     scale = max(solver.largest_scale(stretch, MAX_DEGREE), 0)
-    x, y = (solver.honest(stretch, solver.plain(stretch, axis), MAX_DEGREE) for axis in (0, 1))
+    x, y = (solver.covering(stretch, solver.plain(stretch, axis), MAX_DEGREE) for axis in (0, 1))
 
     def derived(m, axis, sign):
         made = exact.derivative(exact.Series(m.coefficients[:m.degree + 1], 1), sign << scale)
@@ -123,7 +123,7 @@ def changed_bits(count):
 def main():
     print('changed bits: accepted, beyond 2 µm, within it and moved', changed_bits(1500))
     print('stretches: normal rounded last: its radius, path, error; derivative of the rounded series, radius 0: path, '
-          'error; with its honest radius: path; with k²/2: path')
+          'error; with the radius that covers it: path; with k²/2: path')
     for n in (1, 2, 4, 8, 32):
         ways = [lambda *_: 0, lambda m, k, true, made: exact.distance(true, exact.Series(made.row, 1)),
                 lambda m, k, true, made: up(sum(j * j for j in range(m.degree + 1)) << k, 2)]

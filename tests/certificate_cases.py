@@ -63,7 +63,7 @@ def fixed_quotient():
     for w in (S - 7, S, S + 1, S + S // 2, 2 * S - 1):
         for f in (LIMIT // 2, LIMIT - 1, LIMIT):
             yield quotient_case(constant(f), one, constant(0), constant(w))
-    # f longer than C(g, h): all its places count (blueprint A-7).
+    # f longer than C(g, h): all its places count.
     for place in range(1, COEFFICIENTS):
         yield quotient_case(model([S] + [0] * (place - 1) + [S]), one, one, one)
     # The longest lists: the last of the 65 numbers counts.
@@ -192,12 +192,12 @@ def fixed_root():
             yield root_case(constant(int(border) + extra), constant(int(big)), constant(int(small)))
             yield root_case(constant(int(border) + 3, max(0, 3 + extra)), constant(int(big)),
                             constant(int(small)))
-    # The same with m far from zero (blueprint A-2): 8 b M = 144 = 12^2.
+    # The same with m far from zero: 8 b M = 144 = 12^2.
     for f in (116508, 116509, 116510):
         for h_units in (349525, 349526, 349527):
             for w_units in (17, 18, 19):
                 yield root_case(constant(f), constant(h_units), constant(w_units))
-    # 8 b M past 64 bits (blueprint B8.1) and N = 2^28 and one more beside it.
+    # 8 b M past 64 bits and N = 2^28 and one more beside it.
     for e in (0, 3, 4, 5, LIMIT):
         yield root_case(constant(LIMIT, e), constant(1 << 11), constant(LIMIT))
         yield root_case(constant(-LIMIT, e), constant(1 << 11), constant(LIMIT))

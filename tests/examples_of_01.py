@@ -44,20 +44,20 @@ def check_examples():
 
     # The first slip: the negative pair for the root of 4S.
     assert o.root(constant(4 * S), constant(-2 * S), constant(-S // 4))[0] == 7
-    # 8 b M past 64 bits (blueprint B8.1), signed and unsigned.
+    # 8 b M past 64 bits, signed and unsigned.
     for radius in (0, 4):
         assert o.root(constant(1 << 28, radius), constant(1 << 11),
                       constant(1 << 28))[0] == 8
-    # f longer than C(g, h) (blueprint A-7).
+    # f longer than C(g, h).
     one = constant(S)
     number, result, m, n, b = o.quotient(model([S, 0, 0, 0, 0, S]), one, one, one)
     assert (number, m, n, b, result.radius) == (0, 0, S, S, S)
     # The example job and its text.
     job = example_job()
     assert o.check_job(job) == ('accepted', 2, [constant(4 * S), constant(2 * S)])
-    assert o.report_text(job) == '0 0 0\n1 0 0\naccepted 2\n'
-    assert o.report_text(b'') == 'refused 10 0\n'
-    assert o.report_text(bytes(65537)) == 'too long\n'
+    assert o.printed(job) == '0 0 0\n1 0 0\naccepted 2\n'
+    assert o.printed(b'') == 'refused 10 0\n'
+    assert o.printed(bytes(65537)) == 'too long\n'
 
 
 def example_job():

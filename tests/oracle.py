@@ -384,7 +384,7 @@ def check_job(job):
         command += 1
 
 
-def report_text(job):
+def printed(job):
     """What the program prints for a job."""
     if len(job) > PROGRAM_JOB_BYTES:
         return 'too long\n'

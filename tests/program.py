@@ -45,7 +45,7 @@ class Run(NamedTuple):
 
 
 def read_whole(name, way, job):
-    return Run(name, way, job, o.report_text(job).encode())
+    return Run(name, way, job, o.printed(job).encode())
 
 
 class Feed:
@@ -255,7 +255,7 @@ def random_runs(feed, count, rng):
 def planted_text(run):
     """Where a read fails, what would be right if the input had ended there."""
     if run.text == UNREADABLE:
-        return o.report_text(run.job).encode()
+        return o.printed(run.job).encode()
     return run.text.replace(b'accepted', b'refused').replace(b'\n', b'1\n', 1)
 
 

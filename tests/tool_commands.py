@@ -7,6 +7,7 @@ the whole corpus of job tests, list and assemble round trips, the page, versions
 import argparse
 import os
 import re
+import resource
 import subprocess
 import sys
 import tempfile
@@ -21,8 +22,9 @@ sys.path.insert(0, str(ROOT / 'tools'))
 
 from examples_of_01 import example_job                                  # noqa: E402
 from ferruntzo_tool import __version__, explain, program                # noqa: E402
-from ferruntzo_tool.reading import Checked                              # noqa: E402
-from ferruntzo_tool.tables import COMMANDS, REFUSALS, in_micrometres    # noqa: E402
+from ferruntzo_tool.reading import Checked, split                       # noqa: E402
+from ferruntzo_tool.tables import (COMMANDS, MAX_DEGREE, REFUSALS,      # noqa: E402
+                                   in_micrometres, is_load)
 from ferruntzo_tool.text import assemble, listing                       # noqa: E402
 from job_cases import RandomJobs, fixed_check                           # noqa: E402
 
@@ -110,6 +112,10 @@ def statuses(run, folder, checker):
     (folder / 'long.job').write_bytes(bytes(70000))
     (folder / 'empty.job').write_bytes(b'')
     (folder / 'none.job').write_bytes(b'\x01\x01\x00')
+    padded = bytearray(cut.read_bytes())
+    for at in [step.offsets['model'] for step in split(cut.read_bytes())[0] if is_load(step)]:
+        padded[at] = MAX_DEGREE
+    (folder / 'padded.job').write_bytes(padded)
     stub = {'silent': '', 'unreadable': 'echo unreadable', 'odd': 'echo accepted 3', 'killed': 'kill -9 $$',
             'liar': 'cat >/dev/null; printf "0 0 0\\naccepted 1\\n"'}
     for name, body in stub.items():
@@ -122,8 +128,10 @@ def statuses(run, folder, checker):
         (0, 'check', wide, '--limit-um', 'none'), (1, 'check', wide), (1, 'check', refused),
         (1, 'check', example, refused), (2, 'check', example, folder / 'nosuch'), (2, 'check', folder / 'long.job'),
         (1, 'check', folder / 'empty.job'), (1, 'check', folder / 'none.job'), (0, 'check', cut),
-        (1, 'check', cut, '--strict'), (2, 'check', folder), (2, 'check', example, '--jobcheck', folder / 'nosuch'),
-        *((2, 'check', example, '--jobcheck', folder / name) for name in ('silent', 'unreadable', 'odd', 'killed')),
+        (1, 'check', cut, '--strict'), (2, 'check', folder), (1, 'check', folder / 'padded.job', '--strict'),
+        (2, 'check', example, '--jobcheck', folder / 'nosuch'),
+        *((2, 'check', example, '--jobcheck', folder / name) for name in ('silent', 'unreadable', 'odd', 'killed',
+                                                                               'liar')),
         (2, 'check', example, '--limit-um', 'x'), (2, 'check', example, '--results', '40'), (2, 'check'),
         (2, 'check', example, '--limit-um', '-1'), (2, 'nosuch'),
         (0, 'explain', example), (1, 'explain', refused), (2, 'explain', folder / 'nosuch'),
@@ -143,6 +151,41 @@ def statuses(run, folder, checker):
             expect('no traceback', 'Traceback' not in done.stdout + done.stderr, told)
             if row[0] == 2:
                 expect('a message', done.stderr.strip() or 'NOT checked' in done.stdout, told)
+
+
+def lacks(run, folder):
+    """Not enough room or memory, and file names that are no UTF-8: a status, and no traceback."""
+    example = ROOT / 'examples/stretch.job'
+    named = folder / os.fsdecode(b'\xff.job')
+    named.write_bytes(example.read_bytes())
+    for command in (('check', named), ('explain', named), ('list', named), ('show', named, '-o', folder / 'page.html')):
+        done = run(*command)
+        expect('a file name that is no UTF-8', done.returncode == 0, f'{command[0]}: {done.stderr[-300:]}')
+    with open('/dev/full', 'wb') as full:
+        for command in (('check', example), ('check', *[example] * 300), ('explain', example), ('list', example),
+                        ('solve', ROOT / 'examples/accident.json')):
+            done = run(*command, stdout=full)
+            expect('output that cannot be written', done.returncode == 2 and 'Traceback' not in done.stderr
+                   and 'No space' in done.stderr, f'{command[0]}: {done.returncode} {done.stderr[-300:]}')
+    large = folder / 'large'
+    large.touch()
+    os.truncate(large, 3 << 30)
+    done = run('list', large, preexec_fn=lambda: resource.setrlimit(resource.RLIMIT_AS, (1 << 30, 1 << 30)))
+    large.unlink()
+    expect('not enough memory', done.returncode == 2 and 'memory' in done.stderr and 'Traceback' not in done.stderr,
+           f'{done.returncode} {done.stderr[-300:]}')
+
+
+def differences(run, folder):
+    """A program that differs from the tool only in a radius is told by the line."""
+    example = ROOT / 'examples/root_of_4.job'
+    other = folder / 'other'
+    other.write_text('#!/bin/sh\ncat >/dev/null; printf "0 0 0\\n1 0 7\\naccepted 2\\n"\n')
+    other.chmod(0o755)
+    for command, wanted in ((('explain', example), 'line 2 of jobcheck is "1 0 7", of this explanation "1 0 0"'),
+                            (('show', example, '-o', folder / 'page.html'), 'another version. No page')):
+        done = run(*command, '--jobcheck', other)
+        expect('a difference is named', done.returncode == 2 and wanted in done.stderr, done.stderr)
 
 
 def words(run, folder):
@@ -206,9 +249,10 @@ def main():
     options = parser.parse_args()
     environment = {**os.environ, 'FERRUNTZO_JOBCHECK': options.jobcheck, 'PYTHONDONTWRITEBYTECODE': '1'}
 
-    def run(*words):
-        return subprocess.run([options.tool, *map(str, words)], stdin=subprocess.DEVNULL, capture_output=True,
-                              text=True, env=environment, check=False, encoding='utf-8', errors='replace')
+    def run(*words, stdout=subprocess.PIPE, **more):
+        return subprocess.run([options.tool, *map(str, words)], stdin=subprocess.DEVNULL, stdout=stdout,
+                              stderr=subprocess.PIPE, env=environment, check=False, encoding='utf-8', errors='replace',
+                              **more)
 
     rng = Random(options.seed)
     jobs = corpus(options.cases, rng)
@@ -221,6 +265,8 @@ def main():
             explained(jobs, rng)
             round_trips(jobs)
             statuses(run, folder, options.jobcheck)
+            lacks(run, folder)
+            differences(run, folder)
             words(run, folder)
             pages(run, folder)
         numbers()

@@ -13,6 +13,7 @@ from pathlib import Path
 ROOT = Path(__file__).resolve().parent.parent
 sys.path.insert(0, str(ROOT / 'tools'))
 
+from header import BLOCK_BYTES, COEFFICIENTS, MAX_DEGREE               # noqa: E402
 from ferruntzo_tool import explain                                      # noqa: E402
 from ferruntzo_tool.reading import Checked, read_block, split, write_block  # noqa: E402
 from ferruntzo_tool.tables import S                                     # noqa: E402
@@ -22,6 +23,7 @@ STEPS = split(GOOD)[0]
 ROOT_STEP = next(step for step in STEPS if step.command.name == 'root')
 QUOTIENT = next(step for step in STEPS if step.command.name == 'quotient')
 LOADS = [step for step in STEPS if step.command.name == 'load']
+LITTLE, BIG = f'<{COEFFICIENTS}i', f'>{COEFFICIENTS}i'
 H, W = ROOT_STEP.offsets['h'], ROOT_STEP.offsets['w']
 
 
@@ -32,11 +34,11 @@ def blocks():
 
 def put(job, at, change, degree=None):
     """The job with the coefficients of the block at an offset changed."""
-    m = read_block(job[at:at + 133])
+    m = read_block(job[at:at + BLOCK_BYTES])
     row = change(m.coefficients, m.degree)
-    row = row + [0] * (33 - len(row))
+    row = row + [0] * (COEFFICIENTS - len(row))
     return job[:at] + write_block(m._replace(coefficients=row, degree=m.degree if degree is None
-                                             else degree(m.degree))) + job[at + 133:]
+                                             else degree(m.degree))) + job[at + BLOCK_BYTES:]
 
 
 def everywhere(change, places):
@@ -47,11 +49,12 @@ def everywhere(change, places):
 
 
 def big(row, _):
-    return list(struct.unpack('<33i', struct.pack('>33i', *row)))
+    return list(struct.unpack(LITTLE, struct.pack(BIG, *row)))
 
 
 def big_raw(job, at):
-    return job[:at + 1] + struct.pack('>33i', *struct.unpack('<33i', job[at + 1:at + 133])) + job[at + 133:]
+    end = at + BLOCK_BYTES
+    return job[:at + 1] + struct.pack(BIG, *struct.unpack(LITTLE, job[at + 1:end])) + job[end:]
 
 
 def big_all(places):
@@ -68,14 +71,14 @@ def shorter(keep):
         made += bytes([step.command.byte])
         for kind, name in step.command.operands:
             at = step.offsets[name]
-            raw = GOOD[at:at + {'block': 133, 'radius': 4}.get(kind, 1)]
+            raw = GOOD[at:at + {'block': BLOCK_BYTES, 'radius': 4}.get(kind, 1)]
             made += keep(kind, raw)
     return made
 
 
 def power_basis(row, degree):
     """Coefficients of T_k turned into those of powers of x, rounded."""
-    terms, polys = [0.0] * 33, [[1.0], [0.0, 1.0]]
+    terms, polys = [0.0] * COEFFICIENTS, [[1.0], [0.0, 1.0]]
     while len(polys) <= degree:
         one, two = polys[-2:]
         made = [0.0] + [2 * c for c in two]
@@ -117,7 +120,7 @@ MISTAKES = [
     ('h of f/2', put(GOOD, H, lambda r, n: [int(c / sqrt(2)) for c in r]), 'times f all along'),
     ('h mirrored', put(GOOD, H, lambda r, n: [c * (-1) ** k for k, c in enumerate(r)]), 'h runs the other way'),
     ('h reversed', put(GOOD, H, reverse), 'h has its coefficients in reverse'),
-    ('h reversed over 33', put(GOOD, H, lambda r, n: r[::-1], lambda n: 32), 'in reverse (T_32 first)'),
+    ('h reversed over 33', put(GOOD, H, lambda r, n: r[::-1], lambda n: MAX_DEGREE), 'in reverse (T_32 first)'),
     ('every block reversed', everywhere(reverse, blocks()), 'every block has its coefficients in reverse'),
     ('w reversed', put(GOOD, W, reverse), 'w has its coefficients in reverse'),
     ('c_0 doubled in h', put(GOOD, H, lambda r, n: [2 * r[0], *r[1:]]), 'h has c_0 doubled'),
@@ -135,10 +138,10 @@ MISTAKES = [
     ('h in mm', put(GOOD, H, lambda r, n: [round(c / S) for c in r]), 'in millimetres'),
     ('w in mm', put(GOOD, W, lambda r, n: [round(c / S) for c in r]), 'in millimetres'),
     ('loads in mm', everywhere(lambda r, n: [round(c / S) for c in r], LOAD_BLOCKS), 'in millimetres'),
-    ('floats for units', everywhere(lambda r, n: list(struct.unpack('<33i', struct.pack(
-        '<33f', *(c / S for c in r)))), blocks()), '32-bit floating-point'),
+    ('floats for units', everywhere(lambda r, n: list(struct.unpack(LITTLE, struct.pack(
+        f'<{COEFFICIENTS}f', *(c / S for c in r)))), blocks()), '32-bit floating-point'),
     ('powers of x in h', put(GOOD, H, power_basis), 'powers of x'),
-    ('h and w exchanged', exchanged(ROOT_STEP, 'h', 'w', 133), 'h and w are exchanged'),
+    ('h and w exchanged', exchanged(ROOT_STEP, 'h', 'w', BLOCK_BYTES), 'h and w are exchanged'),
     ('operands of a quotient exchanged', exchanged(QUOTIENT, 'f', 'g', 1), 'f and g are exchanged'),
     ('sign of h and w', everywhere(lambda r, n: [-c for c in r], [H, W]), 'positive root'),
     ('short blocks', shorter(lambda kind, raw: raw[:1 + 4 * (raw[0] + 1)] if kind == 'block' else raw),

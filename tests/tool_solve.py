@@ -23,8 +23,8 @@ from ferruntzo_tool import covered, exact                               # noqa: 
 from ferruntzo_tool import solve as solver                              # noqa: E402
 from ferruntzo_tool.arithmetic import Refused                           # noqa: E402
 from ferruntzo_tool.curve import read_curve                             # noqa: E402
-from ferruntzo_tool.reading import Checked                              # noqa: E402
-from ferruntzo_tool.tables import S                                     # noqa: E402
+from ferruntzo_tool.reading import Checked, split                       # noqa: E402
+from ferruntzo_tool.tables import MAX_DEGREE, S, is_load                # noqa: E402
 
 wrong = []
 
@@ -73,7 +73,7 @@ def shipped(samples):
     run = accident.runs[0]
     whole = solver.cut_out(run, run[0].low, run[0].high)
     rows = [('stretch', margin, first, (13, 14), True), ('stretch32', margin, first, (13, 14), True),
-            ('stretch32', margin, second, (27, 28), True), ('accident_honest', accident, whole, (13, 14), True),
+            ('stretch32', margin, second, (27, 28), True), ('accident_covered', accident, whole, (13, 14), True),
             ('accident_degree_12', accident, whole, (13, 14), True), ('accident', accident, whole, (13, 14), False)]
     for name, curve, stretch, results, good in rows:
         job = (ROOT / 'examples' / f'{name}.job').read_bytes()
@@ -147,21 +147,30 @@ def random_margins(rng, samples, folder, count):
             expect('radius of a random margin', error <= solver.final(solved), f'{error} {solver.final(solved)}')
             expect('radius of its loads', load_error(solved, samples))
             text = solved.job.text()
-            expect('the oracle agrees', oracle.report_text(solved.job.ended()) == text)
+            expect('the oracle agrees', oracle.printed(solved.job.ended()) == text)
+
+
+def padded(job):
+    """The job with the degree byte of each load at 32, its coefficients as they were."""
+    made = bytearray(job)
+    for step in filter(is_load, split(job)[0]):
+        made[step.offsets['model']] = MAX_DEGREE
+    return bytes(made)
 
 
 def cautions(rng, samples, folder, count):
-    """A margin that was cut and loaded as exact gets a caution where the path is more than 2 µm off; an honest job
-    gets none."""
-    path, honest, cut = folder / 'curve.json', 0, 0
+    """A margin that was cut and loaded as exact gets a caution where the path is more than 2 µm off, whatever its
+    degree bytes; a job whose radii cover the cut gets none."""
+    path, covered_jobs, cut = folder / 'curve.json', 0, 0
     for _ in range(count):
         path.write_text(json.dumps(random_series(rng, (40,))))
         curve = read_curve(str(path))
         run = curve.runs[0]
         whole = solver.cut_out(run, run[0].low, run[0].high)
         solved = solver.solve_stretch(whole, curve.bur, curve.side)
-        honest += 1
-        expect('an honest job gets no caution', not covered.cautions(solved.job.ended()))
+        covered_jobs += 1
+        for job in (solved.job.ended(), padded(solved.job.ended())):
+            expect('a covered job gets no caution', not covered.cautions(job))
         for degree in (6, 8, 12, 16):
             rows = [exact.Series(exact.nearest(whole.parts[0][2 + axis], degree), 1) for axis in (0, 1)]
             job = solver.Job()
@@ -173,21 +182,24 @@ def cautions(rng, samples, folder, count):
             error = solver.verified(solved._replace(results=job.results), samples)
             if error * 1000 > 2 * S:
                 cut += 1
-                expect('a cut job gets a caution', covered.cautions(job.ended()),
-                       f'{error * 1000 / S} µm, degree {degree}')
-    print(f'cautions: {honest} honest jobs, {cut} cut jobs')
+                for written in (job.ended(), padded(job.ended())):
+                    expect('a cut job gets a caution', covered.cautions(written),
+                           f'{error * 1000 / S} µm, degree {degree}')
+    print(f'cautions: {covered_jobs} covered jobs, {cut} cut jobs')
 
 
 # ---- The command ----
 
 def commands(run, folder):
     examples = ROOT / 'examples'
-    text = folder / 'curve.txt'
+    text, line = folder / 'curve.txt', folder / 'line.json'
+    line.write_text('{"bur_mm": 0.3, "series_mm": [{"x": [0, 1], "y": [0]}]}')
     rows = [
         (0, '1 stretch,', 'solve', examples / 'accident.json', '--verify', '40', '-o', folder / 'out'),
         (1, 'BEYOND', 'solve', examples / 'accident.json', '--stretches', '1', '--degree', '12'),
         (0, '16 stretches,', 'solve', examples / 'margin.json', '--stretches', '4', '--limit-um', '0.02'),
         (0, 'against the margin itself', 'solve', examples / 'margin_points.txt', '--bur-mm', '0.6', '--verify', '10'),
+        (0, 'largest radius 1 unit =', 'solve', line),
         (2, 'radius of the bur', 'solve', examples / 'margin_points.txt'),
         (2, 'cannot be read', 'solve', folder / 'nosuch'),
         (2, 'jobcheck', 'solve', examples / 'accident.json', '--jobcheck', folder / 'nosuch'),
@@ -199,7 +211,7 @@ def commands(run, folder):
         expect('words of solve', words in done.stdout + done.stderr,
                f'{told}: {done.stdout[-200:]} {done.stderr[-200:]}')
     expect('jobs of solve are the examples', (folder / 'out/accident_0000.job').read_bytes()
-           == (examples / 'accident_honest.job').read_bytes())
+           == (examples / 'accident_covered.job').read_bytes())
     piece = '{"series_mm": [{"x": [%s], "y": [%s]}]}'
     bad = [
         ('{', 'no JSON'), ('{"points_mm": [[0, 0]]}', 'different points'), ('{"series_mm": [{"x": [1]}]}', '"y"'),
@@ -217,6 +229,30 @@ def commands(run, folder):
         done = run('solve', text, '--bur-mm', '0.5')
         expect('a bad curve', done.returncode == 2 and words in done.stderr and 'Traceback' not in done.stderr,
                f'{content}: {done.returncode} {done.stderr[-300:]}')
+
+
+def written(run, folder):
+    """The folder of the jobs holds those of the last run, or is as it was when a curve cannot be solved to its end."""
+    out, margin = folder / 'jobs', ROOT / 'examples/margin.json'
+
+    def jobs():
+        return sorted((path.name, path.read_bytes()) for path in out.glob('*'))
+    for stretches, count in ((4, 16), (1, 4)):
+        run('solve', margin, '--stretches', stretches, '--limit-um', 'none', '-o', out)
+        expect('as many jobs as stretches', len(jobs()) == count, f'{len(jobs())}, not {count}')
+    other = out / 'margin_upper_0099.job'
+    other.write_bytes(b'')
+    before = jobs()
+    run('solve', margin, '--stretches', 1, '--limit-um', 'none', '-o', out)
+    expect('jobs of another curve are kept', jobs() == before)
+    # The second piece turns back.
+    bad = folder / 'margin.json'
+    bad.write_text('{"bur_mm": 0.5, "series_mm": [{"x": [0, 1], "y": [0]}, {"x": [0, 0, 1], "y": [0, 0, 1]}]}')
+    done = run('solve', bad, '-o', out)
+    expect('an unsolvable stretch', done.returncode == 2 and f'{bad}: the stretch from' in done.stderr, done.stderr)
+    expect('a failed run writes nothing', jobs() == before)
+    done = run('solve', ROOT / 'examples/accident.json', '-o', bad)
+    expect('a folder that is none', done.returncode == 2 and f'{bad}: cannot be written' in done.stderr, done.stderr)
 
 
 def main():
@@ -240,6 +276,7 @@ def main():
         random_margins(rng, 14, Path(name), options.margins)
         cautions(rng, 14, Path(name), options.margins // 2)
         commands(run, Path(name))
+        written(run, Path(name))
     print(f'solve: {len(wrong)} wrong')
     sys.exit(1 if wrong else 0)
 

@@ -39,6 +39,10 @@ def verdict(name, job, answer, options):
         meaning = refusal.meaning if refusal else 'not known to this tool'
         return BEYOND, (f'{name}: REFUSED with {answer.refusal} at command {answer.command} (byte '
                         f'{place(job, answer.command)}): {meaning}. Do not mill. `ferruntzo explain` says more.')
+    made = sum(step.command.makes for step in split(job)[0])
+    if made != len(answer.radii):
+        raise NotChecked(f'{name}: results: jobcheck lists {len(answer.radii)}, the job makes {made}; the program '
+                         'may be of another version')
     if options.results is not None:
         results = options.results
         missing = [i for i in results if i >= len(answer.radii)]

@@ -11,7 +11,7 @@ DEFAULT_LIMIT = '2'
 
 STATUSES = '''exit status:
   0  accepted, and within the limit
-  1  refused, or beyond the limit
+  1  refused, beyond the limit, or with --strict a caution
   2  not checked: a file cannot be read, the program is missing or gave no verdict
 '''
 
@@ -109,7 +109,8 @@ def parser():
                    epilog='CURVE is a JSON file, or lines of x y in mm; docs/FORMAT.md has its form.\n\n'
                    'exit status: 0 all jobs within the limit, 1 some are not, 2 nothing made')
     made.add_argument('curve', metavar='CURVE')
-    made.add_argument('-o', '--output', metavar='FOLDER', help='where the jobs go (default: none)')
+    made.add_argument('-o', '--output', metavar='FOLDER', help='where the jobs go, in place of those '
+                      'of an earlier run (default: none are written)')
     made.add_argument('--bur-mm', type=positive, metavar='R', help="the bur's radius in mm")
     made.add_argument('--side', choices=('left', 'right'), help='of the direction of travel')
     made.add_argument('--stretches', type=count(1, 10000), metavar='N',
@@ -120,7 +121,7 @@ def parser():
                       '(default: as large as fits)')
     made.add_argument('--limit-um', metavar='X', default=DEFAULT_LIMIT)
     made.add_argument('--verify', type=count(1, 100000), metavar='K', default=0,
-                      help='compare with the margin itself at K points of each stretch, exactly')
+                      help='compare with the margin itself at K + 1 points of each stretch, exactly')
     checker(made)
     return top
 
@@ -158,9 +159,11 @@ def main():
         return status
     except argparse.ArgumentTypeError as error:
         top.error(str(error))
-    except BrokenPipeError:
-        # The reader of standard output has gone; what was not read cannot be a verdict.
+    except (OSError, MemoryError) as error:
+        # What standard output did not take is no verdict; the rest of its buffer must not fail at the end.
         os.dup2(os.open(os.devnull, os.O_WRONLY), sys.stdout.fileno())
+        if not isinstance(error, BrokenPipeError):
+            print(f'ferruntzo: {getattr(error, "strerror", None) or "not enough memory"}', file=sys.stderr)
         return 2
     except KeyboardInterrupt:
         return 2

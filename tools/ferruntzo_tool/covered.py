@@ -1,7 +1,7 @@
 """What a verdict covers: the loaded curves with their radii, and nothing beyond them."""
 
 from .reading import split
-from .tables import MAX_DEGREE, in_micrometres, is_load
+from .tables import in_micrometres, is_load
 
 LEAST_DEGREE = 4                # a curve of a lower degree is hardly ever cut
 ROUNDING = 17                   # half a unit for each of 33 coefficients
@@ -18,17 +18,19 @@ def loads(job):
 
 
 def beyond(m):
-    """About how large the first coefficients beyond the degree would be if the series went on as its
+    """About how large the first coefficients beyond the last one would be if the series went on as its
     last two pairs do. Pairs, since every other coefficient may be zero."""
-    if not LEAST_DEGREE <= m.degree <= MAX_DEGREE:
+    # The degree byte may be larger than the degree: zeros up to it are allowed.
+    degree = max((k for k, a in enumerate(m.coefficients) if a), default=0)
+    if degree < LEAST_DEGREE:
         return 0
-    last, former = (max(map(abs, m.coefficients[k - 1:k + 1])) for k in (m.degree, m.degree - 2))
+    last, former = (max(map(abs, m.coefficients[k - 1:k + 1])) for k in (degree, degree - 2))
     return last if last >= former else last * last // former
 
 
 def cut(m):
-    """Whether a load looks like a series that was cut off early: what seems to lie beyond its degree
-    is much larger than its radius and the rounding together (a guess from four coefficients)."""
+    """Whether a load looks like a series that was cut off early: what seems to lie beyond its last
+    coefficient is much larger than its radius and the rounding together (a guess from four coefficients)."""
     return beyond(m) > 8 * m.radius + ROUNDING
 
 
@@ -36,7 +38,7 @@ def cautions(job):
     """A line for each load that looks cut without a radius for it."""
     return [f'result {i} is loaded with radius {m.radius:,} ({in_micrometres(m.radius)}), but its '
             f'coefficients fall so slowly that {beyond(m):,} units ({in_micrometres(beyond(m))}) and more '
-            'may lie beyond its degree; if the curve was cut there, that is NOT covered'
+            'may lie beyond the last one; if the curve was cut there, that is NOT covered'
             for i, m in loads(job) if cut(m)]
 
 

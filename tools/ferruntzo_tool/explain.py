@@ -1,6 +1,7 @@
 """explain: a job command by command in the tool's own exact arithmetic."""
 
 import sys
+from itertools import zip_longest
 
 from . import arithmetic as ar
 from . import covered, misfit, misread, program
@@ -122,9 +123,9 @@ def main(options):
         print(f'ferruntzo: {error}. Only jobcheck decides, and it has not.', file=sys.stderr)
         return 2
     if answer.text != checked.text():
-        said = answer.text.splitlines()[-1]
-        own = checked.text().splitlines()[-1]
-        print(f'ferruntzo: {name}: jobcheck says "{said}", this explanation "{own}": they differ, so the '
+        lines = zip_longest(answer.text.split('\n'), checked.text().split('\n'), fillvalue='')
+        number, (said, own) = next((i, pair) for i, pair in enumerate(lines, 1) if pair[0] != pair[1])
+        print(f'ferruntzo: {name}: line {number} of jobcheck is "{said}", of this explanation "{own}", so the '
               'explanation is wrong or the program is not the one it was written for. Do not mill.',
               file=sys.stderr)
         return 2

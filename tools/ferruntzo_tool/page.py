@@ -150,8 +150,10 @@ def main(options):
         answer = program.run(program.find(options.jobcheck), job, name)
         checked = Checked(job)
         if answer.text != checked.text():
-            raise NotChecked(f'{name}: jobcheck and this tool differ; is the program of another version?')
-        Path(options.output).write_text(page(Path(name).name, job, checked, options), encoding='utf-8')
+            raise NotChecked(f'{name}: jobcheck and this tool differ; it may be of another version')
+        # A file name may be no UTF-8.
+        Path(options.output).write_text(page(Path(name).name, job, checked, options), encoding='utf-8',
+                                        errors='replace')
     except NotChecked as error:
         print(f'ferruntzo: {error}. No page was written.', file=sys.stderr)
         return 2

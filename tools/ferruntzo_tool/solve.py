@@ -1,9 +1,10 @@
-"""solve: the reference solver. A margin and the bur's radius in; jobs with honest radii out.
+"""solve: the reference solver. A margin and the bur's radius in; jobs out.
 
 Each stretch's job is: margin plus bur radius times the normal, divided by the normal's own length.
 A load's radius is the exact distance between what is loaded and the margin itself: rounding and
 what was cut, nothing estimated."""
 
+import re
 import sys
 from collections import namedtuple
 from math import isqrt
@@ -22,6 +23,10 @@ PRECISION = 1 << 120            # of lengths in verify
 
 Stretch = namedtuple('Stretch', 'low high parts')       # parts: (low, high, x, y) in their own -1..1
 Solved = namedtuple('Solved', 'stretch job results loads scale bur sign')
+
+
+class Unsolvable(Exception):
+    """A stretch of the margin for which no job is accepted."""
 
 
 # ---- Stretches ----
@@ -56,7 +61,7 @@ def derived(stretch, axis, scale, sign):
             for part in stretch.parts]
 
 
-# ---- Loads with an honest radius ----
+# ---- Loads with a radius that covers rounding and cut ----
 
 def fitted(stretch, parts, degree):
     """Whole coefficients near a curve given by parts."""
@@ -77,7 +82,7 @@ def fitted(stretch, parts, degree):
     return row
 
 
-def honest(stretch, parts, degree):
+def covering(stretch, parts, degree):
     """A load for a curve: its radius is the exact distance to the curve on every part, rounded up."""
     row = fitted(stretch, parts, degree)
     radius, length = 0, stretch.high - stretch.low
@@ -171,13 +176,13 @@ def add_loads(job, bur, loads, kept=MAX_DEGREE):
 
 
 def add_stretch(job, bur, stretch, side, degree=None, scale=None, kept=MAX_DEGREE):
-    """One stretch with honest loads. Gives the results of the centre's x and y, the loads and the scale."""
+    """One stretch; load radii cover rounding and cut. Gives the centre's x and y, the loads and the scale."""
     degree = MAX_DEGREE if degree is None else degree
     scale = largest_scale(stretch, degree) if scale is None else scale
     sign = 1 if side == 'left' else -1
-    loads = [honest(stretch, plain(stretch, 0), degree), honest(stretch, plain(stretch, 1), degree),
-             honest(stretch, derived(stretch, 1, scale, -sign), degree),
-             honest(stretch, derived(stretch, 0, scale, sign), degree)]
+    loads = [covering(stretch, plain(stretch, 0), degree), covering(stretch, plain(stretch, 1), degree),
+             covering(stretch, derived(stretch, 1, scale, -sign), degree),
+             covering(stretch, derived(stretch, 0, scale, sign), degree)]
     return add_loads(job, bur, loads, kept), loads, scale
 
 
@@ -238,7 +243,7 @@ def refine(run, low, high, make, limit):
     if middle is None or limit is None:
         if solved is not None:
             return [solved]
-        raise NotChecked(f'the stretch from parameter {low} to {high} cannot be solved: {told}. Does the '
+        raise Unsolvable(f'the stretch from parameter {low} to {high} cannot be solved: {told}. Does the '
                          'margin stop or turn back there? Is the bur radius right?')
     return refine(run, low, middle, make, limit) + refine(run, middle, high, make, limit)
 
@@ -276,6 +281,20 @@ def row(i, solved, error):
             + told)
 
 
+def write_jobs(folder, stem, jobs):
+    """Writes the jobs of one curve, and removes those that an earlier run with more stretches left."""
+    try:
+        folder.mkdir(parents=True, exist_ok=True)
+        for i, job in enumerate(jobs):
+            (folder / f'{stem}_{i:04}.job').write_bytes(job)
+        for path in folder.iterdir():
+            numbered = re.fullmatch(re.escape(stem) + r'_(\d{4,})\.job', path.name)
+            if numbered and int(numbered[1]) >= len(jobs):
+                path.unlink()
+    except OSError as error:
+        raise NotChecked(f'{folder}: cannot be written: {error.strerror}') from error
+
+
 def main(options):
     try:
         curve = read_curve(options.curve)
@@ -284,38 +303,32 @@ def main(options):
             raise BadCurve(f'{options.curve}: the radius of the bur in mm is needed, above 0: "bur_mm", or '
                            '--bur-mm')
         checker = program.find(options.jobcheck)
-        folder = Path(options.output) if options.output else None
-        if folder:
-            folder.mkdir(parents=True, exist_ok=True)
         print(HEAD)
-        worst = number = 0
-        stem = Path(options.curve).stem or 'job'
+        worst, jobs = 0, []
         for solved in solve(curve, bur, options.side or curve.side or 'left', options):
-            job = solved.job.ended()
-            answer = program.run(checker, job, f'stretch {number}')
+            job, name = solved.job.ended(), f'{options.curve}: stretch {len(jobs)}'
+            answer = program.run(checker, job, name)
             if answer.text != solved.job.text():
-                raise NotChecked(f'stretch {number}: jobcheck does not print what was solved for; is it the '
+                raise NotChecked(f'{name}: jobcheck does not print what was solved for; is it the '
                                  'program of this version?')
             error = verified(solved, options.verify) if options.verify else None
             if error is not None and error > final(solved):
-                raise NotChecked(f'stretch {number}: the error against the margin, {error:.3f} units, is above '
+                raise NotChecked(f'{name}: the error against the margin, {error:.3f} units, is above '
                                  f'the radius {final(solved)}; this must not happen, please report it')
-            if folder:
-                (folder / f'{stem}_{number:04}.job').write_bytes(job)
-            print(row(number, solved, error), flush=True)
-            worst, number = max(worst, final(solved)), number + 1
+            print(row(len(jobs), solved, error), flush=True)
+            worst = max(worst, final(solved))
+            jobs.append(job)
+        # Only now: a curve that cannot be solved to its end leaves the folder as it was.
+        if options.output:
+            write_jobs(Path(options.output), Path(options.curve).stem or 'job', jobs)
     except (BadCurve, NotChecked) as error:
         print(f'ferruntzo: {error}', file=sys.stderr)
         return 2
-    except Refused as error:
-        print(f'ferruntzo: {options.curve}: a stretch cannot be solved: {error}; leave --stretches, --degree or '
-              '--scale open', file=sys.stderr)
+    except Unsolvable as error:
+        print(f'ferruntzo: {options.curve}: {error}', file=sys.stderr)
         return 2
-    except OSError as error:
-        print(f'ferruntzo: {options.output}: cannot be written: {error.strerror}', file=sys.stderr)
-        return 2
-    print(f'{number} stretch{"es" if number > 1 else ""}, accepted by jobcheck; largest radius {worst:,} units = '
-          f'{in_micrometres(worst)}, against the margin itself.')
+    print(f'{len(jobs)} stretch{"es" if len(jobs) > 1 else ""}, accepted by jobcheck; largest radius {worst:,} '
+          f'unit{"" if worst == 1 else "s"} = {in_micrometres(worst)}, against the margin itself.')
     if options.limit_um is not None and worst * 1000 > options.limit_um * S:
         print(f'BEYOND the limit of {options.limit_text} µm: take more stretches or a higher degree.')
         return 1
