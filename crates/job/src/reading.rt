@@ -131,5 +131,5 @@ pub(crate) fn read_command(job: &[u8], k: usize, count: usize, at: usize) -> Com
     if is_too_long(kind, next, job.len()) {
         return CommandReading::Refused(Refusal::BytesAfterEnd);
     }
-    CommandReading::Command(kind, next)
+    CommandReading::Found(kind, next)
 }

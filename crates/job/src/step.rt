@@ -73,6 +73,6 @@ pub(crate) fn step(
     let read = read_next(job, k, count, at);
     match read {
         CommandReading::Refused(refusal) => Step::Refused(refusal),
-        CommandReading::Command(kind, next) => perform(kind, next, job, count, at, work, scratch),
+        CommandReading::Found(kind, next) => perform(kind, next, job, count, at, work, scratch),
     }
 }

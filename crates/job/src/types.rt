@@ -43,7 +43,7 @@ pub struct Shape {
 
 // What reading a command answers: its kind and the next position, or a refusal.
 pub enum CommandReading {
-    Command(Kind, usize),
+    Found(Kind, usize),
     Refused(Refusal),
 }
 

@@ -19,7 +19,7 @@ use Rattle.job.specs.declared.types.Values.{Values}
 use Rattle.job.specs.declared.types.Values.the-variants.{Any, EditionOne, KeptDegree}
 use Rattle.job.specs.declared.types.Shape.{Shape}
 use Rattle.job.specs.declared.types.CommandReading.{CommandReading as CodeReading}
-use Rattle.job.specs.declared.types.CommandReading.the-variants.{Command as CommandRead, Refused}
+use Rattle.job.specs.declared.types.CommandReading.the-variants.{Found, Refused}
 
 -- "Results are counted 0 to 31 as they arise."
 abbrev pub maxResults : ℕ
@@ -200,7 +200,7 @@ pub data CommandReading : Type 0 where
   refused : ℕ → CommandReading
 
 abbrev pub commandReadingOf : CodeReading → CommandReading
-commandReadingOf (CommandRead kind next) = found kind next
+commandReadingOf (Found kind next) = found kind next
 commandReadingOf (Refused v) = refused (numberOf v)
 
 unfoldable pub commandReading : List ℕ → ℕ → ℕ → ℕ → CommandReading
