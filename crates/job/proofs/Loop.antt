@@ -61,7 +61,7 @@ module _ {job : List ℕ} {begun work : List ℤ} {at k count : ℕ} (g : Going 
   abbrev t : List ℤ
   t = drop workSize begun
 
-  pub going-again : (s : Step (List Model)) (a c : ℕ) → command job k (g .rs) at ≡ s → Stepped (More a c) work′ (g .rs) t s
+  pub going-again : (s : Step (List Model)) (a c : ℕ) → command job k (g .rs) at ≡ s → Stepped (More c a) work′ (g .rs) t s
       → length work′ ≡ length work → (at < a) × Going job begun work′ a (k + 1) c
   going-again (more rs′ next) a c e d l =
       let ea : a ≡ next = cc (d .answer) in

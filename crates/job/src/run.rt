@@ -32,7 +32,7 @@ fn run(job: &[u8], work: &mut [i32], scratch: &mut [i64]) -> JobOutcome
     loop {
         let done = step(job, k, count, at, work, scratch);
         match done {
-            Step::More(next, results) => {
+            Step::More(results, next) => {
                 at = next;
                 count = results;
                 k += 1;

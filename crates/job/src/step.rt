@@ -25,7 +25,7 @@ fn add_result(work: &mut [i32], count: usize, next: usize, a: TestOutcome) -> St
             let m = a.model;
             store(work, count, m);
             let results = count + 1;
-            Step::More(next, results)
+            Step::More(results, next)
         }
         Verdict::Refused(refusal) => Step::Refused(refusal),
     }
@@ -48,7 +48,7 @@ fn perform(
 {
     match kind {
         Kind::End => Step::Over,
-        Kind::Edition => Step::More(next, count),
+        Kind::Edition => Step::More(count, next),
         Kind::Result(op) => {
             let a = operate(op, job, at, work, scratch);
             add_result(work, count, next, a)

@@ -47,7 +47,7 @@ pub enum CommandReading {
     Refused(Refusal),
 }
 
-// What one command does: the next position and the count of results then, the end of the job, or a refusal.
+// What one command does: the count of results then and the next position, the end of the job, or a refusal.
 pub enum Step {
     More(usize, usize),
     Over,

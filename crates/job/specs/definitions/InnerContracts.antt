@@ -36,7 +36,7 @@ pub record Holds (w : List ℤ) (count : ℕ) (rs : List Model) (t : List ℤ) :
 
 -- the code's step, with the count of the results
 abbrev pub stepOf : CodeStep → Step ℕ
-stepOf (More next count) = more count next
+stepOf (More count next) = more count next
 stepOf Over = over
 stepOf (Refused v) = Step.refused (numberOf v)
 

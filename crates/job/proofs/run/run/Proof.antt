@@ -72,14 +72,14 @@ step-requires c κs =
     record { long = omega (arith, i .0 .long, i .0 .same); few = i .0 .few; clear = subst⁻¹ Clear (i .1 .0) (i .1 .1) }
 
 again : (c : tie.After-known-told Inv-loop μ-loop)
-    → (at (c .before .before .before) < c .before .done .given .0 .0)
+    → (at (c .before .before .before) < c .before .done .given .0 .1 .0)
     × Going (job (c .before .before .before)) (now (begun (c .before .before .before) .args .work))
     (work (c .before .before .before))
-    (c .before .done .given .0 .0) (k (c .before .before .before) + 1) (c .before .done .given .0 .1 .0)
+    (c .before .done .given .0 .1 .0) (k (c .before .before .before) + 1) (c .before .done .given .0 .0)
 again c =
     let s = c .before .before .before in
     let d = c .before .done .given in
-    going-again (going s) (work s) (stepped s) (d .0 .0) (d .0 .1 .0) refl (subst (Does s) (d .1) (does s))
+    going-again (going s) (work s) (stepped s) (d .0 .1 .0) (d .0 .0) refl (subst (Does s) (d .1) (does s))
     (turn s .step .kept .1 .1 .1 .1 .0)
 
 loop-less : tie.Need-loop-less Inv-loop μ-loop

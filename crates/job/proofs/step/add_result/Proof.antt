@@ -42,7 +42,7 @@ returns c = λ rs t h.
     let m = a .a .model in
     let e : a .a .verdict ≡ Accepted = c .before .before .before .before .enum-told .given .1 in
     let l : length (rs ++ (m ∷ [])) ≡ length rs + 1 = length-append rs (m ∷ []) in
-    subst⁻¹ (λ (v : Verdict). Stepped (More (a .next) (a .count + 1)) (c .before .store .last .0) rs t (resulting rs (a .next) (judged v (certified (a .a))))) e
+    subst⁻¹ (λ (v : Verdict). Stepped (More (a .count + 1) (a .next)) (c .before .store .last .0) rs t (resulting rs (a .next) (judged v (certified (a .a))))) e
     (record {
       answer = ap (λ (n : ℕ). more n (a .next)) (omega (arith, h .count-is));
       holds =

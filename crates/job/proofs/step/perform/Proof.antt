@@ -63,7 +63,7 @@ returns-2 : tie.Need-returns-2
 returns-2 c =
     let s = c .before .before .before in
     let g = s .args in (
-      known s (More (g .next) (g .count)) (now (g .work)) Edition (c .enum-told2 .given .1)
+      known s (More (g .count) (g .next)) (now (g .work)) Edition (c .enum-told2 .given .1)
           (λ rs t h. record { answer = ap (λ (n : ℕ). more n (g .next)) (h .count-is); holds = holds-all h }),
       refl,
     )
