@@ -15,6 +15,7 @@ pub mod MeetsNone
 pub mod ExactAllowed
 pub mod ChosenValues
 pub mod ExactExists
+pub mod FormedBoxes
 pub mod Examples
 pub mod ExampleBytes
 pub mod RefusalExamples

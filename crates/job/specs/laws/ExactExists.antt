@@ -40,10 +40,10 @@ module _ {areas : List (Bool × ℕ)} {job : List ℕ} {answer : JobOutcome ℕ}
   abbrev commands : List Command
   commands = cs claim e
 
-  named : (i : ℕ) (m : Maker) → commandFor commands i ≡ result m → namesBad m i ≡ false
+  pub named : (i : ℕ) (m : Maker) → commandFor commands i ≡ result m → namesBad m i ≡ false
   named i m f = made-maker (vouchedFor claim e .made) i m f .names
 
-  maker : (i : ℕ) → i < count → (m : Maker) × (commandFor commands i ≡ result m)
+  pub maker : (i : ℕ) → i < count → (m : Maker) × (commandFor commands i ≡ result m)
   maker i h = made-by-maker (vouchedFor claim e .made) i (omega (arith, length-modelsIn work count))
 
   module _ (x : ℚ) (on : OnInterval x) (choice v : ℕ → ℚ) (follows : Follows commands choice count v) where
