@@ -1,6 +1,6 @@
 -- Requirement 3 put to use, continued: boxes formed by 01's rules, result after result, overlap the models of an accepted job.
 -- The rules are said here once more, by maker and of any boxes, so that a rule that `Permitted` narrows is noticed.
-use mathlib.Core.Path.{_≡_, refl, sym}
+use mathlib.Core.Path.{_≡_, refl}
 use mathlib.Core.Bool.{Bool}
 use mathlib.Core.List.{List}
 use mathlib.Core.Logic.{_⊎_}
