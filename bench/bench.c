@@ -170,7 +170,8 @@ static struct bench_case *add_job(const char *path)
 /* The first results of a job of a load and roots, and an end. */
 static void add_prefix(const struct bench_case *job, int results)
 {
-    size_t length = 2 + 138 + (size_t)(results - 1) * 268;
+    size_t load = 1 + FERRUNTZO_BLOCK_BYTES + 4, root = 2 + 2 * FERRUNTZO_BLOCK_BYTES;
+    size_t length = 2 + load + (size_t)(results - 1) * root;
     uint8_t *bytes = calloc(length + 1, 1);
     if (bytes == NULL || length >= job->job_len)
         fail("not a load and 31 roots", job->name);
@@ -187,12 +188,14 @@ static struct areas {
     uint32_t number;
     int32_t out[FERRUNTZO_MODEL_SIZE];
     int64_t scratch[FERRUNTZO_SCRATCH_SIZE];
-    uint64_t report[FERRUNTZO_REPORT_SIZE];
+    uint64_t numbers[FERRUNTZO_NUMBERS_SIZE];
     int32_t work[FERRUNTZO_WORK_SIZE];
     uint32_t answer[FERRUNTZO_ANSWER_SIZE];
 } lent;
 static volatile double deviation;
 static int logged;              /* whether each call is written down, for mode count */
+
+#define WHOLE(area) area, sizeof(area) / sizeof(area)[0]
 
 static void call(int v, const struct bench_case *c)
 {
@@ -207,19 +210,20 @@ static void call(int v, const struct bench_case *c)
     }
     switch (c->kind) {
     case MULTIPLY:
-        lent.number = version->multiply(c->f, 35, c->g, 35, FERRUNTZO_DEFAULT_KEPT, lent.out, 35);
+        lent.number = version->multiply(WHOLE(c->f), WHOLE(c->g), FERRUNTZO_DEFAULT_KEPT,
+                                        WHOLE(lent.out));
         break;
     case QUOTIENT:
-        lent.number = version->quotient(c->f, 35, c->g, 35, c->h, 34, c->w, 34, lent.scratch, 65,
-                                        lent.out, 35, lent.report, 3);
+        lent.number = version->quotient(WHOLE(c->f), WHOLE(c->g), WHOLE(c->h), WHOLE(c->w),
+                                        WHOLE(lent.scratch), WHOLE(lent.out), WHOLE(lent.numbers));
         break;
     case ROOT:
-        lent.number = version->root(c->f, 35, c->h, 34, c->w, 34, lent.scratch, 65,
-                                    lent.out, 35, lent.report, 3);
+        lent.number = version->root(WHOLE(c->f), WHOLE(c->h), WHOLE(c->w), WHOLE(lent.scratch),
+                                    WHOLE(lent.out), WHOLE(lent.numbers));
         break;
     case CHECK:
-        lent.number = version->check(c->job, c->job_len, lent.work, FERRUNTZO_WORK_SIZE,
-                                     lent.scratch, 65, lent.answer, 2);
+        lent.number = version->check(c->job, c->job_len, WHOLE(lent.work), WHOLE(lent.scratch),
+                                     WHOLE(lent.answer));
         break;
     }
 }
@@ -353,9 +357,10 @@ static void former(void)
         int32_t radius = 0;
         call(LIBRARY, &cases[i]);
         if (cases[i].kind == CHECK) {
-            for (uint32_t r = 0; r < lent.answer[0]; r++)
-                if (lent.work[35 * r + FERRUNTZO_PLACE_RADIUS] > radius)
-                    radius = lent.work[35 * r + FERRUNTZO_PLACE_RADIUS];
+            const int32_t *result = lent.work;
+            for (uint32_t r = 0; r < lent.answer[0]; r++, result += FERRUNTZO_MODEL_SIZE)
+                if (result[FERRUNTZO_PLACE_RADIUS] > radius)
+                    radius = result[FERRUNTZO_PLACE_RADIUS];
         } else {
             radius = lent.out[FERRUNTZO_PLACE_RADIUS];
         }

@@ -1,12 +1,14 @@
 /* The former check: Clenshaw's recurrence in double at 500 equidistant instants. */
 #include "former.h"
 
+#include "ferruntzo.h"
+
 #include <math.h>
 
-#define UNIT 1048576.0
-#define PLACES 33
-#define BLOCK 133
-#define RESULTS 32
+#define UNIT ((double)FERRUNTZO_S)
+#define COEFFICIENTS FERRUNTZO_COEFFICIENTS
+#define BLOCK_BYTES FERRUNTZO_BLOCK_BYTES
+#define RESULTS FERRUNTZO_MAX_RESULTS
 
 static double instant(int i) { return -1.0 + 2.0 * i / (FORMER_INSTANTS - 1); }
 
@@ -23,13 +25,13 @@ static double clenshaw(const double *a, int degree, double x)
 
 static void to_values(const int32_t *area, double *a)
 {
-    for (int k = 0; k < PLACES; k++)
+    for (int k = 0; k < COEFFICIENTS; k++)
         a[k] = area[1 + k] / UNIT;
 }
 
 double former_quotient(const int32_t *f, const int32_t *g, const int32_t *h)
 {
-    double a[PLACES], b[PLACES], c[PLACES], largest = 0;
+    double a[COEFFICIENTS], b[COEFFICIENTS], c[COEFFICIENTS], largest = 0;
     to_values(f, a);
     to_values(g, b);
     to_values(h, c);
@@ -44,7 +46,7 @@ double former_quotient(const int32_t *f, const int32_t *g, const int32_t *h)
 
 double former_root(const int32_t *f, const int32_t *h)
 {
-    double a[PLACES], c[PLACES], largest = 0;
+    double a[COEFFICIENTS], c[COEFFICIENTS], largest = 0;
     to_values(f, a);
     to_values(h, c);
     for (int i = 0; i < FORMER_INSTANTS; i++) {
@@ -59,8 +61,8 @@ double former_root(const int32_t *f, const int32_t *h)
 /* The values of a block at all instants. */
 static void evaluate_block(const uint8_t *p, double *values)
 {
-    double a[PLACES];
-    for (int k = 0; k < PLACES; k++) {
+    double a[COEFFICIENTS];
+    for (int k = 0; k < COEFFICIENTS; k++) {
         const uint8_t *q = p + 1 + 4 * k;
         uint32_t bits = q[0] | (uint32_t)q[1] << 8 | (uint32_t)q[2] << 16 | (uint32_t)q[3] << 24;
         a[k] = (int32_t)bits / UNIT;
@@ -80,7 +82,7 @@ double former_job(const uint8_t *job, size_t job_len)
         double *out = values[count];
         if (byte == 0x10) {
             evaluate_block(operands, out);
-            at += 1 + BLOCK + 4;
+            at += 1 + BLOCK_BYTES + 4;
             continue;
         }
         const double *a = values[operands[0]], *b = values[operands[byte == 0x21 ? 0 : 1]];
@@ -92,7 +94,7 @@ double former_job(const uint8_t *job, size_t job_len)
                 if (off > largest)
                     largest = off;
             }
-            at += 1 + names + 2 * BLOCK;
+            at += 1 + names + 2 * BLOCK_BYTES;
             continue;
         }
         for (int i = 0; i < FORMER_INSTANTS; i++)

@@ -9,7 +9,7 @@
 #define FORMER_INSTANTS 500
 
 /* The largest deviation found, in units: |f/g - h| and |sqrt(f) - h|.  f and g are
-   model areas of 35 numbers, h is a candidate area of 34. */
+   model areas, h is a candidate area. */
 double former_quotient(const int32_t *f, const int32_t *g, const int32_t *h);
 double former_root(const int32_t *f, const int32_t *h);
 

@@ -6,7 +6,7 @@
    Build and run it in the repository root:
 
      scripts/build_library
-     cc -std=c99 -Iinclude examples/check_job.c target/staticlib/libexport.a -o check_job
+     cc -std=c99 -Iinclude examples/check_job.c target/staticlib/libferruntzo.a -o check_job
      ./check_job
 
    It prints a line for each result, number, degree and radius in units of 1/S,

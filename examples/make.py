@@ -2,88 +2,91 @@
 
   make.py [folder]        default: the folder of this file
 
-A stretch runs beside an oval margin line in the plane: margin plus bur radius
-times the normal, divided by the normal's own length.  The curves are sampled
-with floats and projected; the oracle judges every candidate before it is kept.
+The stretches are made with the reference solver (tools/ferruntzo solve) from margin.json and
+accident.json; tests/oracle.py, which shares nothing with it, gives the texts.
 """
 
 import sys
-from math import cos, sin
 from pathlib import Path
 
 HERE = Path(__file__).resolve().parent
-sys.path.insert(0, str(HERE.parent / 'tests'))
+sys.path[:0] = [str(HERE.parent / 'tests'), str(HERE.parent / 'tools')]
 
 import jobs                                                             # noqa: E402
 import oracle as o                                                      # noqa: E402
-from candidates import NODE_POINTS, from_samples, root_candidates, samples  # noqa: E402
+from candidates import from_samples, quotient_candidates, root_candidates, samples  # noqa: E402
 from examples_of_01 import example_job                                  # noqa: E402
+from ferruntzo_tool import exact                                        # noqa: E402
+from ferruntzo_tool import solve as solver                              # noqa: E402
+from ferruntzo_tool.curve import read_curve                             # noqa: E402
 from jobs import Builder                                                # noqa: E402
 from oracle import S, constant, model                                   # noqa: E402
 
-MARGIN_DEGREE = 20          # of the loaded curves
-TEST_DEGREE = 32            # of the candidates and helpers
-BUR_RADIUS = 0.6            # mm
+ACCIDENT_DEGREE = 12        # to which the margin of the accident was cut
 
 
-def oval(middle, half_width):
-    """A piece of a margin line around an angle, in mm, as four sampled curves:
-    the line x, y and its normal (-y', x')."""
-    angles = [middle + half_width * t for t in NODE_POINTS]
-    x = [4.3 * cos(a) + 0.25 * cos(3 * a) for a in angles]
-    y = [3.6 * sin(a) + 0.15 * sin(5 * a) for a in angles]
-    dx = [half_width * (-4.3 * sin(a) - 0.75 * sin(3 * a)) for a in angles]
-    dy = [half_width * (3.6 * cos(a) + 0.75 * cos(5 * a)) for a in angles]
-    return [from_samples(curve, MARGIN_DEGREE) for curve in (x, y, [-v for v in dy], dx)]
+def margin_stretches():
+    """The two halves of the first quarter of the margin, and its bur and side."""
+    curve = read_curve(str(HERE / 'margin.json'))
+    run = curve.runs[0]
+    low, high = run[0].low, run[0].high
+    middle = solver.halves(run, low, high)
+    return [solver.cut_out(run, low, middle), solver.cut_out(run, middle, high)], curve
+
+
+def stretch():
+    stretches, curve = margin_stretches()
+    return solver.solve_stretch(stretches[0], curve.bur, curve.side).job.ended()
+
+
+def stretch32():
+    """Two stretches that meet, and the three curves that compare them."""
+    stretches, curve = margin_stretches()
+    job = solver.Job()
+    bur = job.load(solver.bur_load(curve.bur))
+    (x1, y1), _, _ = solver.add_stretch(job, bur, stretches[0], curve.side)
+    (x2, y2), _, _ = solver.add_stretch(job, bur, stretches[1], curve.side)
+    job.subtract(x2, x1)
+    job.subtract(y2, y1)
+    job.multiply(x2, y1)
+    assert len(job.results) == 32
+    return job.ended()
+
+
+def accident_stretch():
+    curve = read_curve(str(HERE / 'accident.json'))
+    run = curve.runs[0]
+    return solver.cut_out(run, run[0].low, run[0].high), curve
+
+
+def accident():
+    """The margin cut to degree 12 and loaded with radius 0, its normal the exact derivative of what
+    was loaded: accepted, since the radius speaks of the loaded curves only."""
+    whole, curve = accident_stretch()
+    parts = [exact.nearest(whole.parts[0][2 + axis], ACCIDENT_DEGREE) for axis in (0, 1)]
+    x, y = (exact.Series(row, 1) for row in parts)
+    cut = whole._replace(parts=[(whole.low, whole.high, x, y)])
+    job = solver.Job()
+    bur = job.load(solver.bur_load(curve.bur)._replace(radius=0))
+    solver.add_stretch(job, bur, cut, curve.side, scale=0)
+    return job.ended()
+
+
+def accident_covered():
+    """The same stretch as the solver makes it: every load's radius covers rounding and cut."""
+    whole, curve = accident_stretch()
+    return solver.solve_stretch(whole, curve.bur, curve.side).job.ended()
+
+
+def accident_degree_12():
+    """The same cut to degree 12, with the radius that it needs: accepted, and far beyond a limit of 2 µm."""
+    whole, curve = accident_stretch()
+    return solver.solve_stretch(whole, curve.bur, curve.side, ACCIDENT_DEGREE, 0).job.ended()
 
 
 def must(kept):
     if not kept:
         sys.exit('make: a command of an example would be refused')
-
-
-def add_stretch(builder, curves, bur):
-    """The commands of one stretch; bur is the result with the bur radius.
-    Gives the results of the bur centre's x and y."""
-    at = len(builder.results)
-    for curve in curves:
-        must(builder.load(curve))
-    margin_x, margin_y, normal_x, normal_y = range(at, at + 4)
-    must(builder.multiply(normal_x, normal_x))
-    must(builder.multiply(normal_y, normal_y))
-    must(builder.add(at + 4, at + 5))
-    must(builder.root(at + 6, TEST_DEGREE))                  # the normal's length
-    must(builder.quotient(normal_x, at + 7, TEST_DEGREE))
-    must(builder.quotient(normal_y, at + 7, TEST_DEGREE))
-    must(builder.multiply(bur, at + 8))
-    must(builder.multiply(bur, at + 9))
-    must(builder.add(margin_x, at + 10))
-    must(builder.add(margin_y, at + 11))
-    return at + 12, at + 13
-
-
-def bur_builder():
-    builder = Builder()
-    must(builder.load(constant(round(BUR_RADIUS * S))))
-    return builder
-
-
-def stretch():
-    builder = bur_builder()
-    add_stretch(builder, oval(0.9, 0.55), 0)
-    return builder.job()
-
-
-def stretch32():
-    """Two stretches that meet, and the three curves that compare them."""
-    builder = bur_builder()
-    x1, y1 = add_stretch(builder, oval(0.9, 0.45), 0)
-    x2, y2 = add_stretch(builder, oval(1.8, 0.45), 0)
-    must(builder.subtract(x2, x1))
-    must(builder.subtract(y2, y1))
-    must(builder.multiply(x2, y1))
-    assert len(builder.results) == 32
-    return builder.job()
 
 
 def most_work():
@@ -95,6 +98,19 @@ def most_work():
     must(builder.load(f))
     for _ in range(31):
         must(builder.root(0, found=(h, w)))
+    return builder.job()
+
+
+def most_quotients():
+    """A load and 31 quotients by it, every block of degree 32 and without a zero: the longest job that
+    can be accepted, and the most work by instructions."""
+    f = model([4 * S] + [round(0.8 * S * (-0.7) ** k) for k in range(1, 33)])
+    builder = Builder()
+    must(builder.load(f))
+    h, w = (model([c or 1 for c in found.coefficients]) for found in quotient_candidates(f, f, 32))
+    assert h.degree == w.degree == 32
+    for _ in range(31):
+        must(builder.quotient(0, 0, found=(h, w)))
     return builder.job()
 
 
@@ -110,20 +126,22 @@ def between_instants():
     it deviates by 41,943 (40 micrometres). No helper can have it accepted with less."""
     half = 227 * S // 2
     f, g = model([half + 52, 0, half]), model([half + 50, 0, half])
-    w = from_samples([1 / v for v in samples(g.coefficients)], TEST_DEGREE)
+    w = from_samples([1 / v for v in samples(g.coefficients)], 32)
     return (jobs.EDITION_1 + jobs.load(f) + jobs.load(g)
             + jobs.quotient(0, 1, constant(S), w) + jobs.END)
 
 
-EXAMPLES = {'root_of_4': example_job, 'stretch': stretch, 'stretch32': stretch32,
-            'most_work': most_work, 'refused': refused, 'between_instants': between_instants}
+EXAMPLES = {'root_of_4': example_job, 'stretch': stretch, 'stretch32': stretch32, 'accident': accident,
+            'accident_covered': accident_covered, 'accident_degree_12': accident_degree_12,
+            'most_work': most_work, 'most_quotients': most_quotients, 'refused': refused,
+            'between_instants': between_instants}
 
 
 def main():
     folder = Path(sys.argv[1]) if len(sys.argv) > 1 else HERE
     for name, make in EXAMPLES.items():
         job = make()
-        text = o.report_text(job)
+        text = o.printed(job)
         (folder / f'{name}.job').write_bytes(job)
         (folder / f'{name}.expected').write_text(text)
         last = text.splitlines()[-1]

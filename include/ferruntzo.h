@@ -5,10 +5,10 @@
    proved error radius; a proposed quotient or square root is accepted with a
    proved radius or refused; and a whole job of such commands is checked.
 
-   Link with libexport.a, which scripts/build_library makes (x86-64, System V
+   Link with libferruntzo.a, which scripts/build_library makes (x86-64, System V
    calling convention):
 
-     cc -Iinclude program.c target/staticlib/libexport.a
+     cc -Iinclude program.c target/staticlib/libferruntzo.a
 
    examples/check_job.c is a program to copy, docs/FORMAT.md the format of
    jobs.  "01" below is the scope document that fixes every number.
@@ -47,14 +47,17 @@
 
    ANSWERS
 
-   Each function returns FERRUNTZO_ACCEPTED (0) or the number of a refusal.
-   - FERRUNTZO_SHORT_AREA (1), an area shorter than needed, comes before
-     everything else, and no area is touched (but see ferruntzo_check).
-   - After any other refusal, out, bounds, report and work are zero, as far as
-     the function writes them.
-   - The 65 numbers of scratch are zero after every call but one refused with 1.
-   Each function lists its refusals in the order in which they are tested; the
-   first that applies is returned. */
+   Each function returns FERRUNTZO_ACCEPTED (0) or the number of a refusal.  It
+   lists its refusals in the order in which they are tested; the first that
+   applies is returned.  FERRUNTZO_SHORT_AREA (1), an area shorter than needed,
+   comes before everything else.
+
+   What an area that is written holds afterwards depends on its own length, not
+   on that of any other area:
+   - An area that is itself shorter than needed is not touched.
+   - out, bounds and numbers are zero after every refusal, 1 included.
+   - The 65 numbers of a test's scratch are zero after every call.
+   ferruntzo_check says what holds of its work, scratch and answer. */
 #ifndef FERRUNTZO_H
 #define FERRUNTZO_H
 
@@ -64,6 +67,13 @@
 #ifdef __cplusplus
 extern "C" {
 #endif
+
+/* ---- Version ---- */
+
+#define FERRUNTZO_VERSION_MAJOR 1
+#define FERRUNTZO_VERSION_MINOR 0
+#define FERRUNTZO_VERSION_PATCH 0
+#define FERRUNTZO_VERSION "1.0.0"
 
 /* ---- Limits ---- */
 
@@ -80,7 +90,8 @@ extern "C" {
 #define FERRUNTZO_CANDIDATE_SIZE 34   /* int32_t: degree, coefficients */
 #define FERRUNTZO_BOUNDS_SIZE 2       /* int64_t: low, high */
 #define FERRUNTZO_SCRATCH_SIZE 65     /* int64_t */
-#define FERRUNTZO_REPORT_SIZE 3       /* uint64_t: m, N, b */
+#define FERRUNTZO_NUMBERS_SIZE 3      /* uint64_t: m, N, b */
+#define FERRUNTZO_REPORT_SIZE FERRUNTZO_NUMBERS_SIZE  /* its former name */
 #define FERRUNTZO_WORK_SIZE 1120      /* int32_t: 32 models */
 #define FERRUNTZO_ANSWER_SIZE 2       /* uint32_t: count, command */
 
@@ -132,8 +143,8 @@ enum ferruntzo_refusal {
 
 /* ---- Plain operations on models ----
 
-   Sizes: a, b and out 35, bounds 2.  Accepted: out holds the result.  Refused
-   with a number above 1: out is zero.  A sum, difference or product of values
+   Sizes: a, b and out 35, bounds 2.  Accepted: out holds the result.  Refused:
+   out is zero, if it has its 35 numbers.  A sum, difference or product of values
    that a and b allow at some x is allowed there by out. */
 
 /* a + b and a - b: coefficient by coefficient, the larger degree, radii added.
@@ -163,7 +174,8 @@ uint32_t ferruntzo_integrate(const int32_t *a, size_t a_len,
                              int32_t *out, size_t out_len);
 
 /* Bounds, in units, of every value that a allows at x = p/S.  p is from -S to S.
-   bounds (2): bounds[0] <= S v <= bounds[1]; 0 and 0 when refused.
+   bounds (2): bounds[0] <= S v <= bounds[1]; 0 and 0 when refused, if it has its
+   2 numbers.
    Refusals: 1 (a or bounds), 2, 4. */
 uint32_t ferruntzo_evaluate(const int32_t *a, size_t a_len,
                             int32_t p,
@@ -172,10 +184,10 @@ uint32_t ferruntzo_evaluate(const int32_t *a, size_t a_len,
 /* ---- The two tests ----
 
    h is the proposed answer, w a helper; docs/FORMAT.md says how to choose them.
-   Sizes: f and g 35, h and w 34, scratch 65, out 35, report 3.
-   Accepted: out holds h with the radius that the test gives; report holds 01's
-   m, N and b.  Refused with a number above 1: out and report are zero.
-   scratch is zero after every call but one refused with 1. */
+   Sizes: f and g 35, h and w 34, scratch 65, out 35, numbers 3.
+   Accepted: out holds h with the radius that the test gives; numbers holds 01's
+   m, N and b.  Refused: out and numbers are zero.  scratch is zero after every
+   call.  Each of the three is left as it was if it is itself too short. */
 
 /* h for f/g, w near 1/g.  Accepted: at every x from -1 to 1 no value that g
    allows is zero, and each value of f over one of g is allowed by out.
@@ -186,7 +198,7 @@ uint32_t ferruntzo_quotient(const int32_t *f, size_t f_len,
                             const int32_t *w, size_t w_len,
                             int64_t *scratch, size_t scratch_len,
                             int32_t *out, size_t out_len,
-                            uint64_t *report, size_t report_len);
+                            uint64_t *numbers, size_t numbers_len);
 
 /* h for the square root of f, w near 1/(2h).  Accepted: at every x from -1 to 1
    no value that f allows is negative, and out allows the root of each; the
@@ -197,7 +209,7 @@ uint32_t ferruntzo_root(const int32_t *f, size_t f_len,
                         const int32_t *w, size_t w_len,
                         int64_t *scratch, size_t scratch_len,
                         int32_t *out, size_t out_len,
-                        uint64_t *report, size_t report_len);
+                        uint64_t *numbers, size_t numbers_len);
 
 /* ---- Jobs ----
 
@@ -211,6 +223,8 @@ uint32_t ferruntzo_root(const int32_t *f, size_t f_len,
    Refused with a number above 1: answer[0] is 0, answer[1] is the number of the
    refused command, counted from 0 (the edition is command 0); the 1120 numbers
    of work are zero.
+
+   In both cases the 65 numbers of scratch are zero.
 
    Refused with 1: work and scratch are not touched.  If answer has its 2
    numbers they are 0 and 0; if it is too short it is not touched either.

@@ -7,13 +7,14 @@ exact and nothing here is trusted: the oracle judges what comes out.
 from math import cos, pi, sqrt
 from operator import mul
 
-from oracle import LIMIT, PLACES, S, model, trimmed
+from header import COEFFICIENTS, S
+from oracle import LIMIT, model, trimmed
 
 NODES = 64
 NODE_POINTS = [cos(pi * (i + 0.5) / NODES) for i in range(NODES)]
 # _COSINES[k][i] is T_k at node i; _BY_NODE is its transpose.
 _COSINES = [[cos(k * pi * (i + 0.5) / NODES) for i in range(NODES)]
-            for k in range(PLACES)]
+            for k in range(COEFFICIENTS)]
 _BY_NODE = [list(column) for column in zip(*_COSINES)]
 
 

@@ -8,24 +8,27 @@ from typing import NamedTuple
 
 import oracle as o
 from candidates import largest_accepted
-from oracle import LIMIT, MAX_DEGREE, S, Model, constant, model
+from header import COEFFICIENTS, DEFAULT_KEPT, MAX_DEGREE, S
+from oracle import LIMIT, Model, constant, model, term
 
 LOWEST, HIGHEST = -(1 << 31), (1 << 31) - 1
 
 
 class Case(NamedTuple):
     """One call.  inputs: models and candidates in operand order, or the job's
-    bytes alone.  short: pairs of area number and length."""
+    bytes alone.  lengths: pairs of area number and length; other areas are long
+    enough."""
     entry: str
     inputs: tuple
     scalar: int = 0
-    short: tuple = ()
+    lengths: tuple = ()
 
 
 # ---- Models -------------------------------------------------------------------
 
 def random_degree(rng):
-    return rng.choice((0, 0, 1, 2, 3, 31, 32, 32, rng.randint(0, 32), rng.randint(0, 32)))
+    return rng.choice((0, 0, 1, 2, 3, MAX_DEGREE - 1, MAX_DEGREE, MAX_DEGREE,
+                       rng.randint(0, MAX_DEGREE), rng.randint(0, MAX_DEGREE)))
 
 
 def signed(rng, value):
@@ -70,12 +73,15 @@ def random_model(rng, total=None, radius=None, degree=None):
     return model(spread(rng, degree, total), radius)
 
 
+BAD_DEGREES = (-1, MAX_DEGREE + 1, MAX_DEGREE + 2, 2 * MAX_DEGREE, 255, LOWEST, HIGHEST)
+
+
 def spoiled(rng, m, candidate=False):
     """A bad model that differs from m in one point; a candidate has no radius."""
     row = list(m.coefficients)
     kind = rng.randrange(4 if candidate else 5)
     if kind == 0:
-        return m._replace(degree=rng.choice((-1, 33, 34, 64, 255, LOWEST, HIGHEST)))
+        return m._replace(degree=rng.choice(BAD_DEGREES))
     if kind == 1:                                   # a nonzero beyond the degree
         degree = rng.randint(0, MAX_DEGREE - 1)
         row = row[:degree + 1] + [0] * (MAX_DEGREE - degree)
@@ -91,7 +97,7 @@ def spoiled(rng, m, candidate=False):
         row = [0] * (m.degree + 1)
         row[rng.randint(0, len(row) - 1)] = rng.choice((LOWEST, HIGHEST))
         if rng.random() < 0.3:
-            row = [LOWEST] * 33
+            row = [LOWEST] * COEFFICIENTS
         return model(row, m.radius)
     return m._replace(radius=rng.choice((LIMIT + 1, -1, LOWEST, HIGHEST)))
 
@@ -106,16 +112,19 @@ def perhaps_spoiled(rng, models, chance=0.12, candidates=()):
 BORDER_MODELS = [
     (constant(LIMIT), True), (constant(LIMIT + 1), False),
     (constant(-LIMIT), True), (constant(-LIMIT - 1), False),
-    (model([0] * 32 + [LIMIT]), True), (model([0] * 32 + [-LIMIT - 1]), False),
-    (model([LIMIT - 32] + [-1] * 32), True), (model([LIMIT - 31] + [-1] * 32), False),
+    (term(MAX_DEGREE, LIMIT), True), (term(MAX_DEGREE, -LIMIT - 1), False),
+    (model([LIMIT - MAX_DEGREE] + [-1] * MAX_DEGREE), True),
+    (model([LIMIT - MAX_DEGREE + 1] + [-1] * MAX_DEGREE), False),
     (constant(0, LIMIT), True), (constant(0, LIMIT + 1), False), (constant(0, -1), False),
     (constant(0, HIGHEST), False), (constant(0, LOWEST), False),
-    (model([], 0, 32), True), (model([], 0, 33), False), (model([], 0, -1), False),
+    (model([], 0, MAX_DEGREE), True), (model([], 0, MAX_DEGREE + 1), False),
+    (model([], 0, -1), False),
     (model([], 0, HIGHEST), False), (model([], 0, LOWEST), False),
     (model([0, 1], 0, 1), True), (model([0, 1], 0, 0), False),
-    (model([0] * 32 + [-1], 0, 31), False), (model([S] + [0] * 32, 0, 32), True),
+    (term(MAX_DEGREE, -1)._replace(degree=MAX_DEGREE - 1), False),
+    (model([S], 0, MAX_DEGREE), True),
     (constant(LOWEST), False), (constant(HIGHEST), False),
-    (model([LOWEST] * 33), False), (model([HIGHEST] * 33, HIGHEST), False),
+    (model([LOWEST] * COEFFICIENTS), False), (model([HIGHEST] * COEFFICIENTS, HIGHEST), False),
     # Weights that come back to a small number in 32 or fewer bits.
     (model([LOWEST, LOWEST]), False), (model([1 << 30] * 4), False),
     (model([LOWEST, HIGHEST, 1]), False),
@@ -127,21 +136,10 @@ def check_border_models():
         assert o.good(m) == verdict, m
 
 
-def fixed_short(entry, sizes, good_inputs, bad_inputs, scalar=0):
-    """Each area alone one too short and empty, and all of them empty."""
-    for inputs in (good_inputs, bad_inputs):
-        for i, size in sizes:
-            yield Case(entry, inputs, scalar, ((i, size - 1),))
-            yield Case(entry, inputs, scalar, ((i, 0),))
-        yield Case(entry, inputs, scalar, tuple((i, 0) for i, _ in sizes))
-
-
 # ---- Add and subtract -----------------------------------------------------------
 
 def fixed_add(entry='add'):
     sign = 1 if entry == 'add' else -1
-    yield from fixed_short(entry, ((0, 35), (1, 35), (2, 35)),
-                           (constant(S), constant(1)), (constant(LIMIT + 1), constant(1)))
     for m, _ in BORDER_MODELS:
         for other in (constant(0), constant(1, 1), constant(LIMIT + 1)):
             yield Case(entry, (m, other))
@@ -150,7 +148,7 @@ def fixed_add(entry='add'):
     for extra in (-1, 0, 1):                        # weight and radius at the limit
         yield Case(entry, (constant(half), constant(sign * (half + extra))))
         yield Case(entry, (constant(0, half), constant(7, half + extra)))
-        yield Case(entry, (model([0] * 32 + [half]), model([sign * (half + extra)])))
+        yield Case(entry, (term(MAX_DEGREE, half), model([sign * (half + extra)])))
     yield Case(entry, (constant(LIMIT), constant(-sign * LIMIT)))
     yield Case(entry, (constant(LIMIT), constant(sign * LIMIT)))
     yield Case(entry, (model([S, 0, 0, 0]), model([-sign * S, 0])))     # top zeros kept
@@ -173,20 +171,19 @@ def random_add(rng, entry='add'):
 
 # ---- Multiply -------------------------------------------------------------------
 
-KEPT_BORDERS = (*range(33), 255, 33, 34, 254, 256, 32 + 256, 1 << 31, (1 << 32) - 1)
+BAD_KEPT = (MAX_DEGREE + 1, MAX_DEGREE + 2, DEFAULT_KEPT - 1, DEFAULT_KEPT + 1, MAX_DEGREE + 256,
+            1 << 31, (1 << 32) - 1)
+KEPT_BORDERS = (*range(MAX_DEGREE + 1), DEFAULT_KEPT, *BAD_KEPT)
 
 
 def fixed_multiply():
     t1 = model([0, S])
     half = constant(S // 2)
-    sizes = ((0, 35), (1, 35), (2, 35))
-    yield from fixed_short('multiply', sizes, (t1, t1), (constant(LIMIT + 1), t1), 255)
-    yield from fixed_short('multiply', sizes, (t1, t1), (t1, constant(LIMIT + 1)), 33)
     yield Case('multiply', (t1, t1), 2)                                 # P1
     yield Case('multiply', (t1, t1), 1)                                 # P2
-    yield Case('multiply', (constant(1), half), 255)                    # P3
-    yield Case('multiply', (constant(-1), half), 32)                    # P4
-    full = model([(-1) ** k * (S // 3 + k) for k in range(33)], 5)
+    yield Case('multiply', (constant(1), half), DEFAULT_KEPT)           # P3
+    yield Case('multiply', (constant(-1), half), MAX_DEGREE)            # P4
+    full = model([(-1) ** k * (S // 3 + k) for k in range(COEFFICIENTS)], 5)
     for kept in KEPT_BORDERS:
         yield Case('multiply', (full, full), kept)
         yield Case('multiply', (t1, full), kept)
@@ -194,34 +191,34 @@ def fixed_multiply():
         yield Case('multiply', (constant(LIMIT + 1), t1), kept)         # 2 before 9
         yield Case('multiply', (constant(LIMIT), constant(LIMIT)), kept)  # 9 before 3
     for m, _ in BORDER_MODELS:
-        yield Case('multiply', (m, constant(S)), 32)
+        yield Case('multiply', (m, constant(S)), MAX_DEGREE)
         yield Case('multiply', (t1, m), 7)
     for extra in (-1, 0, 1):
         yield Case('multiply', (constant(LIMIT), constant(S + extra)), 0)
-        yield Case('multiply', (constant(-LIMIT), constant(S + extra)), 255)
+        yield Case('multiply', (constant(-LIMIT), constant(S + extra)), DEFAULT_KEPT)
         yield Case('multiply', (constant(0, LIMIT), constant(S + extra)), 0)
         yield Case('multiply', (constant(0, LIMIT + extra), constant(S)), 0)
     # Radius exactly one above the limit: the limit, and two halves rounded.
     yield Case('multiply', (constant(1, LIMIT), model([S // 2, S // 2])), 1)
     yield Case('multiply', (constant(1, LIMIT - 1), model([S // 2, S // 2])), 1)
     for top in (LIMIT, -LIMIT):                     # the largest numbers there are
-        for place in (0, 1, 32):
-            a = model([0] * place + [top], LIMIT)
-            yield Case('multiply', (a, a), 32)
+        for place in (0, 1, MAX_DEGREE):
+            a = term(place, top, LIMIT)
+            yield Case('multiply', (a, a), MAX_DEGREE)
             yield Case('multiply', (a, constant(LIMIT, LIMIT)), 0)
     for tie in (-5, -3, -1, 1, 3, 5):               # ties at every place
-        yield Case('multiply', (model([tie, tie, -tie]), model([S // 2, S, S // 2])), 32)
+        yield Case('multiply', (model([tie, tie, -tie]), model([S // 2, S, S // 2])), MAX_DEGREE)
 
 
 def random_multiply(rng):
     kind = rng.random()
     if kind < 0.1:                                  # ties
-        a = model([rng.randint(-9, 9) for _ in range(rng.randint(1, 33))])
-        b = model([rng.randint(-4, 4) * S // 2 for _ in range(rng.randint(1, 33))])
+        a = model([rng.randint(-9, 9) for _ in range(rng.randint(1, COEFFICIENTS))])
+        b = model([rng.randint(-4, 4) * S // 2 for _ in range(rng.randint(1, COEFFICIENTS))])
         pair = (a, b) if rng.random() < 0.5 else (b, a)
     elif kind < 0.13:                               # radius on both sides of the limit
         a, b = (random_model(rng, random_total(rng, 22.0), 0) for _ in range(2))
-        edge = largest_accepted(lambda e: o.multiply(a._replace(radius=e), b, 32)[0] == 0)
+        edge = largest_accepted(lambda e: o.multiply(a._replace(radius=e), b, MAX_DEGREE)[0] == 0)
         if edge is not None:
             a = a._replace(radius=min(LIMIT, edge + rng.randint(0, 1)))
         pair = (a, b)
@@ -230,37 +227,36 @@ def random_multiply(rng):
         second = rng.uniform(0, 28) if kind < 0.25 else rng.uniform(0, min(28.0, 47 - first))
         pair = [random_model(rng, int(2 ** size), random_radius(rng, min(28.0, 47 - other)))
                 for size, other in ((first, second), (second, first))]
-    kept = rng.choice((255, 32, rng.randint(0, 32), rng.randint(0, 32)))
+    kept = rng.choice((DEFAULT_KEPT, MAX_DEGREE, rng.randint(0, MAX_DEGREE),
+                       rng.randint(0, MAX_DEGREE)))
     if rng.random() < 0.05:
-        kept = rng.choice((33, 254, 256, 287, 1 << 31, (1 << 32) - 1, rng.randint(33, 254)))
+        kept = rng.choice((*BAD_KEPT, rng.randint(MAX_DEGREE + 1, DEFAULT_KEPT - 1)))
     return Case('multiply', perhaps_spoiled(rng, pair, 0.08), kept)
 
 
 # ---- Integrate ------------------------------------------------------------------
 
 def fixed_integrate():
-    yield from fixed_short('integrate', ((0, 35), (1, 35)),
-                           (constant(S),), (constant(LIMIT + 1),))
     yield Case('integrate', (constant(S),))                             # P5
-    for degree in range(33):                        # degree 31 fits, 32 gives 3
+    for degree in range(MAX_DEGREE + 1):            # degree 31 fits, 32 gives 3
         yield Case('integrate', (model([S] * (degree + 1), degree),))
         yield Case('integrate', (model([], 0, degree),))
         for top in (1, -1, degree + 1, -degree - 1, LIMIT, -LIMIT):     # ties at the top
-            yield Case('integrate', (model([0] * degree + [top]),))
+            yield Case('integrate', (term(degree, top),))
     for m, _ in BORDER_MODELS:
         yield Case('integrate', (m,))
     half = LIMIT // 2
     for extra in (-1, 0, 1):
         yield Case('integrate', (constant(half + extra),))
         yield Case('integrate', (constant(-half + extra),))
-        for degree in (0, 1, 2, 31):
+        for degree in (0, 1, 2, MAX_DEGREE - 1):
             for shift in (0, (degree + 1) // 2, degree // 2 + 1):
-                yield Case('integrate', (model([0] * degree + [1], half - shift + extra),))
+                yield Case('integrate', (term(degree, 1, half - shift + extra),))
 
 
 def random_integrate(rng):
     kind = rng.random()
-    degree = min(random_degree(rng), rng.choice((31, 31, 31, 32)))
+    degree = min(random_degree(rng), MAX_DEGREE - rng.choice((1, 1, 1, 0)))
     if kind < 0.4:                                  # small numbers: many ties
         m = model([rng.randint(-70, 70) for _ in range(degree + 1)], random_radius(rng, 26.0))
     else:
@@ -277,16 +273,14 @@ OUTSIDE = (S + 1, -S - 1, HIGHEST, LOWEST, 2 * S, -2 * S)
 
 def fixed_evaluate():
     t2 = model([0, 0, S])
-    yield from fixed_short('evaluate', ((0, 35), (1, 2)), (t2,), (constant(LIMIT + 1),), 7)
-    yield from fixed_short('evaluate', ((0, 35), (1, 2)), (t2,), (t2,), S + 1)
     yield Case('evaluate', (t2,), S // 2)                               # P6
     for p in POINTS + OUTSIDE:
         yield Case('evaluate', (t2,), p)
-        yield Case('evaluate', (model([0] * 32 + [LIMIT], LIMIT),), p)
-        yield Case('evaluate', (model([0] * 32 + [-LIMIT], LIMIT),), p)
-        yield Case('evaluate', (model([0] * 31 + [LIMIT]),), p)
-        yield Case('evaluate', (model([LIMIT - 32] + [1] * 32, LIMIT),), p)
-        yield Case('evaluate', (model([], 3, 32),), p)
+        yield Case('evaluate', (term(MAX_DEGREE, LIMIT, LIMIT),), p)
+        yield Case('evaluate', (term(MAX_DEGREE, -LIMIT, LIMIT),), p)
+        yield Case('evaluate', (term(MAX_DEGREE - 1, LIMIT),), p)
+        yield Case('evaluate', (model([LIMIT - MAX_DEGREE] + [1] * MAX_DEGREE, LIMIT),), p)
+        yield Case('evaluate', (model([], 3, MAX_DEGREE),), p)
         for m, _ in BORDER_MODELS:                  # 2 before 4
             yield Case('evaluate', (m,), p)
 

@@ -3,13 +3,10 @@ candidates as a solver would propose them, and candidates meant to deceive."""
 
 import oracle as o
 from candidates import largest_accepted, quotient_candidates, root_candidates
-from cases import (BORDER_MODELS, LOWEST, Case, fixed_short, perhaps_spoiled,
-                   random_degree, random_model, random_radius, random_total, signed, spread)
-from oracle import LIMIT, S, constant, model
-
-QUOTIENT_SIZES = ((0, 35), (1, 35), (2, 34), (3, 34), (4, 65), (5, 35), (6, 3))
-ROOT_SIZES = ((0, 35), (1, 34), (2, 34), (3, 65), (4, 35), (5, 3))
-BAD = constant(LIMIT + 1)
+from cases import (BORDER_MODELS, LOWEST, Case, perhaps_spoiled, random_degree, random_model,
+                   random_radius, random_total, signed, spread)
+from header import COEFFICIENTS, LARGE_RESIDUAL, LARGE_RESULT, MAX_DEGREE, NOT_CONTRACTING, S
+from oracle import LIMIT, constant, model, term
 
 
 def quotient_case(f, g, h, w):
@@ -20,13 +17,15 @@ def root_case(f, h, w):
     return Case('root', (f, h, w))
 
 
+def first_and_last(first, last):
+    return model([first] + [0] * (MAX_DEGREE - 1) + [last])
+
+
 # ---- Quotient: fixed --------------------------------------------------------------
 
 def fixed_quotient():
     one, third = constant(S), constant(349525)
-    fine = (one, constant(3 * S), third, third)
-    yield from fixed_short('quotient', QUOTIENT_SIZES, fine, (BAD, one, one, constant(0)))
-    yield Case('quotient', fine)                                        # P7
+    yield quotient_case(one, constant(3 * S), third, third)             # P7
     # Each operand at the borders of refusal 2; alone, and with what 5 or 6 refuses.
     for m, _ in BORDER_MODELS:
         yield quotient_case(m, one, one, one)
@@ -64,21 +63,20 @@ def fixed_quotient():
     for w in (S - 7, S, S + 1, S + S // 2, 2 * S - 1):
         for f in (LIMIT // 2, LIMIT - 1, LIMIT):
             yield quotient_case(constant(f), one, constant(0), constant(w))
-    # f longer than C(g, h): all its places count (blueprint A-7).
-    for place in range(1, 33):
+    # f longer than C(g, h): all its places count.
+    for place in range(1, COEFFICIENTS):
         yield quotient_case(model([S] + [0] * (place - 1) + [S]), one, one, one)
-    # The longest lists: the top of the 65 places counts.
-    high = model([0] * 32 + [S // 3])
+    # The longest lists: the last of the 65 numbers counts.
+    high = term(MAX_DEGREE, S // 3)
     yield quotient_case(constant(S), high, high, high)
-    yield quotient_case(constant(0), model([S] + [0] * 31 + [S // 2]), high,
-                        model([S] + [0] * 31 + [-S // 2]))
+    yield quotient_case(constant(0), first_and_last(S, S // 2), high, first_and_last(S, -S // 2))
     # The largest numbers there are: nothing may wrap.
     for a in (LIMIT, -LIMIT):
         for b in (LIMIT, -LIMIT):
             for e in (0, LIMIT):
                 yield quotient_case(constant(a, e), constant(b, e), constant(a), constant(b))
                 yield quotient_case(constant(a, e), constant(b, e),
-                                    model([0] * 32 + [a]), model([0] * 32 + [b]))
+                                    term(MAX_DEGREE, a), term(MAX_DEGREE, b))
                 yield quotient_case(constant(a, e), constant(4096), constant(b), constant(LIMIT))
                 yield quotient_case(constant(a, e), constant(4097, e), constant(0),
                                     constant(LIMIT))
@@ -110,7 +108,7 @@ def realistic_quotient(rng):
     degree = random_degree(rng)
     g = model(divisor(rng, degree), rng.choice((0, 0, rng.randint(0, 50), random_radius(rng, 18.0))))
     f = random_model(rng, random_total(rng, 26.0), random_radius(rng, 18.0))
-    found = quotient_candidates(f, g, rng.choice((32, 32, random_degree(rng))))
+    found = quotient_candidates(f, g, rng.choice((MAX_DEGREE, MAX_DEGREE, random_degree(rng))))
     if found is None:
         return None
     h, w = found
@@ -139,14 +137,15 @@ def random_quotient(rng):
     elif kind < 0.03 and all(map(o.good, found)):   # on both sides of a border
         f, g, h, w = found
         if rng.random() < 0.5:                      # m at S, or the result too wide
-            number = rng.choice((5, 3, 6))
+            number = rng.choice((NOT_CONTRACTING, LARGE_RESULT, LARGE_RESIDUAL))
             edge = largest_accepted(
-                lambda e: o.quotient(65, f, g._replace(radius=e), h, w)[0] not in (5, number))
+                lambda e: o.quotient(f, g._replace(radius=e), h, w)[0]
+                not in (NOT_CONTRACTING, number))
             if edge is not None:
                 found = f, g._replace(radius=min(LIMIT, edge + rng.randint(0, 1))), h, w
         else:
             edge = largest_accepted(
-                lambda e: o.quotient(65, f._replace(radius=e), g, h, w)[0] == 0)
+                lambda e: o.quotient(f._replace(radius=e), g, h, w)[0] == 0)
             if edge is not None:
                 found = f._replace(radius=min(LIMIT, edge + rng.randint(0, 1))), g, h, w
     return Case('quotient', perhaps_spoiled(rng, found, 0.025, candidates=(2, 3)))
@@ -157,7 +156,6 @@ def random_quotient(rng):
 def fixed_root():
     h, w = constant(2 * S), constant(S // 4)
     four = constant(4 * S)
-    yield from fixed_short('root', ROOT_SIZES, (four, h, w), (BAD, h, constant(-1)))
     yield root_case(constant(2097152), h, w)                            # P8
     yield root_case(constant(2097151), h, w)                            # P9
     yield root_case(constant(S), h, w)                                  # P10
@@ -174,7 +172,8 @@ def fixed_root():
     # The helper's sum at -1, 0 and 1, with all that a later place refuses.
     for total in (-1, 0, 1):
         for row in ([total], [S // 4, total - S // 4], [-S, S, total],
-                    [0] * 31 + [-LIMIT // 2, LIMIT // 2 + total], [S // 4 + 1, 0, total - S // 4 - 1]):
+                    [0] * (MAX_DEGREE - 1) + [-LIMIT // 2, LIMIT // 2 + total],
+                    [S // 4 + 1, 0, total - S // 4 - 1]):
             for f in (four, constant(S), constant(LIMIT, LIMIT)):
                 yield root_case(f, h, model(row))
                 yield root_case(f, constant(0), model(row))
@@ -193,12 +192,12 @@ def fixed_root():
             yield root_case(constant(int(border) + extra), constant(int(big)), constant(int(small)))
             yield root_case(constant(int(border) + 3, max(0, 3 + extra)), constant(int(big)),
                             constant(int(small)))
-    # The same with m far from zero (blueprint A-2): 8 b M = 144 = 12^2.
+    # The same with m far from zero: 8 b M = 144 = 12^2.
     for f in (116508, 116509, 116510):
         for h_units in (349525, 349526, 349527):
             for w_units in (17, 18, 19):
                 yield root_case(constant(f), constant(h_units), constant(w_units))
-    # 8 b M past 64 bits (blueprint B8.1) and N = 2^28 and one more beside it.
+    # 8 b M past 64 bits and N = 2^28 and one more beside it.
     for e in (0, 3, 4, 5, LIMIT):
         yield root_case(constant(LIMIT, e), constant(1 << 11), constant(LIMIT))
         yield root_case(constant(-LIMIT, e), constant(1 << 11), constant(LIMIT))
@@ -210,16 +209,15 @@ def fixed_root():
         for w_units in (23170, 23171, 23172, S // 32):
             yield root_case(constant(LIMIT), constant(h_units), constant(w_units))
             yield root_case(constant(LIMIT, 1), constant(h_units), constant(w_units))
-    # f longer than C(h, h), and the top of the 65 places.
-    for place in range(1, 33):
+    # f longer than C(h, h), and the last of the 65 numbers.
+    for place in range(1, COEFFICIENTS):
         yield root_case(model([4 * S] + [0] * (place - 1) + [S // 8]), h, w)
-    yield root_case(four, model([2 * S] + [0] * 31 + [S // 64]), w)
-    yield root_case(four, h, model([S // 4] + [0] * 31 + [S // 64]))
+    yield root_case(four, first_and_last(2 * S, S // 64), w)
+    yield root_case(four, h, first_and_last(S // 4, S // 64))
     for a in (LIMIT, -LIMIT, LIMIT - 1):
-        for place in (0, 1, 32):
-            yield root_case(constant(a, LIMIT), model([0] * place + [a]), constant(LIMIT))
-            yield root_case(constant(a, LIMIT), model([0] * place + [a]),
-                            model([0] * place + [LIMIT]))
+        for place in (0, 1, MAX_DEGREE):
+            yield root_case(constant(a, LIMIT), term(place, a), constant(LIMIT))
+            yield root_case(constant(a, LIMIT), term(place, a), term(place, LIMIT))
     yield root_case(four, h, model([LOWEST, LOWEST]))
 
 
@@ -231,7 +229,7 @@ def realistic_root(rng):
     row = spread(rng, degree, int(base * rng.choice((0.1, 0.5, 0.9))))
     row[0] += base
     f = model(row, random_radius(rng, rng.choice((8.0, 18.0))))
-    found = root_candidates(f, rng.choice((32, 32, random_degree(rng))))
+    found = root_candidates(f, rng.choice((MAX_DEGREE, MAX_DEGREE, random_degree(rng))))
     if found is None:
         return None
     h, w = found
@@ -259,7 +257,7 @@ def random_root(rng):
         found = random_model(rng), random_model(rng, radius=0), random_model(rng, radius=0)
     elif (kind < 0.03 or 0.6 < kind < 0.63) and all(map(o.good, found)):
         f, h, w = found                             # on both sides of a border
-        edge = largest_accepted(lambda e: o.root(65, f._replace(radius=e), h, w)[0] == 0)
+        edge = largest_accepted(lambda e: o.root(f._replace(radius=e), h, w)[0] == 0)
         if edge is not None:
             found = f._replace(radius=min(LIMIT, edge + rng.randint(0, 1))), h, w
     return Case('root', perhaps_spoiled(rng, found, 0.03, candidates=(1, 2)))

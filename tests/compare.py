@@ -1,12 +1,13 @@
 """Compares the library under test with the oracle, area by area.
 
-  compare.py                         plain.c against the oracle
-  compare.py --library libexport.a   the product against the oracle
-  compare.py --plant multiply        a planted wrong answer must be found
+  compare.py                            plain.c against the oracle
+  compare.py --library libferruntzo.a   the product against the oracle
+  compare.py --plant multiply           a planted wrong answer must be found
+  compare.py --leave multiply           an area left as it was by refusal 1 must be found
 
 Exits with 0 when all answers agree, 1 when any answer differs, 2 when something
-could not be built or run or the oracle's own checks failed.  A sample of the accepted cases is also put through
-the soundness checks.
+could not be built or run or the oracle's own checks failed.  A sample of the
+accepted cases is also put through the soundness checks.
 """
 
 import argparse
@@ -25,24 +26,13 @@ import certificate_cases
 import job_cases
 import oracle as o
 import soundness
+from area_cases import ANSWERS, AREAS, WITNESSES, area_cases, witness
 from examples_of_01 import check_examples
+from header import MODEL_SIZE, PLACE_RADIUS, SCRATCH_SIZE, SHORT_AREA, WORK_SIZE, check_header
 
 HERE = Path(__file__).resolve().parent
-PLAIN = HERE.parent / 'bench' / 'plain.c'
-
-# Areas of each entry: array type code, numbers used, and what it is.
-MODEL_IN, CANDIDATE_IN = ('i', 35, 'in'), ('i', 34, 'in')
-OUT, SCRATCH, REPORT = ('i', 35, 'out'), ('q', 65, 'scratch'), ('Q', 3, 'report')
-AREAS = {
-    'add': (MODEL_IN, MODEL_IN, OUT),
-    'subtract': (MODEL_IN, MODEL_IN, OUT),
-    'multiply': (MODEL_IN, MODEL_IN, OUT),
-    'integrate': (MODEL_IN, OUT),
-    'evaluate': (MODEL_IN, ('q', 2, 'bounds')),
-    'quotient': (MODEL_IN, MODEL_IN, CANDIDATE_IN, CANDIDATE_IN, SCRATCH, OUT, REPORT),
-    'root': (MODEL_IN, CANDIDATE_IN, CANDIDATE_IN, SCRATCH, OUT, REPORT),
-    'check': (('B', 0, 'job'), ('i', 1120, 'work'), SCRATCH, ('I', 2, 'answer')),
-}
+ROOT = HERE.parent
+PLAIN = ROOT / 'plain' / 'plain.c'
 ENTRIES = list(AREAS)
 # Shares of the random cases.
 SHARE = {'add': 2, 'subtract': 2, 'multiply': 3, 'integrate': 3, 'evaluate': 3,
@@ -63,7 +53,7 @@ def flat(m):
 # ---- What the oracle says ---------------------------------------------------------
 
 def oracle_answer(case):
-    """Number, and the new contents of each area that is written to."""
+    """Number, and the new contents of each area that is written to, all being long enough."""
     entry, inputs = case.entry, case.inputs
     if entry == 'multiply':
         number, result = o.multiply(*inputs, case.scalar)
@@ -72,41 +62,53 @@ def oracle_answer(case):
         number, low, high = o.evaluate(*inputs, case.scalar)
         return number, {'bounds': [low, high]}
     if entry in ('quotient', 'root'):
-        number, result, *report = getattr(o, entry)(65, *inputs)
-        return number, {'scratch': [0] * 65, 'out': flat(result), 'report': report}
+        number, result, *numbers = getattr(o, entry)(*inputs)
+        return number, {'scratch': [0] * SCRATCH_SIZE, 'out': flat(result), 'numbers': numbers}
     if entry == 'check':
         verdict, first, second = o.check_job(*inputs)
-        work = [0] * 1120
+        contents = {'work': [0] * WORK_SIZE, 'scratch': [0] * SCRATCH_SIZE}
         if verdict == 'accepted':
-            work[:35 * first] = [c for m in second for c in flat(m)]
-            return 0, {'work': work, 'scratch': [0] * 65, 'answer': [first, 0]}
-        return first, {'work': work, 'scratch': [0] * 65, 'answer': [0, second]}
+            contents['work'][:MODEL_SIZE * first] = [c for m in second for c in flat(m)]
+            return 0, {**contents, 'answer': [first, 0]}
+        return first, {**contents, 'answer': [0, second]}
     number, result = getattr(o, entry)(*inputs)
     return number, {'out': flat(result)}
 
 
-def short_answer(case, lengths):
-    """Number 1: nothing is touched, but a long enough answer is {0, 0}."""
-    if case.entry == 'check' and lengths[3] >= 2:
-        if not any(length < size for length, (_, size, _) in zip(lengths[1:3], AREAS['check'][1:3])):
-            raise AssertionError('not short')
-        assert o.check_job(*case.inputs, lengths[1], lengths[2]) == ('refused', 1, 0)
-        return 1, {'answer': [0, 0]}
-    return 1, {}
+def answer_to(case, lengths):
+    """Number, and the new contents of each area that is written to.  Refusal 1 leaves zeros in
+    what the entry answers in and in the scratch of a test; of work and scratch of a job document
+    01 says "neither is touched".  An area that is itself too short is never touched."""
+    areas = AREAS[case.entry]
+    short = {what for length, (_, size, what) in zip(lengths, areas) if length < size}
+    if short:
+        zeroed = ANSWERS if case.entry == 'check' else (*ANSWERS, 'scratch')
+        number = SHORT_AREA
+        contents = {what: [0] * size for _, size, what in areas if what in zeroed}
+    else:
+        number, contents = oracle_answer(case)
+    return number, {what: numbers for what, numbers in contents.items() if what not in short}
+
+
+def check_witnesses():
+    """Each call of area_cases.py is answered with its number, if its areas are long enough."""
+    for entry, numbers in WITNESSES.items():
+        for number in numbers:
+            assert oracle_answer(witness(entry, number))[0] == number, (entry, number)
 
 
 # ---- Cases as bytes -----------------------------------------------------------------
 
 def lent_areas(case, rng, guards):
     """Per area: type code, told length, contents with numbers behind."""
-    short = dict(case.short)
+    told = dict(case.lengths)
     areas = []
     for i, (code, size, what) in enumerate(AREAS[case.entry]):
         width = array(code).itemsize
         if what == 'job':
             content, length = array(code, case.inputs[0]), len(case.inputs[0])
         else:
-            length = short.get(i, size + rng.choice((0, 0, 1, 3)))
+            length = told.get(i, size + rng.choice((0, 0, 1, 3)))
             content = array(code, rng.randbytes(width * length))
             if what == 'in':
                 numbers = array(code, flat(case.inputs[i])[:size])
@@ -128,11 +130,7 @@ def case_bytes(case, areas):
 
 def expected_bytes(case, areas):
     """The whole answer that the harness must give for this case."""
-    lengths = [length for _, length, _ in areas]
-    if any(length < size for length, (_, size, _) in zip(lengths, AREAS[case.entry])):
-        number, contents = short_answer(case, lengths)
-    else:
-        number, contents = oracle_answer(case)
+    number, contents = answer_to(case, [length for _, length, _ in areas])
     data = bytearray(number.to_bytes(4, 'little'))
     for (code, _, content), (_, _, what) in zip(areas, AREAS[case.entry]):
         if what in contents:
@@ -165,7 +163,7 @@ def build_harness(folder, entries, library, plain, flags):
     program = Path(folder) / 'harness'
     prefix = 'ferruntzo_' if library else 'plain_'
     command = ['gcc', '-std=c99', '-O2', '-Wall', '-Wextra', f'-DPREFIX={prefix}',
-               *(f'-DWITH_{entry.upper()}' for entry in entries),
+               f'-I{ROOT / "include"}', *(f'-DWITH_{entry.upper()}' for entry in entries),
                str(HERE / 'harness.c'), str(library or plain), '-o', str(program), *flags]
     if subprocess.run(command).returncode != 0:
         stop('the harness was not built')
@@ -178,7 +176,7 @@ def make_cases(entries, wanted, rng):
     drawn = {**cases.RANDOM, **certificate_cases.RANDOM, 'check': job_cases.RandomJobs()}
     made = 0
     for entry in entries:
-        for case in fixed[entry]():
+        for case in (*area_cases(entry), *fixed[entry]()):
             made += 1
             yield case
     shares = [SHARE[entry] for entry in entries]
@@ -188,8 +186,8 @@ def make_cases(entries, wanted, rng):
         if rng.random() < 0.02:                     # one or two areas too short
             sizes = [(i, size) for i, (_, size, what) in enumerate(AREAS[entry]) if what != 'job']
             chosen = rng.sample(sizes, rng.choice((1, 1, 2)))
-            case = case._replace(short=tuple((i, rng.choice((size - 1, rng.randrange(size))))
-                                             for i, size in chosen))
+            case = case._replace(lengths=tuple((i, rng.choice((size - 1, rng.randrange(size))))
+                                               for i, size in chosen))
         made += 1
         yield case
 
@@ -208,25 +206,42 @@ def run_harness(program, batch, runner):
     return answers
 
 
+def place_of(case, areas, wanted):
+    """Where the first area of these kinds starts in the case's answer, and its number."""
+    start = 4
+    for i, ((_, _, content), (_, _, what)) in enumerate(zip(areas, AREAS[case.entry])):
+        if what in wanted:
+            return start, i
+        start += len(content) * content.itemsize
+
+
 def plant(batch, answers, entry):
-    """Puts one off-by-one into the middle one of the entry's accepted answers."""
+    """Puts one off-by-one into the middle one of the entry's accepted answers: into the radius,
+    the high bound, the radius of the first result."""
     fits = [i for i, (case, _, number, _) in enumerate(batch)
             if case.entry == entry and number == 0]
     if not fits:
         return False
     i = fits[len(fits) // 2]
     case, areas, _, _ = batch[i]
-    start = 4
-    for (code, _, content), (_, size, what) in zip(areas, AREAS[entry]):
-        if what in ('out', 'bounds', 'work'):
-            # The radius, the high bound, the radius of the first result.
-            start += content.itemsize * {'out': 34, 'bounds': 1, 'work': 34}[what]
-            break
-        start += len(content) * content.itemsize
+    start, area = place_of(case, areas, ('out', 'bounds', 'work'))
+    code, _, what = AREAS[entry][area]
     spoiled = bytearray(answers[i])
-    spoiled[start] ^= 1
+    spoiled[start + array(code).itemsize * (1 if what == 'bounds' else PLACE_RADIUS)] ^= 1
     answers[i] = bytes(spoiled)
     return True
+
+
+def leave(batch, answers, entry):
+    """Puts back what stood in an area before one of the entry's refusals with 1 cleared it."""
+    for i, (case, areas, number, expected) in enumerate(batch):
+        if case.entry == entry and number == SHORT_AREA:
+            start, area = place_of(case, areas, ANSWERS)
+            before = areas[area][2].tobytes()
+            if expected[start:start + len(before)] != before:
+                answers[i] = answers[i][:start] + before + answers[i][start + len(before):]
+                return True
+    return False
 
 
 def main():
@@ -237,6 +252,7 @@ def main():
     parser.add_argument('--cases', type=int, default=30000)
     parser.add_argument('--seed', type=int, default=1)
     parser.add_argument('--plant', choices=ENTRIES, help='spoil one answer of this entry')
+    parser.add_argument('--leave', choices=ENTRIES, help='leave one area of this entry on refusal 1')
     parser.add_argument('--link', default='', help='more linker flags, separated by blanks')
     parser.add_argument('--runner', default='', help='run the harness under this command')
     parser.add_argument('--no-guards', action='store_true', help='no numbers behind the areas')
@@ -244,9 +260,11 @@ def main():
     entries = options.entries.split(',')
     if not set(entries) <= set(ENTRIES):
         parser.error(f'entries are {",".join(ENTRIES)}')
-    if options.plant and options.plant not in entries:
+    if not {options.plant, options.leave} <= {None, *entries}:
         parser.error('the planted entry is not among the entries')
+    check_header()
     check_examples()
+    check_witnesses()
     cases.check_border_models()
 
     rng, sound_rng = Random(options.seed), Random(options.seed)
@@ -263,12 +281,14 @@ def main():
             answers = run_harness(program, batch, options.runner.split())
             if options.plant and not planted:
                 planted = plant(batch, answers, options.plant)
+            if options.leave and not planted:
+                planted = leave(batch, answers, options.leave)
             for (case, areas, _, expected), found in zip(batch, answers):
                 if expected != found:
                     differences += 1
                     if differences <= 10:
                         print(f'{case.entry}: {differing_place(case, areas, expected, found)}'
-                              f' for {str(case)[:600]}')
+                              f' for lengths {case.lengths} of {str(case)[:600]}')
             batch.clear()
 
         for case in make_cases(entries, options.cases, rng):
@@ -292,8 +312,10 @@ def main():
     print(f'{total} cases, {differences} differences, {time.perf_counter() - began:.1f} s '
           f'(oracle {oracle_time:.1f} s), '
           f'{sound} checked for soundness, seed {options.seed}')
-    if options.plant and not planted:
+    if (options.plant or options.leave) and not planted:
         stop('nothing was planted')
+    for entry in entries:                           # every refusal of an entry, and no other
+        assert set(counts[entry]) == {SHORT_AREA, *WITNESSES[entry]}, entry
     sys.exit(1 if differences else 0)
 
 

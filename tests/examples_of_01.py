@@ -23,14 +23,14 @@ def check_examples():
     assert o.integrate(constant(S)) == (0, model([S, S], 1))                   # P5
     assert o.evaluate(t2, 524288) == (0, -524289, -524287)                     # P6
     third = constant(349525)
-    assert o.quotient(65, constant(S), constant(3 * S), third, third) == (
+    assert o.quotient(constant(S), constant(3 * S), third, third) == (
         0, constant(349525, 2), 1, 1, 1)                                       # P7
     h, w = constant(2 * S), constant(S // 4)
-    number, result = o.root(65, constant(2097152), h, w)[:2]
+    number, result = o.root(constant(2097152), h, w)[:2]
     assert (number, result) == (0, constant(2 * S, S))                         # P8
     refused_8 = (8, o.ZERO_MODEL, 0, 0, 0)
-    assert o.root(65, constant(2097151), h, w) == refused_8                    # P9
-    assert o.root(65, constant(S), h, w) == refused_8                          # P10
+    assert o.root(constant(2097151), h, w) == refused_8                    # P9
+    assert o.root(constant(S), h, w) == refused_8                          # P10
     assert o.check_job(b'') == ('refused', 10, 0)                              # P11
 
     # The other borders that document 01 states.
@@ -43,21 +43,21 @@ def check_examples():
         assert o.evaluate(t1, sign * (S + 1)) == (4, 0, 0)
 
     # The first slip: the negative pair for the root of 4S.
-    assert o.root(65, constant(4 * S), constant(-2 * S), constant(-S // 4))[0] == 7
-    # 8 b M past 64 bits (blueprint B8.1), signed and unsigned.
+    assert o.root(constant(4 * S), constant(-2 * S), constant(-S // 4))[0] == 7
+    # 8 b M past 64 bits, signed and unsigned.
     for radius in (0, 4):
-        assert o.root(65, constant(1 << 28, radius), constant(1 << 11),
+        assert o.root(constant(1 << 28, radius), constant(1 << 11),
                       constant(1 << 28))[0] == 8
-    # f longer than C(g, h) (blueprint A-7).
+    # f longer than C(g, h).
     one = constant(S)
-    number, result, m, n, b = o.quotient(65, model([S, 0, 0, 0, 0, S]), one, one, one)
+    number, result, m, n, b = o.quotient(model([S, 0, 0, 0, 0, S]), one, one, one)
     assert (number, m, n, b, result.radius) == (0, 0, S, S, S)
     # The example job and its text.
     job = example_job()
     assert o.check_job(job) == ('accepted', 2, [constant(4 * S), constant(2 * S)])
-    assert o.report_text(job) == '0 0 0\n1 0 0\naccepted 2\n'
-    assert o.report_text(b'') == 'refused 10 0\n'
-    assert o.report_text(bytes(65537)) == 'too long\n'
+    assert o.printed(job) == '0 0 0\n1 0 0\naccepted 2\n'
+    assert o.printed(b'') == 'refused 10 0\n'
+    assert o.printed(bytes(65537)) == 'too long\n'
 
 
 def example_job():

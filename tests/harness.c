@@ -1,14 +1,15 @@
 /* Reads binary cases from standard input, calls the entries under test and
    writes their answers.  Compile with -DPREFIX=plain_ or -DPREFIX=ferruntzo_,
-   and with -DWITH_ADD, -DWITH_SUBTRACT, ... for each entry that exists.
+   and with -DWITH_ADD, -DWITH_SUBTRACT, ... for each entry that exists.  The
+   header is there so that the compiler compares the declarations below with it.
 
    A case, little-endian:
      u8 entry, u8 number of areas, u32 scalar (kept degree or point), then per
      area: u8 width of a number in bytes, u32 length told to the entry, u32
      numbers in all (guards included), the numbers themselves.
    An answer: u32 refusal, then all numbers of all areas, in the same order. */
-#include <stddef.h>
-#include <stdint.h>
+#include "ferruntzo.h"
+
 #include <stdio.h>
 #include <stdlib.h>
 

@@ -1,5 +1,6 @@
-/* What the header promises of null pointers, of inputs that are the same area, and of
-   areas that need no alignment beyond their type's.  Exit status 0 when all holds. */
+/* What the header promises of null pointers, of areas that are too short, of inputs that
+   are the same area, and of areas that need no alignment beyond their type's.  Exit status
+   0 when all holds. */
 #include "ferruntzo.h"
 
 #include <stdio.h>
@@ -20,64 +21,98 @@ static int failures;
 static int32_t one[FERRUNTZO_MODEL_SIZE] = {0, S};
 static int32_t out[FERRUNTZO_MODEL_SIZE], work[FERRUNTZO_WORK_SIZE];
 static int64_t scratch[FERRUNTZO_SCRATCH_SIZE], bounds[FERRUNTZO_BOUNDS_SIZE];
-static uint64_t report[FERRUNTZO_REPORT_SIZE];
+static uint64_t numbers[FERRUNTZO_NUMBERS_SIZE];
 static uint32_t answer[FERRUNTZO_ANSWER_SIZE];
+
+#define NONE NULL, 0
+#define COUNT(area) (sizeof(area) / sizeof(area)[0])
+#define WHOLE(area) area, COUNT(area)
+#define SHORT(area) area, COUNT(area) - 1
+#define CANDIDATE(area) area, FERRUNTZO_CANDIDATE_SIZE
 
 /* A null pointer with length 0 is an empty area. */
 static void null_pointers(void)
 {
-    EXPECT(ferruntzo_add(NULL, 0, one, 35, out, 35) == FERRUNTZO_SHORT_AREA);
-    EXPECT(ferruntzo_add(one, 35, NULL, 0, out, 35) == FERRUNTZO_SHORT_AREA);
-    EXPECT(ferruntzo_add(one, 35, one, 35, NULL, 0) == FERRUNTZO_SHORT_AREA);
-    EXPECT(ferruntzo_subtract(NULL, 0, NULL, 0, NULL, 0) == FERRUNTZO_SHORT_AREA);
-    EXPECT(ferruntzo_multiply(NULL, 0, NULL, 0, 32, NULL, 0) == FERRUNTZO_SHORT_AREA);
-    EXPECT(ferruntzo_integrate(NULL, 0, NULL, 0) == FERRUNTZO_SHORT_AREA);
-    EXPECT(ferruntzo_integrate(one, 35, NULL, 0) == FERRUNTZO_SHORT_AREA);
-    EXPECT(ferruntzo_evaluate(NULL, 0, 0, NULL, 0) == FERRUNTZO_SHORT_AREA);
-    EXPECT(ferruntzo_evaluate(one, 35, 0, NULL, 0) == FERRUNTZO_SHORT_AREA);
-    EXPECT(ferruntzo_quotient(NULL, 0, NULL, 0, NULL, 0, NULL, 0, NULL, 0, NULL, 0, NULL, 0)
-           == FERRUNTZO_SHORT_AREA);
-    EXPECT(ferruntzo_quotient(one, 35, one, 35, one, 34, one, 34, scratch, 65, out, 35, NULL, 0)
-           == FERRUNTZO_SHORT_AREA);
-    EXPECT(ferruntzo_root(NULL, 0, NULL, 0, NULL, 0, NULL, 0, NULL, 0, NULL, 0)
-           == FERRUNTZO_SHORT_AREA);
-    EXPECT(ferruntzo_check(NULL, 0, NULL, 0, NULL, 0, NULL, 0) == FERRUNTZO_SHORT_AREA);
+    EXPECT(ferruntzo_add(NONE, WHOLE(one), WHOLE(out)) == FERRUNTZO_SHORT_AREA);
+    EXPECT(ferruntzo_add(WHOLE(one), NONE, WHOLE(out)) == FERRUNTZO_SHORT_AREA);
+    EXPECT(ferruntzo_add(WHOLE(one), WHOLE(one), NONE) == FERRUNTZO_SHORT_AREA);
+    EXPECT(ferruntzo_subtract(NONE, NONE, NONE) == FERRUNTZO_SHORT_AREA);
+    EXPECT(ferruntzo_multiply(NONE, NONE, FERRUNTZO_MAX_DEGREE, NONE) == FERRUNTZO_SHORT_AREA);
+    EXPECT(ferruntzo_integrate(NONE, NONE) == FERRUNTZO_SHORT_AREA);
+    EXPECT(ferruntzo_integrate(WHOLE(one), NONE) == FERRUNTZO_SHORT_AREA);
+    EXPECT(ferruntzo_evaluate(NONE, 0, NONE) == FERRUNTZO_SHORT_AREA);
+    EXPECT(ferruntzo_evaluate(WHOLE(one), 0, NONE) == FERRUNTZO_SHORT_AREA);
+    EXPECT(ferruntzo_quotient(NONE, NONE, NONE, NONE, NONE, NONE, NONE) == FERRUNTZO_SHORT_AREA);
+    EXPECT(ferruntzo_quotient(WHOLE(one), WHOLE(one), CANDIDATE(one), CANDIDATE(one), WHOLE(scratch),
+                              WHOLE(out), NONE) == FERRUNTZO_SHORT_AREA);
+    EXPECT(ferruntzo_root(NONE, NONE, NONE, NONE, NONE, NONE) == FERRUNTZO_SHORT_AREA);
+    EXPECT(ferruntzo_check(NONE, NONE, NONE, NONE) == FERRUNTZO_SHORT_AREA);
     answer[0] = answer[1] = 9;
-    EXPECT(ferruntzo_check(NULL, 0, NULL, 0, NULL, 0, answer, 2) == FERRUNTZO_SHORT_AREA);
+    EXPECT(ferruntzo_check(NONE, NONE, NONE, WHOLE(answer)) == FERRUNTZO_SHORT_AREA);
     EXPECT(answer[0] == 0 && answer[1] == 0);
-    EXPECT(ferruntzo_check(NULL, 0, work, 1120, scratch, 65, answer, 2) == FERRUNTZO_JOB_ENDS);
+    EXPECT(ferruntzo_check(NONE, WHOLE(work), WHOLE(scratch), WHOLE(answer)) == FERRUNTZO_JOB_ENDS);
+}
+
+/* Refusal 1 leaves zeros in every answer and in a test's scratch, where they are long enough. */
+static void short_areas(void)
+{
+    bounds[0] = bounds[1] = 5;
+    EXPECT(ferruntzo_evaluate(SHORT(one), 0, WHOLE(bounds)) == FERRUNTZO_SHORT_AREA);
+    EXPECT(bounds[0] == 0 && bounds[1] == 0);
+    bounds[0] = 5;
+    EXPECT(ferruntzo_evaluate(WHOLE(one), 0, SHORT(bounds)) == FERRUNTZO_SHORT_AREA);
+    EXPECT(bounds[0] == 5);
+    out[1] = 7;
+    EXPECT(ferruntzo_add(WHOLE(one), SHORT(one), WHOLE(out)) == FERRUNTZO_SHORT_AREA);
+    EXPECT(out[1] == 0);
+    scratch[FERRUNTZO_SCRATCH_SIZE - 1] = 7;
+    numbers[2] = 7;
+    out[1] = 7;
+    EXPECT(ferruntzo_root(WHOLE(one), CANDIDATE(one), CANDIDATE(one), WHOLE(scratch), SHORT(out),
+                          WHOLE(numbers)) == FERRUNTZO_SHORT_AREA);
+    EXPECT(scratch[FERRUNTZO_SCRATCH_SIZE - 1] == 0 && numbers[2] == 0 && out[1] == 7);
+    work[0] = 7;
+    scratch[0] = 7;
+    EXPECT(ferruntzo_check(NONE, WHOLE(work), SHORT(scratch), WHOLE(answer)) == FERRUNTZO_SHORT_AREA);
+    EXPECT(work[0] == 7 && scratch[0] == 7);
 }
 
 /* Areas that are only read may be the same. */
 static void same_inputs(void)
 {
-    EXPECT(ferruntzo_add(one, 35, one, 35, out, 35) == 0 && out[1] == 2 * S);
-    EXPECT(ferruntzo_subtract(one, 35, one, 35, out, 35) == 0 && out[1] == 0);
-    EXPECT(ferruntzo_multiply(one, 35, one, 35, FERRUNTZO_DEFAULT_KEPT, out, 35) == 0 && out[1] == S);
-    EXPECT(ferruntzo_quotient(one, 35, one, 35, one, 34, one, 34, scratch, 65, out, 35, report, 3)
-           == 0);
-    EXPECT(out[1] == S && out[FERRUNTZO_PLACE_RADIUS] == 0 && report[0] == 0 && report[1] == 0);
+    EXPECT(ferruntzo_add(WHOLE(one), WHOLE(one), WHOLE(out)) == 0 && out[1] == 2 * S);
+    EXPECT(ferruntzo_subtract(WHOLE(one), WHOLE(one), WHOLE(out)) == 0 && out[1] == 0);
+    EXPECT(ferruntzo_multiply(WHOLE(one), WHOLE(one), FERRUNTZO_DEFAULT_KEPT, WHOLE(out)) == 0);
+    EXPECT(out[1] == S);
+    EXPECT(ferruntzo_quotient(WHOLE(one), WHOLE(one), CANDIDATE(one), CANDIDATE(one), WHOLE(scratch),
+                              WHOLE(out), WHOLE(numbers)) == 0);
+    EXPECT(out[1] == S && out[FERRUNTZO_PLACE_RADIUS] == 0 && numbers[0] == 0 && numbers[1] == 0);
 }
 
 /* Models and candidates may stand at any multiple of 4, long numbers at any multiple of 8. */
 static void alignment(void)
 {
-    static int32_t room[3 * 35 + 3];
-    static int64_t wide[66 + 3];
+    static int32_t room[2 * FERRUNTZO_MODEL_SIZE + 3];
+    static int64_t wide[FERRUNTZO_SCRATCH_SIZE + 3];
+    const size_t size = FERRUNTZO_MODEL_SIZE;
     for (int shift = 0; shift < 4; shift++) {
-        int32_t *a = room + shift, *b = a + 35;
+        int32_t *a = room + shift, *b = a + size;
         memcpy(a, one, sizeof one);
-        EXPECT(ferruntzo_multiply(a, 35, a, 35, 32, b, 35) == 0 && b[1] == S);
-        EXPECT(ferruntzo_evaluate(a, 35, S, wide + shift, 2) == 0 && wide[shift] == S);
-        EXPECT(ferruntzo_root(a, 35, a, 34, out, 34, wide + shift, 65, b, 35, report, 3) != 1);
+        EXPECT(ferruntzo_multiply(a, size, a, size, FERRUNTZO_MAX_DEGREE, b, size) == 0 && b[1] == S);
+        EXPECT(ferruntzo_evaluate(a, size, S, wide + shift, FERRUNTZO_BOUNDS_SIZE) == 0);
+        EXPECT(wide[shift] == S);
+        EXPECT(ferruntzo_root(a, size, CANDIDATE(a), CANDIDATE(out), wide + shift,
+                              FERRUNTZO_SCRATCH_SIZE, b, size, WHOLE(numbers))
+               != FERRUNTZO_SHORT_AREA);
     }
 }
 
 int main(void)
 {
     null_pointers();
+    short_areas();
     same_inputs();
     alignment();
-    EXPECT(ferruntzo_evaluate(one, 35, 0, bounds, 2) == 0 && bounds[0] == S && bounds[1] == S);
+    EXPECT(ferruntzo_evaluate(WHOLE(one), 0, WHOLE(bounds)) == 0 && bounds[0] == S && bounds[1] == S);
     return failures != 0;
 }

@@ -4,7 +4,8 @@ of the results so far, so that fitting candidates can be found for the next."""
 import oracle as o
 from candidates import quotient_candidates, root_candidates
 from cases import random_degree, random_model, signed, spread
-from oracle import LIMIT, PLACES, S, model
+from header import BAD_MODEL, COEFFICIENTS, DEFAULT_KEPT, MAX_DEGREE, MAX_RESULTS, S
+from oracle import LIMIT, model
 
 
 def block(m):
@@ -50,14 +51,14 @@ class Builder:
 
     def _keep(self, command, number, result):
         """Keeps a command only if it is not refused; says whether it was kept."""
-        if number or len(self.results) == o.MAX_RESULTS:
+        if number or len(self.results) == MAX_RESULTS:
             return False
         self.commands.append(command)
         self.results.append(result)
         return True
 
     def load(self, m):
-        return self._keep(load(m), 0 if o.good(m) else 2, m)
+        return self._keep(load(m), 0 if o.good(m) else BAD_MODEL, m)
 
     def add(self, i, j):
         return self._keep(add(i, j), *o.add(self.results[i], self.results[j]))
@@ -65,23 +66,23 @@ class Builder:
     def subtract(self, i, j):
         return self._keep(subtract(i, j), *o.subtract(self.results[i], self.results[j]))
 
-    def multiply(self, i, j, kept=255):
+    def multiply(self, i, j, kept=DEFAULT_KEPT):
         return self._keep(multiply(i, j, kept),
                           *o.multiply(self.results[i], self.results[j], kept))
 
-    def quotient(self, i, j, degree=32, found=None):
+    def quotient(self, i, j, degree=MAX_DEGREE, found=None):
         f, g = self.results[i], self.results[j]
         found = found or quotient_candidates(f, g, degree)
         if found is None:
             return False
-        return self._keep(quotient(i, j, *found), *o.quotient(65, f, g, *found)[:2])
+        return self._keep(quotient(i, j, *found), *o.quotient(f, g, *found)[:2])
 
-    def root(self, i, degree=32, found=None):
+    def root(self, i, degree=MAX_DEGREE, found=None):
         f = self.results[i]
         found = found or root_candidates(f, degree)
         if found is None:
             return False
-        return self._keep(root(i, *found), *o.root(65, f, *found)[:2])
+        return self._keep(root(i, *found), *o.root(f, *found)[:2])
 
     def job(self):
         return b''.join(self.commands) + END
@@ -114,11 +115,11 @@ def grow(rng, builder, wanted):
         elif kind < 0.55:
             builder.subtract(i, j)
         elif kind < 0.75:
-            builder.multiply(i, j, rng.choice((255, 32, rng.randint(0, 32))))
+            builder.multiply(i, j, rng.choice((DEFAULT_KEPT, MAX_DEGREE, rng.randint(0, MAX_DEGREE))))
         elif kind < 0.88:
-            builder.quotient(i, j, rng.choice((32, 24, random_degree(rng))))
+            builder.quotient(i, j, rng.choice((MAX_DEGREE, 24, random_degree(rng))))
         else:
-            builder.root(i, rng.choice((32, 24, random_degree(rng))))
+            builder.root(i, rng.choice((MAX_DEGREE, 24, random_degree(rng))))
 
 
 def random_builder(rng, wanted=None):
@@ -133,8 +134,8 @@ def full_builder(rng):
     """A cheap job with 32 results, so that the next one is the 33rd."""
     builder = Builder()
     builder.load(model([S, S // 3], 1))
-    builder.load(model([signed(rng, S // 5)] * PLACES))
-    while len(builder.results) < o.MAX_RESULTS:
+    builder.load(model([signed(rng, S // 5)] * COEFFICIENTS))
+    while len(builder.results) < MAX_RESULTS:
         i = len(builder.results) - 1
         if o.weight(builder.results[i].coefficients) > LIMIT // 4 or not builder.subtract(i, 1):
             builder.subtract(0, 1)

@@ -4,6 +4,7 @@ Every answer is formed with Python's unbounded whole numbers.  Products and
 primitives are formed in the power basis (1, x, x^2, ...) and converted back;
 neither the pair walk nor the primitive rule of the product is used to get
 them.  Only the rounding is taken over from document 01 as it stands there.
+Areas, and refusal 1 for a short one, are compare.py's.
 
 Run as a program it checks the examples P1 to P11.
 """
@@ -12,18 +13,14 @@ from math import comb, lcm
 from operator import mul
 from typing import NamedTuple
 
-S = 1 << 20                 # one unit is 1/S
-LIMIT = 1 << 28             # largest weight, radius and N
-MAX_DEGREE = 32
-PLACES = MAX_DEGREE + 1     # coefficients of a model
-MAX_RESULTS = 32
-WORK_NUMBERS = 35 * MAX_RESULTS
-SCRATCH_NUMBERS = 65
+from header import (
+    BAD_MODEL, BAD_VALUE, BLOCK_BYTES, BYTES_AFTER_END, COEFFICIENTS, DEFAULT_KEPT,
+    HELPER_NOT_POSITIVE, JOB_ENDS, LARGE_RESIDUAL, LARGE_RESULT, MAX_DEGREE, MAX_RESULTS,
+    MAX_WEIGHT, NEGATIVE_DISCRIMINANT, NOT_A_RESULT, NOT_CONTRACTING, POINT_OUTSIDE,
+    PROGRAM_JOB_BYTES, S, TOO_MANY_RESULTS)
 
-# Refusals, by the numbers of document 01.
-SHORT, BAD_MODEL, BAD_RESULT, BAD_POINT = 1, 2, 3, 4
-HELPER_TOO_FAR, RESIDUAL_TOO_LARGE, HELPER_NOT_POSITIVE, NO_ROOT = 5, 6, 7, 8
-UNKNOWN, ENDS_EARLY, AFTER_END, NO_SUCH_RESULT, TOO_MANY = 9, 10, 11, 12, 13
+LIMIT = MAX_WEIGHT          # MAX_RADIUS and MAX_RESIDUAL too
+PRODUCT_SIZE = 2 * MAX_DEGREE + 1   # numbers of the list C
 
 
 class Model(NamedTuple):
@@ -33,18 +30,23 @@ class Model(NamedTuple):
     radius: int
 
 
-ZERO_MODEL = Model(0, (0,) * PLACES, 0)
+ZERO_MODEL = Model(0, (0,) * COEFFICIENTS, 0)
 
 
 def model(coefficients, radius=0, degree=None):
     """A model from its leading coefficients; the rest are zero."""
     row = tuple(coefficients)
     degree = max(len(row) - 1, 0) if degree is None else degree
-    return Model(degree, row + (0,) * (PLACES - len(row)), radius)
+    return Model(degree, row + (0,) * (COEFFICIENTS - len(row)), radius)
 
 
 def constant(value, radius=0):
     return model([value], radius)
+
+
+def term(place, value, radius=0):
+    """value times T_place."""
+    return model([0] * place + [value], radius)
 
 
 # ---- Rounding and weights ---------------------------------------------------
@@ -72,7 +74,7 @@ def good(m):
 
 # ---- Power basis ------------------------------------------------------------
 
-TOP = 64                    # highest degree that a product has
+TOP = PRODUCT_SIZE - 1      # highest degree that a product has
 SCALE = 64                  # back conversion is kept times 2^SCALE
 
 
@@ -159,8 +161,8 @@ def value_numerator(row, p, q):
     return value * q ** (MAX_DEGREE + 1 - len(powers))
 
 
-_PRIMITIVE_SCALE = lcm(*range(1, PLACES + 1))
-_PRIMITIVE_FACTOR = [_PRIMITIVE_SCALE // (j + 1) for j in range(PLACES)]
+_PRIMITIVE_SCALE = lcm(*range(1, COEFFICIENTS + 1))
+_PRIMITIVE_FACTOR = [_PRIMITIVE_SCALE // (j + 1) for j in range(COEFFICIENTS)]
 PRIMITIVE_DENOMINATOR = _PRIMITIVE_SCALE << SCALE
 
 
@@ -180,7 +182,7 @@ def refused(number):
 def finished(degree, row, radius):
     """The place 'result': 3, or the model itself."""
     if degree > MAX_DEGREE or weight(row) > LIMIT or radius > LIMIT:
-        return refused(BAD_RESULT)
+        return refused(LARGE_RESULT)
     return 0, model(row, radius, degree)
 
 
@@ -202,10 +204,10 @@ def subtract(a, b):
 def multiply(a, b, kept):
     if not good(a) or not good(b):
         return refused(BAD_MODEL)
-    if kept == 255:
+    if kept == DEFAULT_KEPT:
         kept = MAX_DEGREE
     if not 0 <= kept <= MAX_DEGREE:
-        return refused(UNKNOWN)
+        return refused(BAD_VALUE)
     full = product_list(a.coefficients, b.coefficients)
     degree = min(kept, a.degree + b.degree)
     row = [near(c, 2 * S) for c in full[:degree + 1]]
@@ -221,7 +223,7 @@ def integrate(a):
         return refused(BAD_MODEL)
     degree = a.degree + 1
     if degree > MAX_DEGREE:
-        return refused(BAD_RESULT)
+        return refused(LARGE_RESULT)
     exact = primitive_numerators(a.coefficients)
     exact += [0] * (degree + 1 - len(exact))
     padded = a.coefficients + (0, 0)
@@ -241,7 +243,7 @@ def evaluate(a, p):
     if not good(a):
         return BAD_MODEL, 0, 0
     if not -S <= p <= S:
-        return BAD_POINT, 0, 0
+        return POINT_OUTSIDE, 0, 0
     t = [1 << 30, p << 10]
     while len(t) <= a.degree:
         t.append(near(2 * p * t[-1], S) - t[-2])
@@ -269,33 +271,29 @@ def _difference(row, other, factor):
     return [c - factor * o for c, o in zip(row, other)]
 
 
-def quotient(scratch_len, f, g, h, w):
+def quotient(f, g, h, w):
     """Number, model, m, N, b."""
-    if scratch_len < SCRATCH_NUMBERS:
-        return _refused_test(SHORT)
     if not (good(f) and good(g) and good(h) and good(w)):
         return _refused_test(BAD_MODEL)
     big_m, big_h = weight(w.coefficients), weight(h.coefficients)
     off = _difference(product_list(w.coefficients, g.coefficients), (2 * S * S,), 1)
     m = up(weight(off) + 2 * big_m * g.radius, 2 * S)
     if m >= S:
-        return _refused_test(HELPER_TOO_FAR)
+        return _refused_test(NOT_CONTRACTING)
     residual = _difference(product_list(g.coefficients, h.coefficients),
                            f.coefficients, 2 * S)
     n = up(weight(residual) + 2 * S * f.radius + 2 * big_h * g.radius, 2 * S)
     if n > LIMIT:
-        return _refused_test(RESIDUAL_TOO_LARGE)
+        return _refused_test(LARGE_RESIDUAL)
     b = up(big_m * n, S)
     radius = up(b * S, S - m)
     if radius > LIMIT:
-        return _refused_test(BAD_RESULT)
+        return _refused_test(LARGE_RESULT)
     return 0, Model(h.degree, h.coefficients, radius), m, n, b
 
 
-def root(scratch_len, f, h, w):
+def root(f, h, w):
     """Number, model, m, N, b."""
-    if scratch_len < SCRATCH_NUMBERS:
-        return _refused_test(SHORT)
     if not (good(f) and good(h) and good(w)):
         return _refused_test(BAD_MODEL)
     if sum(w.coefficients) <= 0:
@@ -304,15 +302,15 @@ def root(scratch_len, f, h, w):
     off = _difference(product_list(w.coefficients, h.coefficients), (S * S,), 1)
     m = up(weight(off), S)
     if m >= S:
-        return _refused_test(HELPER_TOO_FAR)
+        return _refused_test(NOT_CONTRACTING)
     residual = _difference(product_list(h.coefficients, h.coefficients),
                            f.coefficients, 2 * S)
     n = up(weight(residual) + 2 * S * f.radius, 2 * S)
     if n > LIMIT:
-        return _refused_test(RESIDUAL_TOO_LARGE)
+        return _refused_test(LARGE_RESIDUAL)
     b = up(big_m * n, S)
     if (S - m) ** 2 < 8 * b * big_m:
-        return _refused_test(NO_ROOT)
+        return _refused_test(NEGATIVE_DISCRIMINANT)
     radius = up(2 * b * S, S - m)
     assert radius <= 1 << 27, "document 01: at or below 2^27"
     return 0, Model(h.degree, h.coefficients, radius), m, n, b
@@ -322,22 +320,21 @@ def root(scratch_len, f, h, w):
 
 END, EDITION, LOAD, ADD, SUBTRACT, MULTIPLY, QUOTIENT, ROOT = (
     0x00, 0x01, 0x10, 0x11, 0x12, 0x13, 0x20, 0x21)
-BLOCK = 133
-OPERAND_WIDTH = {END: 0, EDITION: 1, LOAD: BLOCK + 4, ADD: 2, SUBTRACT: 2,
-                 MULTIPLY: 3, QUOTIENT: 2 + 2 * BLOCK, ROOT: 1 + 2 * BLOCK}
+OPERAND_WIDTH = {END: 0, EDITION: 1, LOAD: BLOCK_BYTES + 4, ADD: 2, SUBTRACT: 2,
+                 MULTIPLY: 3, QUOTIENT: 2 + 2 * BLOCK_BYTES, ROOT: 1 + 2 * BLOCK_BYTES}
 RESULT_BYTES = {LOAD: 0, ADD: 2, SUBTRACT: 2, MULTIPLY: 2, QUOTIENT: 2, ROOT: 1}
 
 
 def read_block(data, start, radius=0):
     row = tuple(int.from_bytes(data[start + 1 + 4 * k:start + 5 + 4 * k],
-                               'little', signed=True) for k in range(PLACES))
+                               'little', signed=True) for k in range(COEFFICIENTS))
     return Model(data[start], row, radius)
 
 
 def _operation(byte, operands, named):
     """Number and model of one command that makes a result."""
     if byte == LOAD:
-        loaded = read_block(operands, 0, int.from_bytes(operands[BLOCK:], 'little'))
+        loaded = read_block(operands, 0, int.from_bytes(operands[BLOCK_BYTES:], 'little'))
         return (0, loaded) if good(loaded) else refused(BAD_MODEL)
     if byte == ADD:
         return add(*named)
@@ -347,40 +344,38 @@ def _operation(byte, operands, named):
         return multiply(*named, operands[2])
     blocks = RESULT_BYTES[byte]
     h = read_block(operands, blocks)
-    w = read_block(operands, blocks + BLOCK)
+    w = read_block(operands, blocks + BLOCK_BYTES)
     test = quotient if byte == QUOTIENT else root
-    return test(SCRATCH_NUMBERS, *named, h, w)[:2]
+    return test(*named, h, w)[:2]
 
 
-def check_job(job, work_len=WORK_NUMBERS, scratch_len=SCRATCH_NUMBERS):
+def check_job(job):
     """('accepted', count, models) or ('refused', number, command)."""
-    if work_len < WORK_NUMBERS or scratch_len < SCRATCH_NUMBERS:
-        return 'refused', SHORT, 0
     results, position, command = [], 0, 0
     while True:
         if position == len(job):
-            return 'refused', ENDS_EARLY, command
+            return 'refused', JOB_ENDS, command
         byte = job[position]
         if byte not in OPERAND_WIDTH or (byte == EDITION) != (command == 0):
-            return 'refused', UNKNOWN, command
+            return 'refused', BAD_VALUE, command
         operands = job[position + 1:position + 1 + OPERAND_WIDTH[byte]]
         if len(operands) < OPERAND_WIDTH[byte]:
-            return 'refused', ENDS_EARLY, command
+            return 'refused', JOB_ENDS, command
         position += 1 + len(operands)
         if byte == EDITION and operands[0] != 1:
-            return 'refused', UNKNOWN, command
-        if byte == MULTIPLY and 33 <= operands[2] <= 254:
-            return 'refused', UNKNOWN, command
+            return 'refused', BAD_VALUE, command
+        if byte == MULTIPLY and MAX_DEGREE < operands[2] < DEFAULT_KEPT:
+            return 'refused', BAD_VALUE, command
         if byte == END:
             if position < len(job):
-                return 'refused', AFTER_END, command
+                return 'refused', BYTES_AFTER_END, command
             return 'accepted', len(results), results
         if byte != EDITION:
             names = operands[:RESULT_BYTES[byte]]
             if any(name >= len(results) for name in names):
-                return 'refused', NO_SUCH_RESULT, command
+                return 'refused', NOT_A_RESULT, command
             if len(results) == MAX_RESULTS:
-                return 'refused', TOO_MANY, command
+                return 'refused', TOO_MANY_RESULTS, command
             number, result = _operation(byte, operands,
                                         [results[name] for name in names])
             if number:
@@ -389,9 +384,9 @@ def check_job(job, work_len=WORK_NUMBERS, scratch_len=SCRATCH_NUMBERS):
         command += 1
 
 
-def report_text(job):
+def printed(job):
     """What the program prints for a job."""
-    if len(job) > 65536:
+    if len(job) > PROGRAM_JOB_BYTES:
         return 'too long\n'
     answer = check_job(job)
     if answer[0] == 'refused':

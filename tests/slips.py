@@ -10,10 +10,10 @@ import tempfile
 from pathlib import Path
 
 HERE = Path(__file__).resolve().parent
-PLAIN = HERE.parent / 'bench' / 'plain.c'
+PLAIN = HERE.parent / 'plain' / 'plain.c'
 TESTS = 'quotient,root'
-M_LINE = 'int64_t m = up(weight(c, LIST) + 2 * m_weight'
-N_LINE = 'int64_t n = up(weight(c, LIST) + 2 * (int64_t)UNIT * f[RADIUS],'
+M_LINE = 'int64_t m = up(weight(c, PRODUCT_SIZE) + 2 * m_weight'
+N_LINE = 'int64_t n = up(weight(c, PRODUCT_SIZE) + 2 * (int64_t)UNIT * f[RADIUS],'
 B_LINE = '    if (b > (UNIT - m) * (UNIT - m) / (8 * m_weight))'
 
 # Name, entries that must show it, old text (its first place), new text.
@@ -27,8 +27,8 @@ SLIPS = [
      'if (i != j || !i) c[i > j ? i - j : j - i] += p;'),
     ('m downwards', TESTS, M_LINE, M_LINE.replace('up(', 'down(')),
     ('m to the nearest', TESTS, M_LINE, M_LINE.replace('up(', 'near(')),
-    ('root m downwards', 'root', 'int64_t m = up(weight(c, LIST), UNIT)',
-     'int64_t m = down(weight(c, LIST), UNIT)'),
+    ('root m downwards', 'root', 'int64_t m = up(weight(c, PRODUCT_SIZE), UNIT)',
+     'int64_t m = down(weight(c, PRODUCT_SIZE), UNIT)'),
     ('N downwards', 'root', N_LINE, N_LINE.replace('up(', 'down(')),
     ('N to the nearest', 'root', N_LINE, N_LINE.replace('up(', 'near(')),
     ('b downwards', TESTS, 'int64_t b = up(', 'int64_t b = down('),
@@ -46,7 +46,7 @@ SLIPS = [
      'return -down(d - 2 * n, 2 * d);'),
     ('ties downwards, evaluate', 'evaluate', 'return down(2 * n + d, 2 * d);',
      'return -down(d - 2 * n, 2 * d);'),
-    ('dropped not paid', 'multiply', 'error += weight(c + degree + 1, LIST - degree - 1);', ''),
+    ('dropped not paid', 'multiply', 'error += weight(c + degree + 1, PRODUCT_SIZE - degree - 1);', ''),
     ('radii product left out', 'multiply', ' + e_a * e_b);', ');'),
     ('8bM wraps signed', 'root', B_LINE,
      '    if ((UNIT - m) * (UNIT - m) < (int64_t)(8 * (uint64_t)b * (uint64_t)m_weight))'),
@@ -56,9 +56,9 @@ SLIPS = [
     ('8bM one too many', 'root', B_LINE, B_LINE.replace('b >', 'b - 1 >')),
     ('8bM with 4', 'root', B_LINE, B_LINE.replace('8 *', '4 *')),
     ('f longer than C', 'quotient',
-     '    int64_t n = up(weight(c, LIST) + 2 * (int64_t)UNIT * f[RADIUS] + 2 * h',
+     '    int64_t n = up(weight(c, PRODUCT_SIZE) + 2 * (int64_t)UNIT * f[RADIUS] + 2 * h',
      '    int64_t n = up(weight(c, g[0] + h[0] + 1) + 2 * (int64_t)UNIT * f[RADIUS] + 2 * h'),
-    ('f longer than C, root', 'root', N_LINE, N_LINE.replace('LIST', '2 * h[0] + 1')),
+    ('f longer than C, root', 'root', N_LINE, N_LINE.replace('PRODUCT_SIZE', '2 * h[0] + 1')),
     ('f radius left out', 'root', '+ 2 * (int64_t)UNIT * f[RADIUS], 2', '+ 0 * f[RADIUS], 2'),
     ('m = S passes', TESTS, 'if (m >= UNIT)', 'if (m > UNIT)'),
     ('m = S - 1 refused', TESTS, 'if (m >= UNIT)', 'if (m >= UNIT - 1)'),
@@ -66,15 +66,15 @@ SLIPS = [
     ('N one more passes', 'quotient', 'if (n > LIMIT)', 'if (n > LIMIT + 1)'),
     ('N narrowed', 'quotient', 'if (n > LIMIT)', 'if ((int32_t)n > LIMIT)'),
     ('m narrowed', 'quotient', 'if (m >= UNIT)', 'if ((int32_t)m >= UNIT)'),
-    ('quotient radius narrowed', 'quotient', '    if (radius > LIMIT)\n        return BAD_RESULT;\n    accept',
-     '    if ((int32_t)radius > LIMIT)\n        return BAD_RESULT;\n    accept'),
+    ('quotient radius narrowed', 'quotient', '    if (radius > LIMIT)\n        return LARGE_RESULT;\n    accept',
+     '    if ((int32_t)radius > LIMIT)\n        return LARGE_RESULT;\n    accept'),
     ('weight in 32 bits', 'add', '    int64_t sum = 0;\n    for (int k = 1;', '    int32_t sum = 0;\n    for (int k = 1;'),
     ('result weight at the limit', 'add', 'weight(row, degree + 1) > LIMIT', 'weight(row, degree + 1) >= LIMIT'),
     ('result radius one more', 'multiply', 'radius > LIMIT || weight', 'radius > LIMIT + 1 || weight'),
     ('top zeros cut', 'subtract', '    out[0] = degree;',
      '    while (degree > 0 && row[degree] == 0) degree--;\n    out[0] = degree;'),
-    ('kept 255 unknown', 'multiply', 'if (kept == 255)', 'if (kept == 254)'),
-    ('kept as a byte', 'multiply', 'if (kept == 255)', 'kept &= 255;\n    if (kept == 255)'),
+    ('kept 255 unknown', 'multiply', 'if (kept == DEFAULT_KEPT)', 'if (kept == DEFAULT_KEPT - 1)'),
+    ('kept as a byte', 'multiply', 'if (kept == DEFAULT_KEPT)', 'kept &= 255;\n    if (kept == DEFAULT_KEPT)'),
     ('integral radius', 'integrate', '(int64_t)a[RADIUS] + degree', '(int64_t)a[RADIUS] + a[0]'),
     ('integral a_0 once', 'integrate', 'k == 1 ? 2 * (int64_t)a[1]', 'k == 1 ? (int64_t)a[1]'),
     ('W left out', 'evaluate', 'down(4 * v - w,', 'down(4 * v,'),
@@ -82,23 +82,41 @@ SLIPS = [
     ('p = S refused', 'evaluate', 'p > UNIT', 'p >= UNIT'),
     ('p = -S refused', 'evaluate', 'p < -UNIT', 'p <= -UNIT'),
     ('p by its absolute value', 'evaluate', 'p < -UNIT || p > UNIT', '(p < 0 ? (int32_t)(0u - (uint32_t)p) : p) > UNIT'),
-    ('scratch left', TESTS, '    memset(scratch, 0, LIST * sizeof *scratch);', ''),
-    ('report left', TESTS, '    memset(report, 0, 3 * sizeof *report);', ''),
-    ('job: scratch left', 'check', '    memset(scratch, 0, LIST * sizeof *scratch);\n    if', '    if'),
-    ('job: work left on refusal', 'check', '        memset(work, 0, WORK * sizeof *work);\n', ''),
-    ('job: work not cleared', 'check', '    memset(work, 0, WORK * sizeof *work);\n    uint32_t', '    uint32_t'),
+    ('scratch left', TESTS, '    CLEAR(scratch, SCRATCH_SIZE);', ''),
+    ('scratch left on 1', TESTS, '    CLEAR(scratch, SCRATCH_SIZE);', '    if (number != 1) CLEAR(scratch, SCRATCH_SIZE);'),
+    ('scratch left where out is short', TESTS, '    CLEAR(scratch, SCRATCH_SIZE);', '    if (fit) CLEAR(scratch, SCRATCH_SIZE);'),
+    ('numbers left on refusal', TESTS, '& CLEAR(numbers, NUMBERS_SIZE)', '& (numbers_len >= NUMBERS_SIZE)'),
+    ('numbers left where out is short', TESTS, '& CLEAR(numbers', '&& CLEAR(numbers'),
+    ('out left on 1', 'add', '!CLEAR(out, MODEL_SIZE) || a_len < MODEL_SIZE || b_len < MODEL_SIZE)',
+     'a_len < MODEL_SIZE || b_len < MODEL_SIZE || !CLEAR(out, MODEL_SIZE))'),
+    ('out left on 1, integrate', 'integrate', '!CLEAR(out, MODEL_SIZE) || a_len < MODEL_SIZE)',
+     'a_len < MODEL_SIZE || !CLEAR(out, MODEL_SIZE))'),
+    ('bounds left on 1', 'evaluate', '!CLEAR(bounds, BOUNDS_SIZE) || a_len < MODEL_SIZE',
+     'a_len < MODEL_SIZE || !CLEAR(bounds, BOUNDS_SIZE)'),
+    ('answer left on 1', 'check', '!CLEAR(answer, ANSWER_SIZE) || work_len < WORK_SIZE || scratch_len < SCRATCH_SIZE',
+     'work_len < WORK_SIZE || scratch_len < SCRATCH_SIZE || !CLEAR(answer, ANSWER_SIZE)'),
+    ('short area cleared', TESTS, '    if (length < size)\n        return 0;\n    memset(area, 0, size * width);\n    return 1;',
+     '    memset(area, 0, (length < size ? length : size) * width);\n    return length >= size;'),
+    ('one number behind cleared', TESTS, 'memset(area, 0, size * width);',
+     'memset(area, 0, (length > size ? size + 1 : size) * width);'),
+    ('job: scratch cleared on 1', 'check', '    if (!CLEAR(answer', '    CLEAR(scratch, SCRATCH_SIZE);\n    if (!CLEAR(answer'),
+    ('job: work cleared on 1', 'check', '    if (!CLEAR(answer', '    CLEAR(work, WORK_SIZE);\n    if (!CLEAR(answer'),
+    ('job: scratch left', 'check', '    memset(scratch, 0, SCRATCH_SIZE * sizeof *scratch);\n    if', '    if'),
+    ('job: work left on refusal', 'check', '        memset(work, 0, WORK_SIZE * sizeof *work);\n', ''),
+    ('job: work not cleared', 'check', '    memset(work, 0, WORK_SIZE * sizeof *work);\n    uint32_t', '    uint32_t'),
     ('job: count before name', 'check', '        for (size_t i = 0; i < names; i++)',
-     '        if (*count == RESULTS)\n            return TOO_MANY;\n        for (size_t i = 0; i < names; i++)'),
-    ('job: 32nd result refused', 'check', 'if (*count == RESULTS)', 'if (*count == RESULTS - 1)'),
+     '        if (*count == MAX_RESULTS)\n            return TOO_MANY_RESULTS;\n        for (size_t i = 0; i < names; i++)'),
+    ('job: 32nd result refused', 'check', 'if (*count == MAX_RESULTS)', 'if (*count == MAX_RESULTS - 1)'),
     ('job: name of itself', 'check', 'operands[i] >= *count', 'operands[i] > *count'),
-    ('job: name before d', 'check', "operands[2] != 255)", "operands[2] != 255 && operands[0] < *count)"),
+    ('job: name before d', 'check', "operands[2] != DEFAULT_KEPT)",
+     "operands[2] != DEFAULT_KEPT && operands[0] < *count)"),
     ('job: edition again', 'check', '(byte == 0x01) != (*command == 0)', '(byte != 0x01 && *command == 0)'),
     ('job: edition 2', 'check', 'if (operands[0] != 1)', 'if (operands[0] == 0 || operands[0] > 2)'),
-    ('job: after end ignored', 'check', 'position < job_len ? AFTER_END : 0', '0'),
+    ('job: after end ignored', 'check', 'position < job_len ? BYTES_AFTER_END : 0', '0'),
     ('job: radius as signed', 'check', '|| radius > LIMIT)', '|| (int32_t)radius > LIMIT)'),
-    ('job: d 254', 'check', 'operands[2] != 255)', 'operands[2] < 254)'),
+    ('job: d 254', 'check', 'operands[2] != DEFAULT_KEPT)', 'operands[2] < DEFAULT_KEPT - 1)'),
     ('job: later tests waved through', 'check', '    if (byte == 0x20)\n',
-     '    if (out != work && work + 10 * MODEL < out) {\n        memcpy(out, h, sizeof h);\n'
+     '    if (out != work && work + 10 * MODEL_SIZE < out) {\n        memcpy(out, h, sizeof h);\n'
      '        return 0;\n    }\n    if (byte == 0x20)\n'),
 ]
 

@@ -9,7 +9,8 @@ from fractions import Fraction
 from math import isqrt
 
 import oracle as o
-from oracle import LIMIT, S
+from header import S
+from oracle import LIMIT
 
 FINE = 1 << 96              # boxes that may be wider are rounded out to 1/FINE
 
@@ -127,7 +128,7 @@ def commands_of(job):
 def next_box(rng, byte, operands, boxes, x):
     """A permitted box for one more result, or None where none is permitted."""
     if byte == o.LOAD:
-        loaded = o.read_block(operands, 0, int.from_bytes(operands[o.BLOCK:], 'little'))
+        loaded = o.read_block(operands, 0, int.from_bytes(operands[o.BLOCK_BYTES:], 'little'))
         v = allowed_value(rng, loaded, x)
         return v, v
     named = [boxes[name] for name in operands[:o.RESULT_BYTES[byte]]]
@@ -186,10 +187,10 @@ def check(rng, case):
         soundness_integrate(rng, *inputs, o.integrate(*inputs)[1])
     elif entry == 'quotient':
         f, g, h, w = inputs
-        soundness_quotient(rng, f, g, o.quotient(65, f, g, h, w)[1])
+        soundness_quotient(rng, f, g, o.quotient(f, g, h, w)[1])
     elif entry == 'root':
         f, h, w = inputs
-        soundness_root(rng, f, o.root(65, f, h, w)[1])
+        soundness_root(rng, f, o.root(f, h, w)[1])
     elif entry == 'check':
         soundness_job(rng, inputs[0], o.check_job(inputs[0])[2])
     # evaluate asserts its bounds on every call.

@@ -1,4 +1,4 @@
-//! A safe wrapper over the Ferruntzo library (`libexport.a`, see `include/ferruntzo.h`).
+//! A safe wrapper over the Ferruntzo library (`libferruntzo.a`, see `include/ferruntzo.h`).
 //!
 //! ```text
 //! scripts/build_library
@@ -50,8 +50,10 @@ pub const CANDIDATE_SIZE: usize = 34;
 pub const BOUNDS_SIZE: usize = 2;
 /// Numbers in the scratch area of a test.
 pub const SCRATCH_SIZE: usize = 65;
-/// Numbers in the report of a test: m, N, b.
-pub const REPORT_SIZE: usize = 3;
+/// Numbers of a test: m, N, b.
+pub const NUMBERS_SIZE: usize = 3;
+/// The former name of [`NUMBERS_SIZE`].
+pub const REPORT_SIZE: usize = NUMBERS_SIZE;
 /// Numbers in the work area of a job: 32 models.
 pub const WORK_SIZE: usize = 1120;
 /// Numbers in the answer of a job: count, command.
@@ -63,7 +65,7 @@ const RADIUS: usize = 34;
 #[derive(Clone, Copy, Debug, PartialEq, Eq, Hash)]
 #[repr(u32)]
 pub enum Refusal {
-    /// An area is shorter than needed; no area was touched.
+    /// An area is shorter than needed.
     ShortArea = 1,
     /// A model's or candidate's degree, weight or radius, or a nonzero coefficient beyond its degree.
     BadModel = 2,
@@ -148,7 +150,7 @@ fn accepted(number: u32) -> Result<(), Refusal> {
     match Refusal::from_number(number) {
         Some(refusal) => Err(refusal),
         None if number == 0 => Ok(()),
-        None => panic!("not this version of libexport.a: it answered {number}"),
+        None => panic!("not this version of libferruntzo.a: it answered {number}"),
     }
 }
 
@@ -305,7 +307,7 @@ pub struct Bounds {
 
 /// An accepted candidate: the model with its radius, and document 01's m, N and b.
 #[derive(Clone, Copy, Debug, PartialEq, Eq)]
-pub struct Certified {
+pub struct Certificate {
     /// The candidate with the radius that the test gives.
     pub model: Model,
     /// m: how far helper times divisor (or twice helper times root) is from 1, in units.
@@ -316,29 +318,37 @@ pub struct Certified {
     pub b: u64,
 }
 
+/// The former name of [`Certificate`].
+pub type Certified = Certificate;
+
 /// Tests the candidate h for f/g, with the helper w near 1/g.
 ///
 /// Refusals, in order: `BadModel`, `NotContracting`, `LargeResidual`, `LargeResult`.
-pub fn quotient(f: &Model, g: &Model, h: &Candidate, w: &Candidate) -> Result<Certified, Refusal> {
+pub fn quotient(
+    f: &Model,
+    g: &Model,
+    h: &Candidate,
+    w: &Candidate,
+) -> Result<Certificate, Refusal> {
     let mut scratch = [0; SCRATCH_SIZE];
     let mut model = Model::ZERO;
-    let mut report = [0; REPORT_SIZE];
-    areas::quotient(&f.0, &g.0, &h.0, &w.0, &mut scratch, &mut model.0, &mut report)?;
-    let [m, n, b] = report;
-    Ok(Certified { model, m, n, b })
+    let mut numbers = [0; NUMBERS_SIZE];
+    areas::quotient(&f.0, &g.0, &h.0, &w.0, &mut scratch, &mut model.0, &mut numbers)?;
+    let [m, n, b] = numbers;
+    Ok(Certificate { model, m, n, b })
 }
 
 /// Tests the candidate h for the square root of f, with the helper w near 1/(2h).
 ///
 /// Refusals, in order: `BadModel`, `HelperNotPositive`, `NotContracting`, `LargeResidual`,
 /// `NegativeDiscriminant`.
-pub fn root(f: &Model, h: &Candidate, w: &Candidate) -> Result<Certified, Refusal> {
+pub fn root(f: &Model, h: &Candidate, w: &Candidate) -> Result<Certificate, Refusal> {
     let mut scratch = [0; SCRATCH_SIZE];
     let mut model = Model::ZERO;
-    let mut report = [0; REPORT_SIZE];
-    areas::root(&f.0, &h.0, &w.0, &mut scratch, &mut model.0, &mut report)?;
-    let [m, n, b] = report;
-    Ok(Certified { model, m, n, b })
+    let mut numbers = [0; NUMBERS_SIZE];
+    areas::root(&f.0, &h.0, &w.0, &mut scratch, &mut model.0, &mut numbers)?;
+    let [m, n, b] = numbers;
+    Ok(Certificate { model, m, n, b })
 }
 
 /// An accepted job: its results, 0 to 32 of them.
@@ -400,10 +410,11 @@ pub fn check(job: &[u8]) -> Result<CheckedJob, RefusedJob> {
 
 /// The library's functions over the caller's own areas, of every length.
 ///
-/// `Err(Refusal::ShortArea)`: an area is shorter than its size, and none was touched (but see
-/// [`areas::check`]). After any other refusal `out`, `bounds`, `report` and `work` are zero in
-/// their sizes, and `scratch` is zero in its 65 numbers after every call that is not refused so.
-/// Numbers behind the sizes stay.
+/// `Err(Refusal::ShortArea)`: an area is shorter than its size. What a written area holds
+/// afterwards depends on its own length: one that is itself too short is not touched; `out`,
+/// `bounds` and `numbers` are zero in their sizes after every refusal, `ShortArea` included; the
+/// `scratch` of a test is zero in its 65 numbers after every call. [`areas::check`] says what
+/// holds of its areas. Numbers behind the sizes stay.
 #[rustfmt::skip]
 pub mod areas {
     use super::{accepted, raw, Refusal};
@@ -452,7 +463,7 @@ pub mod areas {
     }
 
     /// The quotient test; `f` and `g` have 35 numbers, `h` and `w` 34, `scratch` 65, `out` 35,
-    /// `report` 3: m, N, b.
+    /// `numbers` 3: m, N, b.
     pub fn quotient(
         f: &[i32],
         g: &[i32],
@@ -460,40 +471,41 @@ pub mod areas {
         w: &[i32],
         scratch: &mut [i64],
         out: &mut [i32],
-        report: &mut [u64],
+        numbers: &mut [u64],
     ) -> Result<(), Refusal> {
         // SAFETY: as in `add`.
         accepted(unsafe {
             raw::ferruntzo_quotient(
                 f.as_ptr(), f.len(), g.as_ptr(), g.len(), h.as_ptr(), h.len(), w.as_ptr(), w.len(),
                 scratch.as_mut_ptr(), scratch.len(), out.as_mut_ptr(), out.len(),
-                report.as_mut_ptr(), report.len(),
+                numbers.as_mut_ptr(), numbers.len(),
             )
         })
     }
 
-    /// The root test; `f` has 35 numbers, `h` and `w` 34, `scratch` 65, `out` 35, `report` 3: m, N, b.
+    /// The root test; `f` has 35 numbers, `h` and `w` 34, `scratch` 65, `out` 35, `numbers` 3: m, N, b.
     pub fn root(
         f: &[i32],
         h: &[i32],
         w: &[i32],
         scratch: &mut [i64],
         out: &mut [i32],
-        report: &mut [u64],
+        numbers: &mut [u64],
     ) -> Result<(), Refusal> {
         // SAFETY: as in `add`.
         accepted(unsafe {
             raw::ferruntzo_root(
                 f.as_ptr(), f.len(), h.as_ptr(), h.len(), w.as_ptr(), w.len(),
                 scratch.as_mut_ptr(), scratch.len(), out.as_mut_ptr(), out.len(),
-                report.as_mut_ptr(), report.len(),
+                numbers.as_mut_ptr(), numbers.len(),
             )
         })
     }
 
     /// The check of a job; `work` has 1120 numbers, `scratch` 65, `answer` 2: count, command.
     ///
-    /// With a short `work` or `scratch`, an `answer` of 2 or more numbers is set to 0 and 0.
+    /// `ShortArea` leaves `work` and `scratch` as they were, and an `answer` of 2 or more numbers at
+    /// 0 and 0. After every other call `scratch` is zero, and `work` is too if the job is refused.
     pub fn check(
         job: &[u8],
         work: &mut [i32],
@@ -513,7 +525,7 @@ pub mod areas {
 /// The declarations of `include/ferruntzo.h`.
 #[rustfmt::skip]
 mod raw {
-    #[link(name = "export", kind = "static")]
+    #[link(name = "ferruntzo", kind = "static")]
     extern "C" {
         pub fn ferruntzo_add(
             a: *const i32, a_len: usize, b: *const i32, b_len: usize, out: *mut i32, out_len: usize,
@@ -535,12 +547,12 @@ mod raw {
             f: *const i32, f_len: usize, g: *const i32, g_len: usize,
             h: *const i32, h_len: usize, w: *const i32, w_len: usize,
             scratch: *mut i64, scratch_len: usize, out: *mut i32, out_len: usize,
-            report: *mut u64, report_len: usize,
+            numbers: *mut u64, numbers_len: usize,
         ) -> u32;
         pub fn ferruntzo_root(
             f: *const i32, f_len: usize, h: *const i32, h_len: usize, w: *const i32, w_len: usize,
             scratch: *mut i64, scratch_len: usize, out: *mut i32, out_len: usize,
-            report: *mut u64, report_len: usize,
+            numbers: *mut u64, numbers_len: usize,
         ) -> u32;
         pub fn ferruntzo_check(
             job: *const u8, job_len: usize, work: *mut i32, work_len: usize,

@@ -1,4 +1,4 @@
-//! Tests of the wrapper: document 01's examples, every refusal, every area too short.
+//! Tests of the wrapper: document 01's examples, every refusal, every area at every length around its size.
 use super::*;
 use std::format;
 use std::vec;
@@ -78,7 +78,7 @@ fn p6_evaluation() {
 fn p7_quotient() {
     let third = Candidate::constant(349525);
     let found = quotient(&Model::constant(S), &Model::constant(3 * S), &third, &third);
-    assert_eq!(found, Ok(Certified { model: third.with_radius(2), m: 1, n: 1, b: 1 }));
+    assert_eq!(found, Ok(Certificate { model: third.with_radius(2), m: 1, n: 1, b: 1 }));
 }
 
 #[test]
@@ -169,7 +169,7 @@ fn header_agrees() {
         ("CANDIDATE_SIZE", CANDIDATE_SIZE),
         ("BOUNDS_SIZE", BOUNDS_SIZE),
         ("SCRATCH_SIZE", SCRATCH_SIZE),
-        ("REPORT_SIZE", REPORT_SIZE),
+        ("NUMBERS_SIZE", NUMBERS_SIZE),
         ("WORK_SIZE", WORK_SIZE),
         ("ANSWER_SIZE", ANSWER_SIZE),
         ("COEFFICIENTS", COEFFICIENTS),
@@ -190,8 +190,9 @@ fn refusals_of_operations() {
     let bad = Model::new(0, *term(1, S).coefficients().first_chunk().unwrap(), 0);
     assert_eq!(one.add(&bad), Err(Refusal::BadModel));
     assert_eq!(one.subtract(&model(&[S], -1)), Err(Refusal::BadModel));
-    assert_eq!(one.add(&Model::new(33, [0; 33], 0)), Err(Refusal::BadModel));
-    assert_eq!(one.add(&Model::new(-1, [0; 33], 0)), Err(Refusal::BadModel));
+    for degree in [-1, MAX_DEGREE as i32 + 1] {
+        assert_eq!(one.add(&Model::new(degree, [0; COEFFICIENTS], 0)), Err(Refusal::BadModel));
+    }
     assert_eq!(one.add(&Model::constant(i32::MIN)), Err(Refusal::BadModel));
     assert_eq!(large.add(&one), Err(Refusal::LargeResult));
     assert_eq!(large.multiply(&large, 0), Err(Refusal::LargeResult));
@@ -209,7 +210,8 @@ fn refusals_of_tests() {
     let (one, four) = (Model::constant(S), Model::constant(4 * S));
     let candidate = Candidate::constant;
     let (s, zero) = (candidate(S), candidate(0));
-    assert_eq!(quotient(&one, &one, &s, &Candidate::new(33, [0; 33])), Err(Refusal::BadModel));
+    let bad = Candidate::new(MAX_DEGREE as i32 + 1, [0; COEFFICIENTS]);
+    assert_eq!(quotient(&one, &one, &s, &bad), Err(Refusal::BadModel));
     assert_eq!(quotient(&one, &one, &s, &zero), Err(Refusal::NotContracting));
     let f = Model::constant(-LIMIT);
     assert_eq!(quotient(&f, &one, &candidate(LIMIT), &s), Err(Refusal::LargeResidual));
@@ -257,116 +259,169 @@ fn refusals_of_jobs() {
 
 // ---- Areas ----
 
-/// Numbers that no function writes.
+/// What stands in every area that is written, before a call.
 const MARK: i32 = -77;
+const WIDE: i64 = -77;
+const LONG: u64 = 77;
 
-/// Calls with every area one number too short or empty in turn, all others longer than needed;
-/// nothing may be touched.
+/// None, one, one too few, as many as needed, two more.
+fn lengths(size: usize) -> [usize; 5] {
+    [0, 1, size - 1, size, size + 2]
+}
+
+/// The numbers of an area that a call leaves at zero: those of its size, if it has them.
+fn zeroed<T: Copy + Default>(before: T, length: usize, size: usize) -> Vec<T> {
+    let zeros = if length < size { 0 } else { size };
+    (0..length).map(|i| if i < zeros { T::default() } else { before }).collect()
+}
+
+/// The first numbers of a model in an area of any length.
+fn held(model: &Model, length: usize) -> Vec<i32> {
+    model.numbers().iter().copied().chain([MARK; 2]).take(length).collect()
+}
+
+/// Refused with 1 exactly if an area is short, and after every refusal zeros where there is room.
 #[test]
-fn short_areas_of_models() {
-    let one: Vec<i32> = Model::constant(S).numbers().iter().copied().chain([MARK; 3]).collect();
-    for (size, area) in [(MODEL_SIZE, 0), (MODEL_SIZE, 1), (MODEL_SIZE, 2)] {
-        for length in [0, 1, size - 1] {
-            let cut = |i: usize| if i == area { length } else { size + 3 };
-            let (a, b) = (&one[..cut(0)], &one[..cut(1)]);
-            let mut out = vec![MARK; cut(2)];
-            assert_eq!(areas::add(a, b, &mut out), Err(Refusal::ShortArea));
-            assert_eq!(areas::subtract(a, b, &mut out), Err(Refusal::ShortArea));
-            assert_eq!(areas::multiply(a, b, 999, &mut out), Err(Refusal::ShortArea));
-            if area != 1 {
-                assert_eq!(areas::integrate(a, &mut out), Err(Refusal::ShortArea));
+fn areas_of_operations() {
+    let one = Model::constant(S);
+    for (a_len, b_len, out_len) in every_length() {
+        let (a, b) = (held(&one, a_len), held(&one, b_len));
+        let unary = a_len < MODEL_SIZE || out_len < MODEL_SIZE;
+        let binary = unary || b_len < MODEL_SIZE;
+        let call = |short: bool, otherwise, f: &dyn Fn(&mut [i32]) -> Result<(), Refusal>| {
+            let mut out = vec![MARK; out_len];
+            let expected = if short { Err(Refusal::ShortArea) } else { otherwise };
+            assert_eq!(f(&mut out), expected);
+            if expected.is_err() {
+                assert_eq!(out, zeroed(MARK, out_len, MODEL_SIZE));
+            } else {
+                assert_eq!(out[MODEL_SIZE..], vec![MARK; out_len - MODEL_SIZE]);
             }
-            assert!(out.iter().all(|&n| n == MARK));
-            let mut bounds = [9i64; 4];
-            let told = if area == 2 { length.min(1) } else { 4 };
-            if area != 1 {
-                let found = areas::evaluate(a, 2 * S, &mut bounds[..told]);
-                assert_eq!(found, Err(Refusal::ShortArea));
-                assert_eq!(bounds, [9; 4]);
+        };
+        call(binary, Ok(()), &|out| areas::add(&a, &b, out));
+        call(binary, Ok(()), &|out| areas::subtract(&a, &b, out));
+        call(binary, Ok(()), &|out| areas::multiply(&a, &b, 0, out));
+        call(binary, Err(Refusal::BadValue), &|out| areas::multiply(&a, &b, 999, out));
+        call(unary, Ok(()), &|out| areas::integrate(&a, out));
+    }
+}
+
+/// Every length around the size of a model, for three areas.
+fn every_length() -> impl Iterator<Item = (usize, usize, usize)> {
+    let each = || lengths(MODEL_SIZE).into_iter();
+    each().flat_map(move |a| each().flat_map(move |b| each().map(move |c| (a, b, c))))
+}
+
+#[test]
+fn areas_of_evaluation() {
+    for a_len in lengths(MODEL_SIZE) {
+        for bounds_len in lengths(BOUNDS_SIZE) {
+            let mut bounds = vec![WIDE; bounds_len];
+            let found = areas::evaluate(&held(&Model::constant(S), a_len), S + 1, &mut bounds);
+            let short = a_len < MODEL_SIZE || bounds_len < BOUNDS_SIZE;
+            let expected = if short { Refusal::ShortArea } else { Refusal::PointOutside };
+            assert_eq!(found, Err(expected));
+            assert_eq!(bounds, zeroed(WIDE, bounds_len, BOUNDS_SIZE));
+        }
+    }
+}
+
+/// Areas of a quotient: f, g, h, w, scratch, out, numbers; a root has no g.
+const SIZES: [usize; 7] = [
+    MODEL_SIZE,
+    MODEL_SIZE,
+    CANDIDATE_SIZE,
+    CANDIDATE_SIZE,
+    SCRATCH_SIZE,
+    MODEL_SIZE,
+    NUMBERS_SIZE,
+];
+
+/// A test of f = 1 and h = w = 1 (refused with 5 as a root) or w = 0, over areas of these lengths.
+fn call_test(root: bool, lengths: [usize; 7]) {
+    let (one, zero) = (Model::constant(S), Model::ZERO);
+    let (f, g) = (held(&one, lengths[0]), held(&one, lengths[1]));
+    let (h, w) = (held(&one, lengths[2]), held(if root { &one } else { &zero }, lengths[3]));
+    let (mut scratch, mut out) = (vec![WIDE; lengths[4]], vec![MARK; lengths[5]]);
+    let mut numbers = vec![LONG; lengths[6]];
+    let found = if root {
+        areas::root(&f, &h, &w, &mut scratch, &mut out, &mut numbers)
+    } else {
+        areas::quotient(&f, &g, &h, &w, &mut scratch, &mut out, &mut numbers)
+    };
+    let short = (0..7).any(|i| lengths[i] < SIZES[i] && !(root && i == 1));
+    let expected = if short { Refusal::ShortArea } else { Refusal::NotContracting };
+    assert_eq!(found, Err(expected), "root: {root}, lengths {lengths:?}");
+    assert_eq!(scratch, zeroed(WIDE, lengths[4], SCRATCH_SIZE), "lengths {lengths:?}");
+    assert_eq!(out, zeroed(MARK, lengths[5], MODEL_SIZE), "lengths {lengths:?}");
+    assert_eq!(numbers, zeroed(LONG, lengths[6], NUMBERS_SIZE), "lengths {lengths:?}");
+}
+
+#[test]
+fn areas_of_tests() {
+    for root in [false, true] {
+        for i in 0..7 {
+            for j in 0..7 {
+                for first in lengths(SIZES[i]) {
+                    for second in lengths(SIZES[j]) {
+                        let mut told = SIZES;
+                        told[i] = first;
+                        told[j] = second;
+                        call_test(root, told);
+                    }
+                }
             }
         }
     }
 }
 
 #[test]
-fn short_areas_of_tests() {
-    let model = *Model::constant(S).numbers();
-    let sizes = [35, 35, 34, 34, SCRATCH_SIZE, MODEL_SIZE, REPORT_SIZE];
-    for area in 0..sizes.len() {
-        for length in [0, 1, sizes[area] - 1] {
-            let cut = |i: usize| if i == area { length } else { sizes[i] };
-            let (mut scratch, mut out, mut report) = ([7i64; 65], [MARK; 35], [7u64; 3]);
-            let found = areas::quotient(
-                &model[..cut(0)],
-                &model[..cut(1)],
-                &model[..cut(2)],
-                &model[..cut(3)],
-                &mut scratch[..cut(4)],
-                &mut out[..cut(5)],
-                &mut report[..cut(6)],
-            );
-            assert_eq!(found, Err(Refusal::ShortArea), "quotient, area {area}");
-            if area != 1 {
-                let found = areas::root(
-                    &model[..cut(0)],
-                    &model[..cut(2)],
-                    &model[..cut(3)],
-                    &mut scratch[..cut(4)],
-                    &mut out[..cut(5)],
-                    &mut report[..cut(6)],
-                );
-                assert_eq!(found, Err(Refusal::ShortArea), "root, area {area}");
+fn areas_of_check() {
+    for work_len in lengths(WORK_SIZE) {
+        for scratch_len in lengths(SCRATCH_SIZE) {
+            for answer_len in lengths(ANSWER_SIZE) {
+                let (mut work, mut scratch) = (vec![MARK; work_len], vec![WIDE; scratch_len]);
+                let mut answer = vec![9u32; answer_len];
+                let job = &example()[..example().len() - 1];
+                let found = areas::check(job, &mut work, &mut scratch, &mut answer);
+                if work_len < WORK_SIZE || scratch_len < SCRATCH_SIZE || answer_len < ANSWER_SIZE {
+                    assert_eq!(found, Err(Refusal::ShortArea));
+                    assert_eq!((work, scratch), (vec![MARK; work_len], vec![WIDE; scratch_len]));
+                    assert_eq!(answer, zeroed(9, answer_len, ANSWER_SIZE));
+                } else {
+                    assert_eq!(found, Err(Refusal::JobEnds));
+                    assert_eq!(work, zeroed(MARK, work_len, WORK_SIZE));
+                    assert_eq!(scratch, zeroed(WIDE, scratch_len, SCRATCH_SIZE));
+                    assert_eq!(answer[..ANSWER_SIZE], [0, 3]);
+                    assert_eq!(answer[ANSWER_SIZE..], vec![9; answer_len - ANSWER_SIZE]);
+                }
             }
-            assert_eq!((scratch, out, report), ([7; 65], [MARK; 35], [7; 3]));
         }
     }
 }
 
+/// An accepted job and an accepted root: what they answer, scratch zero, numbers behind as they were.
 #[test]
-fn short_areas_of_check() {
-    for (work_len, scratch_len) in [(1119, 65), (1120, 64), (0, 65), (1120, 0), (0, 0)] {
-        let (mut work, mut scratch, mut answer) = ([MARK; 1120], [7i64; 65], [9u32; 3]);
-        let (work_part, scratch_part) = (&mut work[..work_len], &mut scratch[..scratch_len]);
-        let found = areas::check(&example(), work_part, scratch_part, &mut answer);
-        assert_eq!(found, Err(Refusal::ShortArea));
-        assert_eq!((work, scratch, answer), ([MARK; 1120], [7; 65], [0, 0, 9]));
-    }
-    for answer_len in [0, 1] {
-        let (mut work, mut scratch, mut answer) = ([MARK; 1120], [7i64; 65], [9u32; 1]);
-        let found = areas::check(&example(), &mut work, &mut scratch, &mut answer[..answer_len]);
-        assert_eq!(found, Err(Refusal::ShortArea));
-        assert_eq!((work, scratch, answer), ([MARK; 1120], [7; 65], [9]));
-    }
-}
-
-/// Numbers behind stay, scratch is zero, a refusal leaves zeros.
-#[test]
-fn contents_of_areas() {
-    let (mut work, mut scratch, mut answer) = ([MARK; 1123], [7i64; 66], [9u32; 3]);
+fn areas_of_accepted_calls() {
+    let mut scratch = vec![WIDE; SCRATCH_SIZE + 1];
+    let (mut work, mut answer) = (vec![MARK; WORK_SIZE + 3], [9u32; ANSWER_SIZE + 1]);
     assert_eq!(areas::check(&example(), &mut work, &mut scratch, &mut answer), Ok(()));
     assert_eq!(answer, [2, 0, 9]);
-    assert_eq!((work[1], work[36]), (4 * S, 2 * S));
-    assert!(work[70..1120].iter().all(|&n| n == 0) && work[1120..] == [MARK; 3]);
-    assert!(scratch[..65].iter().all(|&n| n == 0) && scratch[65] == 7);
+    assert_eq!(work[..MODEL_SIZE], *Model::constant(4 * S).numbers());
+    assert_eq!(work[MODEL_SIZE..2 * MODEL_SIZE], *Model::constant(2 * S).numbers());
+    assert_eq!(work[2 * MODEL_SIZE..WORK_SIZE], vec![0; WORK_SIZE - 2 * MODEL_SIZE]);
+    assert_eq!(work[WORK_SIZE..], [MARK; 3]);
+    assert_eq!(scratch, zeroed(WIDE, SCRATCH_SIZE + 1, SCRATCH_SIZE));
 
-    scratch.fill(7);
-    let found = areas::check(&example()[..408], &mut work, &mut scratch, &mut answer);
-    assert_eq!((found, answer), (Err(Refusal::JobEnds), [0, 3, 9]));
-    assert!(work[..1120].iter().all(|&n| n == 0) && work[1120..] == [MARK; 3]);
-    assert!(scratch[..65].iter().all(|&n| n == 0) && scratch[65] == 7);
-
-    scratch.fill(7);
-    let (mut out, mut report) = ([MARK; 36], [7u64; 4]);
-    let (f, h, w) = (Model::constant(S), Candidate::constant(2 * S), Candidate::constant(S / 4));
-    let found = areas::root(&f.0, &h.0, &w.0, &mut scratch, &mut out, &mut report);
-    assert_eq!(found, Err(Refusal::NegativeDiscriminant));
-    assert!(out[..35].iter().all(|&n| n == 0) && out[35] == MARK);
-    assert_eq!(report, [0, 0, 0, 7]);
-    assert!(scratch[..65].iter().all(|&n| n == 0) && scratch[65] == 7);
-
-    let mut bounds = [9i64; 3];
-    assert_eq!(areas::evaluate(&f.0, S + 1, &mut bounds), Err(Refusal::PointOutside));
-    assert_eq!(bounds, [0, 0, 9]);
+    scratch.fill(WIDE);
+    let (mut out, mut numbers) = (vec![MARK; MODEL_SIZE + 1], [LONG; NUMBERS_SIZE + 1]);
+    let (f, h, w) =
+        (Model::constant(2 * S), Candidate::constant(2 * S), Candidate::constant(S / 4));
+    assert_eq!(areas::root(&f.0, &h.0, &w.0, &mut scratch, &mut out, &mut numbers), Ok(()));
+    assert_eq!(out[..MODEL_SIZE], *h.with_radius(S).numbers());
+    assert_eq!((out[MODEL_SIZE], numbers[NUMBERS_SIZE]), (MARK, LONG));
+    assert_eq!(numbers[..NUMBERS_SIZE], [0, 2 * S as u64, S as u64 / 2]);
+    assert_eq!(scratch, zeroed(WIDE, SCRATCH_SIZE + 1, SCRATCH_SIZE));
 }
 
 #[test]

@@ -5,9 +5,10 @@ use Prim.Native.Nat.{ℕ, _+_, _≤_, _<_}
 use native.Mathlib.Omega.{arith}
 use lib.IntN.{ℤ, pos, natAbs}
 use lib.ListN.{length, getD, set, drop}
-use Rattle.integer.specs.Clearing.{Clearing, clearing-begins, clearing-turn, clearing-ends, zeros}
-use Rattle.chebyshev.specs.Coefficients.{weight}
-use Rattle.chebyshev.specs.Weight.{weight-step, weight-end}
+use Rattle.integer.specs.laws.Clearing.{Clearing, clearing-begins, clearing-turn, clearing-ends}
+use Rattle.chebyshev.specs.definitions.Coefficients.{weight}
+use Rattle.chebyshev.specs.laws.Weight.{weight-step, weight-end}
+use Rattle.certificate.specs.definitions.InnerContracts.{Drained}
 
 -- the invariant after k places: what is summed and what is left of the weight is the whole of it, and k numbers are zero
 pub record Draining (D start part : List ℤ) (sum k : ℕ) : Type 0 where
@@ -31,5 +32,8 @@ module _ {D start : List ℤ} where
       cleared = clearing-turn (d .cleared) h;
     }
 
-    pub draining-ends : length start ≤ k → (sum ≡ weight D) × (part ≡ zeros (length start))
-    draining-ends h = (omega (arith, d .rest, weight-end D k (omega (arith, d .width))), clearing-ends (d .cleared) h refl)
+    pub draining-ends : length start ≤ k → Drained D start part sum
+    draining-ends h = record {
+      sum-is = omega (arith, d .rest, weight-end D k (omega (arith, d .width)));
+      cleared = clearing-ends (d .cleared) h refl;
+    }

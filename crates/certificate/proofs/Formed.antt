@@ -1,35 +1,69 @@
--- The list C of two lists of coefficients up to their degrees, formed in a part that was zero.
-use mathlib.Core.Path.{_≡_, refl, _∙_, ap}
-use mathlib.Core.List.{List}
-use Prim.Native.Nat.{ℕ, _*_, _≤_}
+-- The list C of two lists of coefficients up to their degrees, formed in a part that was zero; and what a part is after that.
+use mathlib.Core.Path.{_≡_, sym, _∙_, ap}
+use mathlib.Core.List.{List, _++_}
+use Prim.Native.Nat.{ℕ, suc, _^_, _≤_}
 use native.Mathlib.Omega.{arith}
 use native.Mathlib.Nat.{mul-le-mul}
 use lib.IntN.{ℤ}
-use lib.ListN.{length, take}
-use Rattle.integer.specs.Integer.{ℤ-ring}
-use Rattle.integer.specs.Clearing.{zeros, length-zeros}
-use Rattle.chebyshev.specs.Coefficients.{weight}
-use Rattle.chebyshev.specs.Weight.{weight-zeros, weight-take}
-use Rattle.chebyshev.specs.Product.{addRows, product}
-use Rattle.chebyshev.specs.ProductLaws.{length-product}
-use Rattle.chebyshev.specs.ProductWeight.{weight-product}
-use Rattle.certificate.specs.Tests.{scratchPlaces}
+use lib.ListN.{length, take, drop}
+use lib.Seq.{length-take-le}
+use Rattle.integer.specs.definitions.Integer.{ℤ-ring}
+use Rattle.integer.specs.definitions.Lists.{zeros}
+use Rattle.integer.specs.laws.Clearing.{length-zeros}
+use Rattle.chebyshev.specs.definitions.Coefficients.{weight}
+use Rattle.chebyshev.specs.laws.Weight.{weight-zeros, weight-take}
+use Rattle.chebyshev.specs.definitions.Product.{addRows, product}
+use Rattle.chebyshev.specs.laws.ProductLaws.{length-product}
+use Rattle.chebyshev.specs.laws.ProductWeight.{weight-product}
+use Rattle.model.specs.definitions.Models.{productSize}
+use Rattle.certificate.specs.definitions.Tests.{scratchSize, scratchAfter}
+use Rattle.certificate.specs.definitions.InnerContracts.{Lent, FactorsUpTo, productUpTo}
+use Rattle.certificate.specs.laws.Stages.{scratch-cleared}
 
-pub cleared : {part : List ℤ} → part ≡ zeros scratchPlaces → (length part ≡ scratchPlaces) × (weight part ≡ 0)
-unfolding zeros
-cleared e = (ap length e ∙ length-zeros scratchPlaces, ap weight e ∙ weight-zeros scratchPlaces)
+module _ {part : List ℤ} (l : Lent part) where
+  pub weight-lent : weight part ≡ 0
+  unfolding zeros
+  weight-lent = ap weight (l .clear) ∙ weight-zeros (length part)
 
--- the walk starts from zeros
-pub from-zeros : (a b : List ℤ) → addRows ℤ-ring (zeros scratchPlaces) 0 a b ≡ product ℤ-ring scratchPlaces a b
-unfolding product zeros
-from-zeros a b = refl
+  -- the walk starts from zeros
+  pub from-lent : (a b : List ℤ) → addRows ℤ-ring part 0 a b ≡ product ℤ-ring productSize a b
+  unfolding product zeros
+  from-lent a b = ap (λ p. addRows ℤ-ring p 0 a b) (l .clear ∙ ap zeros (l .long))
 
-pub record Formed (a b c : List ℤ) : Type 0 where
-  pub width : length c ≡ scratchPlaces
-  pub weight-le : weight c ≤ 2 * weight a * weight b
+pub record Formed (c : List ℤ) : Type 0 where
+  pub width : length c ≡ productSize
+  pub weight-le : weight c ≤ 2 ^ 57
 
-pub formed : (n : ℕ) (a : List ℤ) (k : ℕ) (b c : List ℤ) → c ≡ product ℤ-ring scratchPlaces (take n a) (take k b) → Formed a b c
-formed n a k b c e = record {
-  width = ap length e ∙ length-product ℤ-ring scratchPlaces (take n a) (take k b);
-  weight-le = omega (arith, ap weight e, weight-product scratchPlaces (take n a) (take k b), mul-le-mul (weight-take n a) (weight-take k b));
+pub formed : {a : List ℤ} {n : ℕ} {b : List ℤ} {k : ℕ} → FactorsUpTo a n b k → (c : List ℤ) → c ≡ productUpTo a n b k → Formed c
+formed {a} {n} {b} {k} f c e = record {
+  width = ap length e ∙ length-product ℤ-ring productSize (take (suc n) a) (take (suc k) b);
+  weight-le =
+      omega (
+        arith,
+        f .weights,
+        ap weight e,
+        weight-product productSize (take (suc n) a) (take (suc k) b),
+        mul-le-mul (weight-take (suc n) a) (weight-take (suc k) b),
+      );
 }
+
+-- ---- a part that is cleared
+
+-- where it held C
+pub lent-after : {c part : List ℤ} → Formed c → part ≡ zeros (length c) → Lent part
+lent-after {c} {part} f e =
+    let w : length part ≡ length c = ap length e ∙ length-zeros (length c) in
+    record { clear = rw w e; long = w ∙ f .width }
+
+-- before a test
+pub lent-scratch : (start : List ℤ) {part : List ℤ} → length start ≡ scratchSize → part ≡ zeros (length start) → Lent part
+lent-scratch start {part} w e =
+    let l : length part ≡ length start = ap length e ∙ length-zeros (length start) in
+    record { clear = rw l e; long = l ∙ w }
+
+-- after a test: the scratch s, whose first numbers were lent
+pub scratch-after : (s : List ℤ) {part : List ℤ} → scratchSize ≤ length s → Lent part → length part ≡ length (take scratchSize s)
+    → part ++ drop scratchSize s ≡ scratchAfter s
+scratch-after s room l w =
+    ap (λ p. p ++ drop scratchSize s) (l .clear ∙ ap zeros (w ∙ length-take-le scratchSize s room))
+    ∙ sym (scratch-cleared s room)

@@ -1,12 +1,12 @@
-// Document 01's numbers of the two tests, m, N and b, and the radii. The scratch's part is zero before and after.
+// Document 01's numbers of the two tests, m, N and b, and the radii, over a lent part of the scratch.
 ghost use mathlib.Core.Path.{_≡_};
 ghost use mathlib.Core.Bool.{true};
 ghost use Prim.Native.Nat.{_+_, _*_, _-_, _≤_, _<_, _^_};
-ghost use Rattle.integer.specs.Rounding.{upℕ};
-ghost use Rattle.integer.specs.Clearing.{zeros};
-ghost use Rattle.chebyshev.specs.Coefficients.{weight as weightOf};
-ghost use Rattle.model.specs.Models.{scale, maxWeight, maxRadius, good, candidateModel};
-ghost use Rattle.certificate.specs.Tests.{scratchPlaces, quotientContraction, quotientResidual, rootContraction, rootResidual};
+ghost use Rattle.integer.specs.definitions.Rounding.{upℕ};
+ghost use Rattle.chebyshev.specs.definitions.Coefficients.{weight as weightOf};
+ghost use Rattle.model.specs.definitions.Models.{scale, maxWeight, maxRadius, good, candidateModel};
+ghost use Rattle.certificate.specs.definitions.Tests.{quotientContraction, quotientResidual, rootContraction, rootResidual};
+ghost use Rattle.certificate.specs.definitions.InnerContracts.{Lent, Ready};
 use crate::residual::constant_residual;
 use crate::residual::product_residual;
 use integer::rounding::up_unsigned;
@@ -22,8 +22,8 @@ const SQUARE: i64 = Model::SCALE * Model::SCALE;
 
 // m of the quotient; `weight` is M.
 pub(crate) fn quotient_contraction(part: &mut [i64], g: Model, w: Candidate, weight: u64) -> u64
-    requires { ⌜ (now part ≡ zeros scratchPlaces) × (good g ≡ true) × (good (candidateModel w) ≡ true) × (weight ≡ weightOf (w .coefficients)) ⌝ }
-    ensures { λ r. ⌜ (r ≡ quotientContraction g (candidateModel w)) × (now (part .exit) ≡ zeros scratchPlaces) ⌝ }
+    requires { ⌜ Ready (now part) (candidateModel w) g × (weight ≡ weightOf (w .coefficients)) ⌝ }
+    ensures { λ r. ⌜ (r ≡ quotientContraction g (candidateModel w)) × Lent (now (part .exit)) ⌝ }
 {
     let distance = constant_residual(
         part,
@@ -44,8 +44,9 @@ pub(crate) fn quotient_residual(
     h: Candidate,
     weight: u64,
 ) -> u64
-    requires { ⌜ (now part ≡ zeros scratchPlaces) × (good f ≡ true) × (good g ≡ true) × (good (candidateModel h) ≡ true) × (weight ≡ weightOf (h .coefficients)) ⌝ }
-    ensures { λ r. ⌜ (r ≡ quotientResidual f g (candidateModel h)) × (now (part .exit) ≡ zeros scratchPlaces) ⌝ }
+    requires { ⌜ Ready (now part) g (candidateModel h) × (good f ≡ true) ⌝ }
+    requires { ⌜ weight ≡ weightOf (h .coefficients) ⌝ }
+    ensures { λ r. ⌜ (r ≡ quotientResidual f g (candidateModel h)) × Lent (now (part .exit)) ⌝ }
 {
     let distance = product_residual(
         part,
@@ -63,8 +64,8 @@ pub(crate) fn quotient_residual(
 
 // m of the root.
 pub(crate) fn root_contraction(part: &mut [i64], h: Candidate, w: Candidate) -> u64
-    requires { ⌜ (now part ≡ zeros scratchPlaces) × (good (candidateModel h) ≡ true) × (good (candidateModel w) ≡ true) ⌝ }
-    ensures { λ r. ⌜ (r ≡ rootContraction (candidateModel h) (candidateModel w)) × (now (part .exit) ≡ zeros scratchPlaces) ⌝ }
+    requires { ⌜ Ready (now part) (candidateModel w) (candidateModel h) ⌝ }
+    ensures { λ r. ⌜ (r ≡ rootContraction (candidateModel h) (candidateModel w)) × Lent (now (part .exit)) ⌝ }
 {
     let distance = constant_residual(
         part,
@@ -79,8 +80,8 @@ pub(crate) fn root_contraction(part: &mut [i64], h: Candidate, w: Candidate) -> 
 
 // N of the root.
 pub(crate) fn root_residual(part: &mut [i64], f: Model, h: Candidate) -> u64
-    requires { ⌜ (now part ≡ zeros scratchPlaces) × (good f ≡ true) × (good (candidateModel h) ≡ true) ⌝ }
-    ensures { λ r. ⌜ (r ≡ rootResidual f (candidateModel h)) × (now (part .exit) ≡ zeros scratchPlaces) ⌝ }
+    requires { ⌜ Ready (now part) (candidateModel h) (candidateModel h) × (good f ≡ true) ⌝ }
+    ensures { λ r. ⌜ (r ≡ rootResidual f (candidateModel h)) × Lent (now (part .exit)) ⌝ }
 {
     let distance = product_residual(
         part,

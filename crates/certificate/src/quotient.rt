@@ -1,26 +1,25 @@
 // The quotient test: is h a quotient f/g, with w as a helper?
 ghost use mathlib.Core.Path.{_≡_};
-ghost use mathlib.Core.Bool.{true};
 ghost use lib.ListN.{length};
-ghost use Rattle.integer.specs.Clearing.{zeros};
-ghost use Rattle.chebyshev.specs.Coefficients.{weight};
-ghost use Rattle.model.specs.Models.{good, candidateModel};
-ghost use Rattle.certificate.specs.Tests.{scratchPlaces, scratchAfter, testOf, quotientTest};
+ghost use Rattle.chebyshev.specs.definitions.Coefficients.{weight};
+ghost use Rattle.model.specs.definitions.Models.{candidateModel};
+ghost use Rattle.certificate.specs.definitions.Tests.{scratchSize, scratchAfter, testOf, quotientTest};
+ghost use Rattle.certificate.specs.definitions.InnerContracts.{Lent, QuotientReady};
 use crate::numbers::SCALE;
 use crate::numbers::displacement;
 use crate::numbers::quotient_contraction;
 use crate::numbers::quotient_radius;
 use crate::numbers::quotient_residual;
 use crate::residual::clear;
-use crate::types::Certified;
-use crate::types::SCRATCH_PLACES;
+use crate::types::SCRATCH_SIZE;
+use crate::types::TestOutcome;
 use model::measure::measure;
 use model::measure::measure_candidate;
 use model::types::Candidate;
 use model::types::Model;
-use model::types::Verdict;
+use model::types::Refusal;
 
-// The test of good models and candidates, in a part that is zero before and after.
+// The test of good models and candidates, over a lent part.
 fn test_good(
     part: &mut [i64],
     f: Model,
@@ -29,11 +28,11 @@ fn test_good(
     h_weight: u64,
     w: Candidate,
     w_weight: u64,
-) -> Certified
-    requires { ⌜ (now part ≡ zeros scratchPlaces) × (good f ≡ true) × (good g ≡ true) × (good (candidateModel h) ≡ true) × (good (candidateModel w) ≡ true) ⌝ }
+) -> TestOutcome
+    requires { ⌜ QuotientReady (now part) f g (candidateModel h) (candidateModel w) ⌝ }
     requires { ⌜ («h_weight» ≡ weight (h .coefficients)) × («w_weight» ≡ weight (w .coefficients)) ⌝ }
-    ensures { λ (r : Certified). ⌜ testOf r ≡ quotientTest scratchPlaces f g h w ⌝ }
-    ensures { λ _. ⌜ now (part .exit) ≡ zeros scratchPlaces ⌝ }
+    ensures { λ (r : TestOutcome). ⌜ testOf r ≡ quotientTest scratchSize f g h w ⌝ }
+    ensures { λ _. ⌜ Lent (now (part .exit)) ⌝ }
 {
     let m = quotient_contraction(part, g, w, w_weight);
     if m < SCALE {
@@ -41,20 +40,20 @@ fn test_good(
         if n <= Model::MAX_RADIUS {
             let b = displacement(w_weight, n);
             let radius = quotient_radius(b, m);
-            Certified::formed(h, radius, m, n, b)
+            TestOutcome::formed(h, radius, m, n, b)
         } else {
-            Certified::refused(Verdict::LargeResidual)
+            TestOutcome::refused(Refusal::LargeResidual)
         }
     } else {
-        Certified::refused(Verdict::NotContracting)
+        TestOutcome::refused(Refusal::NotContracting)
     }
 }
 
 // The test in a part of the scratch, which is zero afterwards.
-fn test_in(part: &mut [i64], f: Model, g: Model, h: Candidate, w: Candidate) -> Certified
-    requires { ⌜ length (now part) ≡ scratchPlaces ⌝ }
-    ensures { λ (r : Certified). ⌜ testOf r ≡ quotientTest scratchPlaces f g h w ⌝ }
-    ensures { λ _. ⌜ now (part .exit) ≡ zeros scratchPlaces ⌝ }
+fn test_in(part: &mut [i64], f: Model, g: Model, h: Candidate, w: Candidate) -> TestOutcome
+    requires { ⌜ length (now part) ≡ scratchSize ⌝ }
+    ensures { λ (r : TestOutcome). ⌜ testOf r ≡ quotientTest scratchSize f g h w ⌝ }
+    ensures { λ _. ⌜ Lent (now (part .exit)) ⌝ }
 {
     clear(part);
     if measure(f).good {
@@ -68,15 +67,15 @@ fn test_in(part: &mut [i64], f: Model, g: Model, h: Candidate, w: Candidate) -> 
             }
         }
     }
-    Certified::refused(Verdict::BadModel)
+    TestOutcome::refused(Refusal::BadModel)
 }
 
-pub fn quotient(f: Model, g: Model, h: Candidate, w: Candidate, scratch: &mut [i64]) -> Certified
-    ensures { λ (r : Certified). ⌜ testOf r ≡ quotientTest (length (now (scratch .entry))) f g h w ⌝ }
+pub fn quotient(f: Model, g: Model, h: Candidate, w: Candidate, scratch: &mut [i64]) -> TestOutcome
+    ensures { λ (r : TestOutcome). ⌜ testOf r ≡ quotientTest (length (now (scratch .entry))) f g h w ⌝ }
     ensures { λ _. ⌜ now (scratch .exit) ≡ scratchAfter (now (scratch .entry)) ⌝ }
 {
-    if scratch.len() < SCRATCH_PLACES {
-        return Certified::refused(Verdict::ShortArea);
+    if scratch.len() < SCRATCH_SIZE {
+        return TestOutcome::refused(Refusal::ShortArea);
     }
-    test_in(&mut scratch[..SCRATCH_PLACES], f, g, h, w)
+    test_in(&mut scratch[..SCRATCH_SIZE], f, g, h, w)
 }

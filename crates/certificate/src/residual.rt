@@ -1,20 +1,18 @@
 // Weights of residuals, summed over a part of the list C in the scratch; each number is cleared once it is counted, so that
 // the scratch is zero again afterwards.
 ghost use mathlib.Core.Path.{_≡_};
-ghost use Prim.Native.Nat.{suc, _+_, _*_, _≤_, _<_, _^_};
+ghost use Prim.Native.Nat.{_+_, _*_, _≤_, _<_, _^_};
 ghost use lib.IntN.{natAbs};
 ghost use lib.ListN.{length, take, drop};
-ghost use Rattle.integer.specs.Integer.{ℤ-ring};
-ghost use Rattle.integer.specs.Clearing.{zeros};
-ghost use Rattle.chebyshev.specs.Coefficients.{weight};
-ghost use Rattle.chebyshev.specs.Product.{product};
-ghost use Rattle.model.specs.Models.{scale, places, maxDegree};
-ghost use Rattle.certificate.specs.Tests.{scratchPlaces};
-ghost use Rattle.certificate.specs.Residuals.{residualList, constantResidual};
+ghost use Rattle.integer.specs.definitions.Lists.{zeros};
+ghost use Rattle.chebyshev.specs.definitions.Coefficients.{weight};
+ghost use Rattle.model.specs.definitions.Models.{scale, coefficientCount, maxWeight};
+ghost use Rattle.certificate.specs.definitions.InnerContracts.{residualList, residualFrom, constantResidual, productUpTo};
+ghost use Rattle.certificate.specs.definitions.InnerContracts.{Lent, FactorsUpTo, Drained};
 use integer::absolute::magnitude;
 use model::products::add_products;
+use model::types::COEFFICIENTS;
 use model::types::Model;
-use model::types::PLACES;
 
 // 2S, one unit of a coefficient in units of C.
 const UNIT: i64 = 2 * Model::SCALE;
@@ -33,7 +31,7 @@ pub(crate) fn clear(part: &mut [i64])
 // Σ |c_k| of a part, which is cleared.
 fn drain(part: &mut [i64]) -> u64
     requires { ⌜ weight (now part) < 2 ^ 64 ⌝ }
-    ensures { λ r. ⌜ (r ≡ weight (now (part .entry))) × (now (part .exit) ≡ zeros (length (now (part .entry)))) ⌝ }
+    ensures { λ r. ⌜ Drained (now (part .entry)) (now (part .entry)) (now (part .exit)) r ⌝ }
 {
     let mut sum: u64 = 0;
     let mut k = 0;
@@ -48,7 +46,7 @@ fn drain(part: &mut [i64]) -> u64
 // Σ |c_k - 2S f_k| of a part as long as f, which is cleared.
 fn drain_difference(part: &mut [i64], f: &[i32]) -> u64
     requires { ⌜ (length (now f) ≡ length (now part)) × (weight (now part) + 2 * scale * weight (now f) < 2 ^ 63) ⌝ }
-    ensures { λ r. ⌜ (r ≡ weight (residualList (now (part .entry)) (now (f .entry)))) × (now (part .exit) ≡ zeros (length (now (part .entry)))) ⌝ }
+    ensures { λ r. ⌜ Drained (residualList (now (part .entry)) (now (f .entry))) (now (part .entry)) (now (part .exit)) r ⌝ }
 {
     let mut sum: u64 = 0;
     let mut k = 0;
@@ -63,7 +61,7 @@ fn drain_difference(part: &mut [i64], f: &[i32]) -> u64
 // The weight of c - C over the part of C from place `start` on, which is cleared; the number c stands at place 0.
 fn drain_constant(part: &mut [i64], start: usize, c: i64) -> u64
     requires { ⌜ (0 < length (now part)) × (weight (now part) + natAbs c < 2 ^ 63) ⌝ }
-    ensures { λ r. ⌜ (r ≡ weight (constantResidual start c (now (part .entry)))) × (now (part .exit) ≡ zeros (length (now (part .entry)))) ⌝ }
+    ensures { λ r. ⌜ Drained (constantResidual start c (now (part .entry))) (now (part .entry)) (now (part .exit)) r ⌝ }
 {
     if start == 0 {
         part[0] = part[0] - c;
@@ -89,7 +87,8 @@ fn window(f: &[i32], start: usize, count: usize) -> &[i32]
 // The weight of C - 2S f over the part of C from place `start` on, which is cleared; f may be longer than C's own list.
 fn drain_residual(part: &mut [i64], start: usize, f: &[i32]) -> u64
     requires { ⌜ weight (now part) + 2 * scale * weight (now f) < 2 ^ 63 ⌝ }
-    ensures { λ r. ⌜ (r ≡ weight (residualList (now (part .entry)) (take (length (now (part .entry))) (drop start (now (f .entry)))))) × (now (part .exit) ≡ zeros (length (now (part .entry)))) ⌝ }
+    ensures { λ r.
+        ⌜ Drained (residualFrom start (now (part .entry)) (now (f .entry))) (now (part .entry)) (now (part .exit)) r ⌝ }
 {
     let own = window(f, start, part.len());
     let n = own.len();
@@ -97,48 +96,47 @@ fn drain_residual(part: &mut [i64], start: usize, f: &[i32]) -> u64
     sum + drain(&mut part[n..])
 }
 
-// C(a, b) of coefficients up to the degrees n and k, in a part that is zero.
-fn form(part: &mut [i64], a: &[i32; PLACES], n: u32, b: &[i32; PLACES], k: u32)
-    requires { ⌜ (now part ≡ zeros scratchPlaces) × (2 * weight (now a) * weight (now b) < 2 ^ 63) ⌝ }
-    requires { ⌜ (length (now a) ≡ places) × (length (now b) ≡ places) × (n ≤ maxDegree) × (k ≤ maxDegree) ⌝ }
-    ensures { λ _. ⌜ now (part .exit) ≡ product ℤ-ring scratchPlaces (take (suc n) (now (a .entry))) (take (suc k) (now (b .entry))) ⌝ }
+// C(a, b) of coefficients up to the degrees n and k.
+fn form(part: &mut [i64], a: &[i32; COEFFICIENTS], n: u32, b: &[i32; COEFFICIENTS], k: u32)
+    requires { ⌜ Lent (now part) × FactorsUpTo (now a) n (now b) k ⌝ }
+    ensures { λ _. ⌜ now (part .exit) ≡ productUpTo (now (a .entry)) n (now (b .entry)) k ⌝ }
 {
     let x = &a[..];
     let y = &b[..];
     add_products(part, &x[..n as usize + 1], &y[..k as usize + 1]);
 }
 
-// The weight of c - C(a, b). The part is zero before and after.
+// The weight of c - C(a, b). The part is lent again afterwards.
 pub(crate) fn constant_residual(
     part: &mut [i64],
-    a: &[i32; PLACES],
+    a: &[i32; COEFFICIENTS],
     n: u32,
-    b: &[i32; PLACES],
+    b: &[i32; COEFFICIENTS],
     k: u32,
     c: i64,
 ) -> u64
-    requires { ⌜ (now part ≡ zeros scratchPlaces) × (2 * weight (now a) * weight (now b) + natAbs c < 2 ^ 63) ⌝ }
-    requires { ⌜ (length (now a) ≡ places) × (length (now b) ≡ places) × (n ≤ maxDegree) × (k ≤ maxDegree) ⌝ }
-    ensures { λ r. ⌜ r ≡ weight (constantResidual 0 c (product ℤ-ring scratchPlaces (take (suc n) (now (a .entry))) (take (suc k) (now (b .entry))))) ⌝ }
-    ensures { λ _. ⌜ now (part .exit) ≡ zeros scratchPlaces ⌝ }
+    requires { ⌜ Lent (now part) × FactorsUpTo (now a) n (now b) k ⌝ }
+    requires { ⌜ natAbs c < 2 ^ 62 ⌝ }
+    ensures { λ r. ⌜ r ≡ weight (constantResidual 0 c (productUpTo (now (a .entry)) n (now (b .entry)) k)) ⌝ }
+    ensures { λ _. ⌜ Lent (now (part .exit)) ⌝ }
 {
     form(part, a, n, b, k);
     drain_constant(part, 0, c)
 }
 
-// The weight of C(a, b) - 2S f. The part is zero before and after.
+// The weight of C(a, b) - 2S f. The part is lent again afterwards.
 pub(crate) fn product_residual(
     part: &mut [i64],
-    a: &[i32; PLACES],
+    a: &[i32; COEFFICIENTS],
     n: u32,
-    b: &[i32; PLACES],
+    b: &[i32; COEFFICIENTS],
     k: u32,
-    f: &[i32; PLACES],
+    f: &[i32; COEFFICIENTS],
 ) -> u64
-    requires { ⌜ (now part ≡ zeros scratchPlaces) × (2 * weight (now a) * weight (now b) + 2 * scale * weight (now f) < 2 ^ 63) ⌝ }
-    requires { ⌜ (length (now a) ≡ places) × (length (now b) ≡ places) × (length (now f) ≡ places) × (n ≤ maxDegree) × (k ≤ maxDegree) ⌝ }
-    ensures { λ r. ⌜ r ≡ weight (residualList (product ℤ-ring scratchPlaces (take (suc n) (now (a .entry))) (take (suc k) (now (b .entry)))) (now (f .entry))) ⌝ }
-    ensures { λ _. ⌜ now (part .exit) ≡ zeros scratchPlaces ⌝ }
+    requires { ⌜ Lent (now part) × FactorsUpTo (now a) n (now b) k ⌝ }
+    requires { ⌜ (length (now f) ≡ coefficientCount) × (weight (now f) ≤ maxWeight) ⌝ }
+    ensures { λ r. ⌜ r ≡ weight (residualList (productUpTo (now (a .entry)) n (now (b .entry)) k) (now (f .entry))) ⌝ }
+    ensures { λ _. ⌜ Lent (now (part .exit)) ⌝ }
 {
     form(part, a, n, b, k);
     drain_residual(part, 0, f)

@@ -1,47 +1,41 @@
 // The root test: is h a square root of f, with w as a helper?
 ghost use mathlib.Core.Path.{_≡_};
-ghost use mathlib.Core.Bool.{true};
-ghost use mathlib.Core.List.{[], _∷_};
-ghost use Prim.Native.Nat.{_*_, _-_, _^_, _≤_, _<_};
-ghost use lib.Dec.{ltb};
 ghost use lib.ListN.{length};
-ghost use Rattle.integer.specs.Clearing.{zeros};
-ghost use Rattle.chebyshev.specs.Coefficients.{weight as weightOf};
-ghost use Rattle.chebyshev.specs.Sign.{coefficientSum};
-ghost use Rattle.model.specs.Models.{scale, places, maxWeight, good, tooLarge, candidateModel};
-ghost use Rattle.certificate.specs.Tests.{scratchPlaces, scratchAfter, testOf, tested, rootModel, rootTest};
-ghost use Rattle.certificate.specs.RootNumbers.{rootOutcomeOf, rootOutcome};
+ghost use Rattle.chebyshev.specs.definitions.Coefficients.{weight as weightOf, coefficientSum};
+ghost use Rattle.model.specs.definitions.Models.{coefficientCount, candidateModel};
+ghost use Rattle.certificate.specs.definitions.Tests.{scratchSize, scratchAfter, testOf, rootTest};
+ghost use Rattle.certificate.specs.definitions.InnerContracts.{Lent, RootReady, RootLast, reachOf, numbersOutcome, rootEnd};
 use crate::numbers::SCALE;
 use crate::numbers::displacement;
 use crate::numbers::root_contraction;
 use crate::numbers::root_radius;
 use crate::numbers::root_residual;
 use crate::residual::clear;
-use crate::types::Certified;
 use crate::types::RootNumbers;
-use crate::types::SCRATCH_PLACES;
+use crate::types::SCRATCH_SIZE;
+use crate::types::TestOutcome;
 use model::measure::measure;
 use model::measure::measure_candidate;
+use model::types::COEFFICIENTS;
 use model::types::Candidate;
 use model::types::Model;
-use model::types::PLACES;
-use model::types::Verdict;
+use model::types::Refusal;
 
 // Σ w_k
-fn total(coefficients: &[i32; PLACES]) -> i64
-    requires { ⌜ length (now coefficients) ≡ places ⌝ }
+fn total(coefficients: &[i32; COEFFICIENTS]) -> i64
+    requires { ⌜ length (now coefficients) ≡ coefficientCount ⌝ }
     ensures { λ r. ⌜ r ≡ coefficientSum (now (coefficients .entry)) ⌝ }
 {
     let mut sum: i64 = 0;
     let mut k = 0;
-    while k < PLACES {
+    while k < COEFFICIENTS {
         sum = sum + (coefficients[k] as i64);
         k += 1;
     }
     sum
 }
 
-// The places from the helper's sign to N, of good models and candidates, in a part that is zero before and after.
+// The places from the helper's sign to N, of good models and candidates, over a lent part.
 fn numbers_of_good(
     part: &mut [i64],
     f: Model,
@@ -49,12 +43,12 @@ fn numbers_of_good(
     w: Candidate,
     weight: u64,
 ) -> RootNumbers
-    requires { ⌜ (now part ≡ zeros scratchPlaces) × (good f ≡ true) × (good (candidateModel h) ≡ true) × (good (candidateModel w) ≡ true) × (weight ≡ weightOf (w .coefficients)) ⌝ }
-    ensures { λ (r : RootNumbers). ⌜ rootOutcomeOf r ≡ rootOutcome scratchPlaces f (candidateModel h) (candidateModel w) ⌝ }
-    ensures { λ _. ⌜ now (part .exit) ≡ zeros scratchPlaces ⌝ }
+    requires { ⌜ RootReady (now part) f (candidateModel h) (candidateModel w) × (weight ≡ weightOf (w .coefficients)) ⌝ }
+    ensures { λ (r : RootNumbers). ⌜ reachOf r ≡ numbersOutcome scratchSize f h w ⌝ }
+    ensures { λ _. ⌜ Lent (now (part .exit)) ⌝ }
 {
     if total(&w.coefficients) <= 0 {
-        return RootNumbers::Refused(Verdict::HelperNotPositive);
+        return RootNumbers::Refused(Refusal::HelperNotPositive);
     }
     let m = root_contraction(part, h, w);
     if m < SCALE {
@@ -68,18 +62,18 @@ fn numbers_of_good(
                 displacement: b,
             }
         } else {
-            RootNumbers::Refused(Verdict::LargeResidual)
+            RootNumbers::Refused(Refusal::LargeResidual)
         }
     } else {
-        RootNumbers::Refused(Verdict::NotContracting)
+        RootNumbers::Refused(Refusal::NotContracting)
     }
 }
 
 // The places through N in a part of the scratch, which is zero afterwards.
 fn numbers_in(part: &mut [i64], f: Model, h: Candidate, w: Candidate) -> RootNumbers
-    requires { ⌜ length (now part) ≡ scratchPlaces ⌝ }
-    ensures { λ (r : RootNumbers). ⌜ rootOutcomeOf r ≡ rootOutcome scratchPlaces f (candidateModel h) (candidateModel w) ⌝ }
-    ensures { λ _. ⌜ now (part .exit) ≡ zeros scratchPlaces ⌝ }
+    requires { ⌜ length (now part) ≡ scratchSize ⌝ }
+    ensures { λ (r : RootNumbers). ⌜ reachOf r ≡ numbersOutcome scratchSize f h w ⌝ }
+    ensures { λ _. ⌜ Lent (now (part .exit)) ⌝ }
 {
     clear(part);
     if measure(f).good {
@@ -90,42 +84,41 @@ fn numbers_in(part: &mut [i64], f: Model, h: Candidate, w: Candidate) -> RootNum
             }
         }
     }
-    RootNumbers::Refused(Verdict::BadModel)
+    RootNumbers::Refused(Refusal::BadModel)
 }
 
 // The places through N, and b.
 pub(crate) fn root_numbers(f: Model, h: Candidate, w: Candidate, scratch: &mut [i64]) -> RootNumbers
-    ensures { λ (r : RootNumbers). ⌜ rootOutcomeOf r ≡ rootOutcome (length (now (scratch .entry))) f (candidateModel h) (candidateModel w) ⌝ }
+    ensures { λ (r : RootNumbers). ⌜ reachOf r ≡ numbersOutcome (length (now (scratch .entry))) f h w ⌝ }
     ensures { λ _. ⌜ now (scratch .exit) ≡ scratchAfter (now (scratch .entry)) ⌝ }
 {
-    if scratch.len() < SCRATCH_PLACES {
-        return RootNumbers::Refused(Verdict::ShortArea);
+    if scratch.len() < SCRATCH_SIZE {
+        return RootNumbers::Refused(Refusal::ShortArea);
     }
-    numbers_in(&mut scratch[..SCRATCH_PLACES], f, h, w)
+    numbers_in(&mut scratch[..SCRATCH_SIZE], f, h, w)
 }
 
 // Discriminant and radius. 8·b·M may pass 64 bits, so b is compared with (S-m)² / (8·M). The result is never too large.
-fn root_result(h: Candidate, weight: u64, m: u64, n: u64, b: u64) -> Certified
-    requires { ⌜ (good (candidateModel h) ≡ true) × (0 < weight) × (weight ≤ maxWeight) × (m < scale) × (b ≤ 2 ^ 36) ⌝ }
-    requires { ⌜ (scale - m) * scale ≤ 2 ^ 29 * weight ⌝ }
-    ensures { λ (r : Certified). ⌜ testOf r ≡ tested ((ltb ((scale - m) * (scale - m)) (8 * b * weight), 8) ∷ (tooLarge (rootModel (candidateModel h) m b), 3) ∷ []) (rootModel (candidateModel h) m b) m n b ⌝ }
+fn root_result(h: Candidate, weight: u64, m: u64, n: u64, b: u64) -> TestOutcome
+    requires { ⌜ RootLast (candidateModel h) weight m b ⌝ }
+    ensures { λ (r : TestOutcome). ⌜ testOf r ≡ rootEnd (candidateModel h) weight m n b ⌝ }
 {
     let gap = SCALE - m;
     if b <= gap * gap / (8 * weight) {
         let radius = root_radius(b, m);
-        Certified::accepted(h, radius as u32, m, n, b)
+        TestOutcome::accepted(h, radius as u32, m, n, b)
     } else {
-        Certified::refused(Verdict::NegativeDiscriminant)
+        TestOutcome::refused(Refusal::NegativeDiscriminant)
     }
 }
 
-pub fn root(f: Model, h: Candidate, w: Candidate, scratch: &mut [i64]) -> Certified
-    ensures { λ (r : Certified). ⌜ testOf r ≡ rootTest (length (now (scratch .entry))) f h w ⌝ }
+pub fn root(f: Model, h: Candidate, w: Candidate, scratch: &mut [i64]) -> TestOutcome
+    ensures { λ (r : TestOutcome). ⌜ testOf r ≡ rootTest (length (now (scratch .entry))) f h w ⌝ }
     ensures { λ _. ⌜ now (scratch .exit) ≡ scratchAfter (now (scratch .entry)) ⌝ }
 {
     let numbers = root_numbers(f, h, w, scratch);
     match numbers {
-        RootNumbers::Refused(verdict) => Certified::refused(verdict),
+        RootNumbers::Refused(refusal) => TestOutcome::refused(refusal),
         RootNumbers::Reached {
             weight,
             contraction: m,

@@ -1,21 +1,21 @@
 // What a test answers.
 ghost use mathlib.Core.Path.{_≡_};
 ghost use mathlib.Core.Bool.{true};
-ghost use mathlib.Core.List.{[], _∷_};
-ghost use Rattle.model.specs.Models.{good, tooLarge, modelOf, candidateModel, zeroModel};
-ghost use Rattle.model.specs.declared.types.Verdict.the-variants.{Accepted};
-ghost use Rattle.certificate.specs.Tests.{testOf, tested};
-ghost use Rattle.certificate.specs.Stages.{certifiedOf};
+ghost use Rattle.model.specs.definitions.Models.{good, candidateModel};
+ghost use Rattle.model.specs.definitions.Outcomes.{numberOf};
+ghost use Rattle.certificate.specs.definitions.Tests.{withRadius, testOf};
+ghost use Rattle.certificate.specs.definitions.InnerContracts.{refusedTest, passedTest, formedTest};
 use model::types::Candidate;
 use model::types::Model;
-use model::types::PRODUCT_PLACES;
+use model::types::PRODUCT_SIZE;
+use model::types::Refusal;
 use model::types::Verdict;
 
 // How many numbers a test borrows.
-pub const SCRATCH_PLACES: usize = PRODUCT_PLACES;
+pub const SCRATCH_SIZE: usize = PRODUCT_SIZE;
 
 // The verdict, the result, and document 01's m, N and b; on refusal the zero model and three zeros.
-pub struct Certified {
+pub struct TestOutcome {
     pub verdict: Verdict,
     pub model: Model,
     pub contraction: u64,
@@ -23,12 +23,12 @@ pub struct Certified {
     pub displacement: u64,
 }
 
-impl Certified {
-    pub(crate) fn refused(verdict: Verdict) -> Certified
-        ensures { λ (r : Certified). ⌜ r ≡ certifiedOf verdict zeroModel 0 0 0 ⌝ }
+impl TestOutcome {
+    pub(crate) fn refused(refusal: Refusal) -> TestOutcome
+        ensures { λ (r : TestOutcome). ⌜ testOf r ≡ refusedTest (numberOf refusal) ⌝ }
     {
-        Certified {
-            verdict,
+        TestOutcome {
+            verdict: Verdict::Refused(refusal),
             model: Model::zero(),
             contraction: 0,
             residual: 0,
@@ -43,11 +43,12 @@ impl Certified {
         contraction: u64,
         residual: u64,
         displacement: u64,
-    ) -> Certified
-        ensures { λ (r : Certified). ⌜ r ≡ certifiedOf Accepted (modelOf (h .degree) (h .coefficients) radius) contraction residual displacement ⌝ }
+    ) -> TestOutcome
+        ensures { λ (r : TestOutcome).
+            ⌜ testOf r ≡ passedTest (withRadius (candidateModel h) radius) contraction residual displacement ⌝ }
     {
         let coefficients = h.coefficients;
-        Certified {
+        TestOutcome {
             verdict: Verdict::Accepted,
             model: Model::new(h.degree, coefficients, radius),
             contraction,
@@ -63,20 +64,20 @@ impl Certified {
         contraction: u64,
         residual: u64,
         displacement: u64,
-    ) -> Certified
+    ) -> TestOutcome
         requires { ⌜ good (candidateModel h) ≡ true ⌝ }
-        ensures { λ (r : Certified). ⌜ testOf r ≡ tested ((tooLarge (modelOf (h .degree) (h .coefficients) radius), 3) ∷ []) (modelOf (h .degree) (h .coefficients) radius) contraction residual displacement ⌝ }
+        ensures { λ (r : TestOutcome). ⌜ testOf r ≡ formedTest (candidateModel h) radius contraction residual displacement ⌝ }
     {
         if radius <= Model::MAX_RADIUS {
-            return Certified::accepted(h, radius as u32, contraction, residual, displacement);
+            return TestOutcome::accepted(h, radius as u32, contraction, residual, displacement);
         }
-        Certified::refused(Verdict::LargeResult)
+        TestOutcome::refused(Refusal::LargeResult)
     }
 }
 
 // The root test up to N and b: refused, or M, m, N and b.
 pub(crate) enum RootNumbers {
-    Refused(Verdict),
+    Refused(Refusal),
     Reached {
         weight: u64,
         contraction: u64,

@@ -1,92 +1,64 @@
 -- What floor, up and near share: the truncated quotient and remainder of n by d ≥ 1, and the correction of each rounding.
-use mathlib.Core.Path.{_≡_}
+use mathlib.Core.Path.{_≡_, _∙_}
 use Prim.Native.Nat.{ℕ, _+_, _*_, _≤_, _<_}
 use native.Mathlib.Omega.{arith}
 use native.Mathlib.Nat.{mul-le-mul-left}
-use lib.IntN.{ℤ, pos, negℤ, natAbs, _+ℤ_, _-ℤ_, _*ℤ_}
-use lib.Signed.{_≤ℤ_, _<ℤ_, quotZ, remZ}
+use lib.IntN.{ℤ, pos, natAbs, _+ℤ_, _-ℤ_, _*ℤ_}
+use lib.Signed.{_<ℤ_, quotZ, remZ}
 use mir.Syntax.{w64}
 use mir.Val.{SFits, toZ, ofZ}
 use mir.Facts.{toZ-ofZ}
-use Rattle.integer.specs.Parts.{_⁺, _⁻, abs, sum, difference, opposite}
-use Rattle.integer.specs.Difference.{all4, differences, <-parts}
-use Rattle.integer.specs.Machine.{fits, within, is-positive, positive-bits, Truncated, truncated}
-use Rattle.integer.specs.Rounding.{floor, up, near}
-use Rattle.integer.specs.RoundingLaws.{floor-unique, up-unique, near-unique}
+use Rattle.integer.specs.laws.Parts.{_⁺, _⁻, abs, apart, sum, difference}
+use Rattle.integer.specs.laws.Difference.{all3, differences}
+use Rattle.integer.specs.laws.Machine.{fits, within, is-positive, positive-bits, Truncated, truncated}
+use Rattle.integer.specs.definitions.Rounding.{floor, up, near}
+use Rattle.integer.specs.laws.RoundingLaws.{floor-left, up-left, near-left}
 
--- r between −d and d
-bounds : (r : ℤ) (d : ℕ) → natAbs r < d → (negℤ (pos d) <ℤ r) × (r <ℤ pos d)
-bounds r d h = (
-  <-parts (negℤ (pos d)) r .1 (omega (arith, abs r, opposite (pos d))),
-  <-parts r (pos d) .1 (omega (arith, abs r)),
-)
+-- ---- the truncated quotient q and remainder r: the code takes q, q − 1 or q + 1 by what its tests say of r
 
 module _ (n : ℤ) (d : ℕ) (q r : ℤ) (t : Truncated n d q r) where
-  positive : 0 < d
-  positive = omega (arith, t .small)
-
-  pub floor-down : r <ℤ pos 0 → q -ℤ pos 1 ≡ floor n d
-  floor-down h = let b = bounds r d (t .small) in floor-unique n (q -ℤ pos 1) d positive (lo n q r (pos d) (t .split) (b .0) h) (hi n q r (pos d) (t .split) (b .0) h)
+  split-down : n ≡ (q -ℤ pos 1) *ℤ pos d +ℤ (r +ℤ pos d)
+  split-down = t .split ∙ go q (pos d) r
     where
-      lo : (n q r d : ℤ) → n ≡ q *ℤ d +ℤ r → negℤ d <ℤ r → r <ℤ pos 0 → ((q -ℤ pos 1) *ℤ d) ≤ℤ n
-      lo = all4 _ (simp differences (omega arith))
+      go : (q d r : ℤ) → q *ℤ d +ℤ r ≡ (q -ℤ pos 1) *ℤ d +ℤ (r +ℤ d)
+      go = all3 _ (simp differences (omega arith))
 
-      hi : (n q r d : ℤ) → n ≡ q *ℤ d +ℤ r → negℤ d <ℤ r → r <ℤ pos 0 → n <ℤ ((q -ℤ pos 1) *ℤ d +ℤ d)
-      hi = all4 _ (simp differences (omega arith))
+  left-down : 0 < r ⁻ → ((r +ℤ pos d) ⁻ ≡ 0) × ((r +ℤ pos d) ⁺ + r ⁻ ≡ d)
+  left-down h = omega (arith, abs r, apart r, sum r (pos d), apart (r +ℤ pos d))
 
-  pub floor-at : pos 0 ≤ℤ r → q ≡ floor n d
-  floor-at h = let b = bounds r d (t .small) in floor-unique n q d positive (lo n q r (pos d) (t .split) h) (hi n q r (pos d) (t .split) (b .1))
+  split-up : n ≡ (q +ℤ pos 1) *ℤ pos d +ℤ (r -ℤ pos d)
+  split-up = t .split ∙ go q (pos d) r
     where
-      lo : (n q r d : ℤ) → n ≡ q *ℤ d +ℤ r → pos 0 ≤ℤ r → (q *ℤ d) ≤ℤ n
-      lo = all4 _ (simp differences (omega arith))
+      go : (q d r : ℤ) → q *ℤ d +ℤ r ≡ (q +ℤ pos 1) *ℤ d +ℤ (r -ℤ d)
+      go = all3 _ (simp differences (omega arith))
 
-      hi : (n q r d : ℤ) → n ≡ q *ℤ d +ℤ r → r <ℤ d → n <ℤ (q *ℤ d +ℤ d)
-      hi = all4 _ (simp differences (omega arith))
+  left-up : 0 < r ⁺ → ((r -ℤ pos d) ⁺ ≡ 0) × ((r -ℤ pos d) ⁻ + r ⁺ ≡ d)
+  left-up h = omega (arith, abs r, apart r, difference r (pos d), apart (r -ℤ pos d))
 
-  pub up-above : pos 0 <ℤ r → q +ℤ pos 1 ≡ up n d
-  up-above h = let b = bounds r d (t .small) in up-unique n (q +ℤ pos 1) d positive (lo n q r (pos d) (t .split) (b .1)) (hi n q r (pos d) (t .split) h)
-    where
-      lo : (n q r d : ℤ) → n ≡ q *ℤ d +ℤ r → r <ℤ d → n ≤ℤ ((q +ℤ pos 1) *ℤ d)
-      lo = all4 _ (simp differences (omega arith))
+  pub floor-at : r ⁻ ≡ 0 → q ≡ floor n d
+  floor-at h = floor-left n q r d (t .split) h (omega (arith, abs r))
 
-      hi : (n q r d : ℤ) → n ≡ q *ℤ d +ℤ r → pos 0 <ℤ r → ((q +ℤ pos 1) *ℤ d) <ℤ (n +ℤ d)
-      hi = all4 _ (simp differences (omega arith))
+  pub floor-down : 0 < r ⁻ → q -ℤ pos 1 ≡ floor n d
+  floor-down h = floor-left n (q -ℤ pos 1) (r +ℤ pos d) d split-down (left-down h .0) (omega (arith, left-down h))
 
-  pub up-at : r ≤ℤ pos 0 → q ≡ up n d
-  up-at h = let b = bounds r d (t .small) in up-unique n q d positive (lo n q r (pos d) (t .split) h) (hi n q r (pos d) (t .split) (b .0))
-    where
-      lo : (n q r d : ℤ) → n ≡ q *ℤ d +ℤ r → r ≤ℤ pos 0 → n ≤ℤ (q *ℤ d)
-      lo = all4 _ (simp differences (omega arith))
+  pub up-at : r ⁺ ≡ 0 → q ≡ up n d
+  up-at h = up-left n q r d (t .split) h (omega (arith, abs r))
 
-      hi : (n q r d : ℤ) → n ≡ q *ℤ d +ℤ r → negℤ d <ℤ r → (q *ℤ d) <ℤ (n +ℤ d)
-      hi = all4 _ (simp differences (omega arith))
+  pub up-above : 0 < r ⁺ → q +ℤ pos 1 ≡ up n d
+  up-above h = up-left n (q +ℤ pos 1) (r -ℤ pos d) d split-up (left-up h .0) (omega (arith, left-up h))
 
-  pub near-above : pos d ≤ℤ (pos 2 *ℤ r) → q +ℤ pos 1 ≡ near n d
-  near-above h = let b = bounds r d (t .small) in near-unique n (q +ℤ pos 1) d positive (lo n q r (pos d) (t .split) (b .0) (b .1)) (hi n q r (pos d) (t .split) h)
-    where
-      lo : (n q r d : ℤ) → n ≡ q *ℤ d +ℤ r → negℤ d <ℤ r → r <ℤ d → negℤ d <ℤ (pos 2 *ℤ ((q +ℤ pos 1) *ℤ d -ℤ n))
-      lo = all4 _ (simp differences (omega arith))
+  pub near-at : 2 * r ⁺ < d → 2 * r ⁻ ≤ d → q ≡ near n d
+  near-at = near-left n q r d (t .split)
 
-      hi : (n q r d : ℤ) → n ≡ q *ℤ d +ℤ r → d ≤ℤ (pos 2 *ℤ r) → (pos 2 *ℤ ((q +ℤ pos 1) *ℤ d -ℤ n)) ≤ℤ d
-      hi = all4 _ (simp differences (omega arith))
+  pub near-below : d < 2 * r ⁻ → q -ℤ pos 1 ≡ near n d
+  near-below h =
+      let l = left-down (omega arith) in
+      near-left n (q -ℤ pos 1) (r +ℤ pos d) d split-down (omega (arith, abs r)) (omega arith)
 
-  pub near-below : (pos 2 *ℤ r) <ℤ (pos 0 -ℤ pos d) → q -ℤ pos 1 ≡ near n d
-  near-below h = let b = bounds r d (t .small) in near-unique n (q -ℤ pos 1) d positive (lo n q r (pos d) (t .split) h) (hi n q r (pos d) (t .split) (b .0) (b .1))
-    where
-      lo : (n q r d : ℤ) → n ≡ q *ℤ d +ℤ r → (pos 2 *ℤ r) <ℤ (pos 0 -ℤ d) → negℤ d <ℤ (pos 2 *ℤ ((q -ℤ pos 1) *ℤ d -ℤ n))
-      lo = all4 _ (simp differences (omega arith))
-
-      hi : (n q r d : ℤ) → n ≡ q *ℤ d +ℤ r → negℤ d <ℤ r → r <ℤ d → (pos 2 *ℤ ((q -ℤ pos 1) *ℤ d -ℤ n)) ≤ℤ d
-      hi = all4 _ (simp differences (omega arith))
-
-  pub near-at : (pos 2 *ℤ r) <ℤ pos d → (pos 0 -ℤ pos d) ≤ℤ (pos 2 *ℤ r) → q ≡ near n d
-  near-at h k = near-unique n q d positive (lo n q r (pos d) (t .split) h) (hi n q r (pos d) (t .split) k)
-    where
-      lo : (n q r d : ℤ) → n ≡ q *ℤ d +ℤ r → (pos 2 *ℤ r) <ℤ d → negℤ d <ℤ (pos 2 *ℤ (q *ℤ d -ℤ n))
-      lo = all4 _ (simp differences (omega arith))
-
-      hi : (n q r d : ℤ) → n ≡ q *ℤ d +ℤ r → (pos 0 -ℤ d) ≤ℤ (pos 2 *ℤ r) → (pos 2 *ℤ (q *ℤ d -ℤ n)) ≤ℤ d
-      hi = all4 _ (simp differences (omega arith))
+  pub near-above : d ≤ 2 * r ⁺ → q +ℤ pos 1 ≡ near n d
+  near-above h =
+      let l = left-up (omega arith) in
+      near-left n (q +ℤ pos 1) (r -ℤ pos d) d split-up (omega arith) (omega arith)
 
 -- ---- in 64 bits: what the code divides
 
@@ -130,14 +102,14 @@ module _ (o : Operands) where
   wide : 0 < natAbs r → 2 ≤ natAbs d
   wide p = omega (arith, t .small)
 
-  pub q-up-fits : 0 < natAbs r → SFits w64 (q +ℤ pos 1)
+  pub q-up-fits : 0 < r ⁺ → SFits w64 (q +ℤ pos 1)
   q-up-fits p =
       fits w64 (q +ℤ pos 1)
-      (omega (arith, sum q (pos 1), t, within w64 n fits-n, mul-le-mul-left (q ⁺) (wide p)))
+      (omega (arith, sum q (pos 1), t, within w64 n fits-n, mul-le-mul-left (q ⁺) (wide (omega (arith, abs r)))))
       (omega (arith, sum q (pos 1), t, within w64 n fits-n))
 
-  pub q-down-fits : 0 < natAbs r → SFits w64 (q -ℤ pos 1)
+  pub q-down-fits : 0 < r ⁻ → SFits w64 (q -ℤ pos 1)
   q-down-fits p =
       fits w64 (q -ℤ pos 1)
       (omega (arith, difference q (pos 1), t, within w64 n fits-n))
-      (omega (arith, difference q (pos 1), t, within w64 n fits-n, mul-le-mul-left (q ⁻) (wide p)))
+      (omega (arith, difference q (pos 1), t, within w64 n fits-n, mul-le-mul-left (q ⁻) (wide (omega (arith, abs r)))))

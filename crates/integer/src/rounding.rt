@@ -1,8 +1,8 @@
 ghost use mathlib.Core.Path.{_≡_};
-ghost use Prim.Native.Nat.{_<_, _≤_, _^_};
+ghost use Prim.Native.Nat.{_<_};
 ghost use lib.IntN.{pos, natAbs};
-ghost use lib.Signed.{_≤ℤ_, _<ℤ_};
-ghost use Rattle.integer.specs.Rounding.{floor as floorOf, up as upOf, upℕ, near as nearOf};
+ghost use lib.Signed.{_<ℤ_};
+ghost use Rattle.integer.specs.definitions.Rounding.{floor as floorOf, up as upOf, upℕ, near as nearOf};
 
 // n / d rounded down, for every n.
 pub fn floor(n: i64, d: i64) -> i64
@@ -24,18 +24,18 @@ pub fn up(n: i64, d: i64) -> i64
     if 0 < r { q + 1 } else { q }
 }
 
-// The nearest whole number to n / d, a tie going towards plus infinity, for every n. Twice the remainder is compared with
-// d: twice n would not fit near both ends.
+// The nearest whole number to n / d, a tie going towards plus infinity, for every n. The remainder is compared with halves
+// of d: twice n, or twice a remainder, need not fit.
 pub fn near(n: i64, d: i64) -> i64
-    requires { ⌜ (pos 0 <ℤ d) × (d ≤ℤ pos (2 ^ 62)) ⌝ }
+    requires { ⌜ pos 0 <ℤ d ⌝ }
     ensures { λ r. ⌜ r ≡ nearOf n (natAbs d) ⌝ }
 {
     let q = n / d;
     let r = n % d;
-    let t = 2 * r;
-    if d <= t {
+    let half = d >> 1;
+    if d - half <= r {
         q + 1
-    } else if t < -d {
+    } else if r < -half {
         q - 1
     } else {
         q

@@ -5,7 +5,7 @@ use Prim.Native.Nat.{ℕ, zero, suc, _+_, _*_, _<_}
 use native.Mathlib.Omega.{arith}
 use lib.IntN.{ℤ, negsuc, pos, _-ℤ_}
 use lib.ListN.{length, getD}
-use Rattle.job.specs.Bytes.{unsignedAt, signed, signedsAt}
+use Rattle.job.specs.definitions.Bytes.{unsignedAt, signed, signedsAt}
 
 -- −1 − x
 pub minus-one-minus : (x : ℕ) → negsuc 0 -ℤ pos x ≡ negsuc x

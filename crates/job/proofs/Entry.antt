@@ -1,22 +1,28 @@
 -- The entry: what it answers and leaves where an area is too short, and after the run of a job.
 use mathlib.Core.Path.{_≡_, refl, ap, sym, _∙_}
-use mathlib.Core.Bool.{false}
+use mathlib.Core.Bool.{true, false}
+use mathlib.Core.Logic.{inl}
 use mathlib.Core.List.{List, _++_}
 use Prim.Native.Nat.{ℕ, _≤_, _<_}
 use borrow.Author.Tests.{le-leb, lt-leb}
 use lib.IntN.{ℤ}
 use lib.ListN.{length, drop}
 use lib.Seq.{drop-at}
-use Rattle.model.specs.declared.types.Verdict.the-variants.{ShortArea}
-use Rattle.certificate.specs.Tests.{scratchPlaces}
-use Rattle.certificate.specs.Stages.{scratch-cleared}
-use Rattle.integer.specs.Clearing.{zeros, length-zeros}
-use Rattle.job.specs.Jobs.{jobOf}
-use Rattle.job.specs.Work.{workPlaces, workOf, areasFit, checkOf, workAfter, scratchAfterJob, answerOf, answered, resultsOf}
-use Rattle.job.specs.Steps.{Clear}
-use Rattle.job.specs.declared.types.Report.{Report}
-use Rattle.job.specs.declared.types.Report.the-variants.{Refused}
-use Rattle.job.proofs.Loop.{Ran, Claimed, refused-claims}
+use Rattle.model.specs.declared.types.Refusal.the-variants.{ShortArea}
+use Rattle.certificate.specs.definitions.Tests.{scratchSize}
+use Rattle.certificate.specs.laws.Stages.{scratch-cleared}
+use Rattle.integer.specs.definitions.Lists.{zeros}
+use Rattle.integer.specs.laws.Clearing.{length-zeros}
+use Rattle.job.specs.definitions.Outcomes.{jobOutcomeOf, counted}
+use Rattle.job.specs.definitions.Jobs.{jobOutcome}
+use Rattle.job.specs.definitions.Work.{workSize, workWith, areaPlaces, areasFit, checkOutcome, workAfter, scratchAfterJob, resultsIn}
+use Rattle.job.specs.laws.CheckLaws.{areas-fit, areas-short}
+use Rattle.job.specs.definitions.Requirement.{Requirement3}
+use Rattle.job.specs.laws.RequirementLaws.{refused-required, required-behind}
+use Rattle.job.specs.definitions.InnerContracts.{Clear}
+use Rattle.job.specs.declared.types.JobOutcome.{JobOutcome as CodeOutcome}
+use Rattle.job.specs.declared.types.JobOutcome.the-variants.{Refused}
+use Rattle.job.proofs.Loop.{Ran}
 
 -- an area whose first n numbers were cleared
 module _ (n : ℕ) (w w′ : List ℤ) (e : w′ ≡ zeros n ++ drop n w) where
@@ -26,27 +32,33 @@ module _ (n : ℕ) (w w′ : List ℤ) (e : w′ ≡ zeros n ++ drop n w) where
   pub cleared-is : w′ ≡ zeros n ++ drop n w′
   cleared-is = e ∙ ap (λ (l : List ℤ). zeros n ++ l) (sym cleared-behind)
 
-pub cleared-clear : (s s′ : List ℤ) → s′ ≡ zeros scratchPlaces ++ drop scratchPlaces s → scratchPlaces ≤ length s′ → Clear s′
-cleared-clear s s′ e h = record { long = h; clear = scratch-cleared s′ h ∙ sym (cleared-is scratchPlaces s s′ e) }
+pub cleared-clear : (s s′ : List ℤ) → s′ ≡ zeros scratchSize ++ drop scratchSize s → scratchSize ≤ length s′ → Clear s′
+cleared-clear s s′ e h = record { long = h; clear = scratch-cleared s′ h ∙ sym (cleared-is scratchSize s s′ e) }
 
 module _ (job : List ℕ) (w s : List ℤ) where
-  abbrev pub Leaves : Report → List ℤ → List ℤ → Type 0
-  Leaves r w′ s′ = (answerOf r ≡ answered (checkOf job w s)) × ((w′ ≡ workAfter job w s) × ((s′ ≡ scratchAfterJob w s) × Claimed job r w′))
+  abbrev pub Leaves : CodeOutcome → List ℤ → List ℤ → Type 0
+  Leaves r w′ s′ =
+      (jobOutcomeOf r ≡ counted (checkOutcome job w s))
+      × ((w′ ≡ workAfter job w s) × ((s′ ≡ scratchAfterJob w s) × Requirement3 (areaPlaces w s) job (jobOutcomeOf r) w′))
 
   untouched : areasFit w s ≡ false → Leaves (Refused ShortArea 0) w s
-  unfolding checkOf workAfter scratchAfterJob
-  untouched e = simp e (refl, (refl, (refl, refused-claims job ShortArea 0 w)))
+  unfolding checkOutcome workAfter scratchAfterJob
+  untouched e =
+      let claim = refused-required {job = job} (inl (areas-short w s e, refl)) 1 0 w in
+      simp e (refl, (refl, (refl, claim)))
 
-  pub short-work : length w < workPlaces → Leaves (Refused ShortArea 0) w s
+  pub short-work : length w < workSize → Leaves (Refused ShortArea 0) w s
   short-work h = untouched (simp (lt-leb _ _ h))
 
-  pub short-scratch : workPlaces ≤ length w → length s < scratchPlaces → Leaves (Refused ShortArea 0) w s
+  pub short-scratch : workSize ≤ length w → length s < scratchSize → Leaves (Refused ShortArea 0) w s
   short-scratch g h = untouched (simp (le-leb _ _ g, lt-leb _ _ h))
 
-  pub ran-leaves : workPlaces ≤ length w → scratchPlaces ≤ length s → (w₁ w₂ s₁ : List ℤ) (r : Report)
-      → w₁ ≡ zeros workPlaces ++ drop workPlaces w → Ran job w₁ r w₂
-      → s₁ ≡ zeros scratchPlaces ++ drop scratchPlaces s → Leaves r w₂ s₁
-  unfolding checkOf workAfter scratchAfterJob
+  pub ran-leaves : workSize ≤ length w → scratchSize ≤ length s → (w₁ w₂ s₁ : List ℤ) (r : CodeOutcome)
+      → w₁ ≡ zeros workSize ++ drop workSize w → Ran job w₁ r w₂
+      → s₁ ≡ zeros scratchSize ++ drop scratchSize s → Leaves r w₂ s₁
+  unfolding checkOutcome workAfter scratchAfterJob
   ran-leaves g h w₁ w₂ s₁ r e f es =
-      simp (le-leb _ _ g, le-leb _ _ h)
-      (f .answer, (f .work-is ∙ ap (λ (l : List ℤ). workOf (resultsOf (jobOf job)) ++ l) (cleared-behind workPlaces w w₁ e), (es, f .vouched)))
+      let fit : areasFit w s ≡ true = simp (le-leb _ _ g, le-leb _ _ h) in
+      let claim = required-behind (areaPlaces w s) (areas-fit w s fit) (f .claim) in
+      simp fit
+      (f .answer, (f .work-is ∙ ap (λ (l : List ℤ). workWith (resultsIn (jobOutcome job)) ++ l) (cleared-behind workSize w w₁ e), (es, claim)))

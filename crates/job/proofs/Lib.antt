@@ -7,3 +7,4 @@ pub mod Entry
 pub mod KindLaws
 pub mod ReadingLaws
 pub mod Requirement
+pub mod ReaderWalk

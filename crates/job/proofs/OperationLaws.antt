@@ -1,69 +1,82 @@
 -- The operations of commands on the results that a work area holds.
-use mathlib.Core.Path.{_≡_, ap, ap₂, subst⁻¹, _∙_}
-use mathlib.Core.Bool.{true, false, not, _||_}
-use mathlib.Core.List.{List, [], _∷_}
-use Prim.Native.Nat.{ℕ, _≤_}
-use borrow.Author.Tests.{leb-false, le-ltb, not-false}
-use native.Mathlib.Omega.{arith}
+use mathlib.Core.Path.{_≡_, refl, ap, ap₂, subst, subst⁻¹, _∙_}
+use mathlib.Core.Bool.{false, _||_}
+use mathlib.Core.List.{List}
+use Prim.Native.Nat.{ℕ}
+use borrow.Author.Tests.{leb-false, not-false}
 use lib.Dec.{leb}
 use lib.IntN.{ℤ}
-use Rattle.model.specs.Models.{good, zeroModel, firstRefusal, Outcome, outcome}
-use Rattle.model.specs.ModelLaws.{good-is}
-use Rattle.model.specs.Areas.{Storable}
-use Rattle.model.specs.OutcomeFits.{answer-storable}
-use Rattle.certificate.specs.Tests.{scratchPlaces, rootPlaces, rootOf}
+use Rattle.model.specs.definitions.Models.{good, zeroModel}
+use Rattle.model.specs.definitions.Outcomes.{Outcome, accepted, refused, values, judged}
+use Rattle.model.specs.definitions.Operations.{loadingPlaces, loading}
+use Rattle.model.specs.laws.ModelLaws.{good-is}
+use Rattle.model.specs.definitions.Areas.{Storable}
+use Rattle.model.specs.laws.ResultLaws.{outcome-values, zero-storable}
+use Rattle.model.specs.laws.OutcomeLaws.{values-judged}
+use Rattle.certificate.specs.definitions.Tests.{Certificate, testOf}
+use Rattle.certificate.specs.declared.types.TestOutcome.{TestOutcome}
 use Rattle.model.specs.declared.types.Model.{Model}
-use Rattle.job.specs.Commands.{Command, badNames}
-use Rattle.job.specs.Jobs.{resultAt, operation}
-use Rattle.job.specs.CommandLaws.{both-below}
-use Rattle.job.specs.Work.{stretch}
-use Rattle.job.specs.Steps.{Holds, Performs}
+use Rattle.model.specs.declared.types.Verdict.{Verdict}
+use Rattle.model.specs.declared.types.Verdict.the-variants.{Accepted, Refused}
+use Rattle.job.specs.definitions.Makers.{Maker, untested, resultAt, namesBad, operation}
+use Rattle.job.specs.laws.CommandLaws.{both-below}
+use Rattle.job.specs.definitions.Work.{stretch}
+use Rattle.job.specs.definitions.Commands.{makerAt}
+use Rattle.job.specs.definitions.InnerContracts.{Holds, untestedOutcome, Performs, Operable}
+use Rattle.job.specs.declared.types.Operation.{Operation}
 use Rattle.job.proofs.Results.{result-held}
 
 -- an outcome that is p
-pub performs : {c : Command} {w : List ℤ} {o p : Outcome} → o ≡ p → Storable (p .model)
-    → ((count : ℕ) (rs : List Model) (t : List ℤ) → Holds w count rs t → badNames c count ≡ false → p ≡ operation c rs)
-    → Performs c w o
+pub performs : {m : Maker} {w : List ℤ} {o p : Outcome Certificate} → o ≡ p → Storable (values p .model)
+    → ((count : ℕ) (rs : List Model) (t : List ℤ) → Holds w count rs t → namesBad m count ≡ false → p ≡ operation m rs)
+    → Performs m w o
 performs e s g = record {
-  storable = subst⁻¹ (λ (o : Outcome). Storable (o .model)) e s;
+  storable = subst⁻¹ (λ (o : Outcome Certificate). Storable (values o .model)) e s;
   gives = λ count rs t h n. e ∙ g count rs t h n;
 }
 
--- ---- load
+-- the model beside a verdict
+pub model-storable : (r : TestOutcome) → Storable (values (testOf r) .model) → Storable (r .model)
+model-storable r h = subst (λ (c : Certificate). Storable (c .model)) (values-judged (r .verdict) _) h
 
--- the places and the answer of a load
-abbrev pub loaded : Model → Outcome
-loaded m = outcome ((not (good m), 2) ∷ []) m
+-- where no test runs
+pub untested-judged : (v : Verdict) (m : Model) → judged v (untested m) ≡ untestedOutcome (judged v m)
+untested-judged Accepted m = refl
+untested-judged (Refused r) m = refl
 
-pub loaded-storable : (m : Model) → Storable (loaded m .model)
-unfolding outcome
-loaded-storable m =
-    answer-storable ((not (good m), 2) ∷ []) m (omega arith)
-    (λ p. let g = good-is m (not-false (good m) (p .0)) in (g .degree-fits, g .radius-fits))
+untested-storable : (o : Outcome Model) → Storable (values o) → Storable (values (untestedOutcome o) .model)
+untested-storable (accepted m) h = h
+untested-storable (refused n m) h = h
 
-pub loaded-good : (m : Model) → good m ≡ true → record { number = 0; model = m } ≡ loaded m
-unfolding outcome firstRefusal
-loaded-good m e = rw e
+-- an outcome of an operation without a test
+pub performs-untested : {m : Maker} {w : List ℤ} {r : Outcome Certificate} (o : Outcome Model) → r ≡ untestedOutcome o → Storable (values o)
+    → ((count : ℕ) (rs : List Model) (t : List ℤ) → Holds w count rs t → namesBad m count ≡ false → untestedOutcome o ≡ operation m rs)
+    → Performs m w r
+performs-untested o e s g = performs e (untested-storable o s) g
 
-pub loaded-bad : (m : Model) → good m ≡ false → record { number = 2; model = zeroModel } ≡ loaded m
-unfolding outcome firstRefusal
-loaded-bad m e = rw e
+pub loading-storable : (m : Model) → Storable (values (loading m))
+unfolding loading
+loading-storable m =
+    outcome-values Storable (loadingPlaces m) m zeroModel
+    (λ p. let g = good-is m (not-false (good m) (p .0)) in (g .degree-fits, g .radius-fits)) zero-storable
 
 -- ---- the results that a command names
 
 module _ {w : List ℤ} {count : ℕ} {rs : List Model} {t : List ℤ} (h : Holds w count rs t) where
-  pub held-one : (f : Model → Outcome) (m : Model) (i : ℕ) → m ≡ stretch w i → leb count i ≡ false → f m ≡ f (resultAt rs i)
+  pub held-one : (f : Model → Outcome Certificate) (m : Model) (i : ℕ) → m ≡ stretch w i → leb count i ≡ false → f m ≡ f (resultAt rs i)
   held-one f m i e n = ap f (e ∙ result-held h i (leb-false count i n))
 
-  pub held-two : (f : Model → Model → Outcome) (m₁ m₂ : Model) (i j : ℕ) → m₁ ≡ stretch w i → m₂ ≡ stretch w j
+  pub held-two : (f : Model → Model → Outcome Certificate) (m₁ m₂ : Model) (i j : ℕ) → m₁ ≡ stretch w i → m₂ ≡ stretch w j
       → (leb count i || leb count j) ≡ false → f m₁ m₂ ≡ f (resultAt rs i) (resultAt rs j)
   held-two f m₁ m₂ i j e₁ e₂ n =
       let b = both-below count i j n in
       ap₂ f (e₁ ∙ result-held h i (b .0)) (e₂ ∙ result-held h j (b .1))
 
--- ---- the length of the scratch
+-- ---- an arm of a match on an operation, where it is known which it is
 
--- as `quotient-room` of the certificate crate
-pub root-room : (len : ℕ) (f h w : Model) → scratchPlaces ≤ len → rootOf len f h w ≡ rootOf scratchPlaces f h w
-unfolding rootOf rootPlaces
-root-room len f h w room = rw (le-ltb len scratchPlaces room)
+module _ {op o : Operation} (e : op ≡ o) (job : List ℕ) (at : ℕ) (w : List ℤ) where
+  pub operable-told : Operable op job at w → Operable o job at w
+  operable-told h = rw e at h
+
+  pub performs-told : (r : Outcome Certificate) → Performs (makerAt o job at) w r → Performs (makerAt op job at) w r
+  performs-told r h = rw e h

@@ -1,13 +1,14 @@
 -- Reading a command, with its shape at hand.
 use mathlib.Core.Path.{_≡_}
-use mathlib.Core.Bool.{Bool, cond, _&&_}
+use mathlib.Core.Bool.{Bool, _&&_}
 use mathlib.Core.List.{List, [], _∷_}
 use Prim.Native.Nat.{ℕ, _+_}
-use lib.Dec.{eqb, leb, ltb}
+use lib.Dec.{leb, ltb}
 use lib.ListN.{length}
-use Rattle.model.specs.Models.{firstRefusal}
-use Rattle.job.specs.Commands.{shapeAt, commandAt, maxResults, badKind, badValues, badNames, makesResult, isEnd, readingPlaces, readingNumber, ReadOutcome, found, refusal, readOutcome}
+use Rattle.model.specs.definitions.Outcomes.{passing}
+use Rattle.job.specs.definitions.Commands.{shapeAt, maxResults, badKind, badValues, badBytes, makesResult, isEnd, readingPlaces, CommandReading, found, commandReading}
 use Rattle.job.specs.declared.types.Shape.{Shape}
+use Rattle.job.proofs.KindLaws.{agrees}
 
 module _ (job : List ℕ) (k count at : ℕ) (s : Shape) where
   abbrev next : ℕ
@@ -18,15 +19,16 @@ module _ (job : List ℕ) (k count at : ℕ) (s : Shape) where
       (leb (length job) at, 10)
       ∷ (badKind k (s .kind), 9)
       ∷ (ltb (length job) next, 10)
-      ∷ (badValues (s .kind) job at, 9)
-      ∷ (badNames (commandAt (s .kind) job at) count, 12)
-      ∷ (makesResult (commandAt (s .kind) job at) && leb maxResults count, 13)
+      ∷ (badValues (s .values) job at, 9)
+      ∷ (badBytes (s .names) job at count, 12)
+      ∷ (makesResult (s .kind) && leb maxResults count, 13)
       ∷ (isEnd (s .kind) && ltb next (length job), 11)
       ∷ []
 
-  abbrev pub outcomeWith : ℕ → ReadOutcome
-  outcomeWith n = cond (eqb n 0) (found (s .kind) next) (refusal n)
+  -- what comes of the places from one of them on
+  abbrev pub readingWith : List (Bool × ℕ) → CommandReading
+  readingWith ps = passing ps (found (s .kind) next) CommandReading.refused
 
-  pub read-with : s ≡ shapeAt job k count at → readOutcome job k count at ≡ outcomeWith (firstRefusal placesWith)
-  unfolding readOutcome readingNumber readingPlaces
-  read-with e = rw e
+  pub read-with : s ≡ shapeAt job k count at → commandReading job k count at ≡ readingWith placesWith
+  unfolding commandReading readingPlaces
+  read-with e = rw (e, agrees (shapeAt job k count at .kind) .named job at count)

@@ -1,50 +1,64 @@
 -- Requirement 3 of an accepted job, of the models as left in the work area.
-use mathlib.Core.Path.{_≡_, sym, subst}
+use mathlib.Core.Path.{_≡_, refl, subst, subst⁻¹}
 use mathlib.Core.Bool.{false}
-use mathlib.Core.List.{List}
+use mathlib.Core.List.{List, []}
 use Prim.Native.Nat.{ℕ, _<_}
 use native.Mathlib.Omega.{arith}
 use borrow.Author.Tests.{leb-false}
 use lib.IntN.{ℤ}
 use lib.ListN.{length}
-use Rattle.integer.specs.OrderedRing.{lt-le}
-use Rattle.integer.specs.FractionOrder.{ℚ-ordered}
-use Rattle.model.specs.Values.{Allows}
+use Rattle.integer.specs.laws.OrderedRingLaws.{lt-le}
+use Rattle.integer.specs.definitions.Fraction.{ℚ}
+use Rattle.integer.specs.laws.FractionOrder.{ℚ-ordered}
+use Rattle.model.specs.definitions.Values.{Allows}
 use Rattle.model.specs.declared.types.Model.{Model}
-use Rattle.job.specs.Commands.{Command, quotient, root, badNames}
-use Rattle.job.specs.Jobs.{jobOf, accepted, resultAt}
-use Rattle.job.specs.Reading.{commandsOf, commandOf}
-use Rattle.job.specs.Steps.{Holds}
-use Rattle.job.specs.CommandLaws.{both-below}
-use Rattle.job.specs.Made.{MadeBy, made-from-all}
-use Rattle.job.specs.Accepted.{accepted-made, accepted-length}
-use Rattle.job.specs.Boxes.{Overlaps, Requirement3}
-use Rattle.job.specs.Claim.{overlaps, divisor-nonzero, radicand-positive}
-use Rattle.job.proofs.Results.{result-held}
+use Rattle.job.specs.definitions.Makers.{Maker, quotient, root, resultAt, namesBad}
+use Rattle.job.specs.definitions.Commands.{Command, result}
+use Rattle.job.specs.definitions.Outcomes.{accepted}
+use Rattle.job.specs.definitions.Jobs.{jobOutcome}
+use Rattle.job.specs.definitions.JobReading.{commandFor}
+use Rattle.job.specs.definitions.Work.{stretch}
+use Rattle.job.specs.definitions.InnerContracts.{Holds}
+use Rattle.job.specs.laws.CommandLaws.{both-below}
+use Rattle.job.specs.definitions.Requirement.{Overlaps, Made, Results, Requirement3}
+use Rattle.job.specs.laws.MadeLaws.{made-maker}
+use Rattle.job.specs.laws.Accepted.{accepted-read}
+use Rattle.job.specs.laws.Claim.{overlaps, divisor-nonzero, radicand-positive}
+use Rattle.job.proofs.Results.{result-held, models-held}
 
-module _ (job : List ℕ) (rs : List Model) (e : jobOf job ≡ accepted rs) where
+module _ (job : List ℕ) (rs : List Model) (e : jobOutcome job ≡ accepted rs) (work t : List ℤ) (holds : Holds work (length rs) rs t) where
   abbrev cs : List Command
-  cs = commandsOf job
+  cs = accepted-read job rs e .0
 
-  made : (i : ℕ) → i < length cs → MadeBy (commandOf cs i) rs i (resultAt rs i)
-  made i h = made-from-all (accepted-made job rs e) i (omega (arith, accepted-length job rs e))
+  all-made : Made cs rs
+  all-made = accepted-read job rs e .2
 
-  module _ (work t : List ℤ) (holds : Holds work (length rs) rs t) where
-    -- the results that a command names stand before its own
-    named : (i : ℕ) (c : Command) → i < length rs → commandOf cs i ≡ c → badNames c i ≡ false
-    named i c h f = subst (λ (d : Command). badNames d i ≡ false) f (made i (omega (arith, accepted-length job rs e)) .names)
+  -- the results that a command names stand before its own
+  named : (i : ℕ) (m : Maker) → commandFor cs i ≡ result m → namesBad m i ≡ false
+  named i m f = made-maker all-made i m f .names
 
-    pub requirement : Requirement3 job (length rs) work
-    requirement = record {
-      vouched = λ i h x on. record {
-        overlaps = λ box p. subst (λ (m : Model). Overlaps (box i) m x) (sym (result-held holds i h)) (overlaps cs rs made x on box p);
-        divisor = λ j k d w f v a.
-            divisor-nonzero cs rs made x on i j k d w f v
-            (subst (λ (m : Model). Allows m x v) (result-held holds k (omega (arith, both-below i j k (named i (quotient j k d w) h f)))) a);
-        radicand = λ j d w f v a n.
-            n
-            (lt-le ℚ-ordered
-            (radicand-positive cs rs made x on i j d w f v
-            (subst (λ (m : Model). Allows m x v) (result-held holds j (omega (arith, leb-false i j (named i (root j d w) h f)))) a)));
-      };
-    }
+  -- what a stretch allows, its result allows
+  allowed : (x v : ℚ) (i : ℕ) → i < length rs → Allows (stretch work i) x v → Allows (resultAt rs i) x v
+  allowed x v i h = subst (λ (m : Model). Allows m x v) (result-held holds i h)
+
+  results : Results job (length rs) work
+  results = record {
+    commands = cs;
+    read = accepted-read job rs e .1;
+    made = subst⁻¹ (Made cs) (models-held holds) all-made;
+    vouched = λ i h x on. record {
+      overlaps = λ box p. subst⁻¹ (λ (m : Model). Overlaps (box i) m x) (result-held holds i h) (overlaps all-made x on box p);
+      divisor = λ j k d w f v a.
+          divisor-nonzero all-made x on i j k d w f v (allowed x v k (omega (arith, both-below i j k (named i (quotient j k d w) f))) a);
+      radicand = λ j rule d w f v a n.
+          let p =
+          radicand-positive all-made x on i j rule d w f v (allowed x v j (omega (arith, leb-false i j (named i (root rule j d w) f))) a) in
+          n (lt-le ℚ-ordered p);
+    };
+  }
+
+  pub requirement : Requirement3 [] job (accepted (length rs)) work
+  requirement = record {
+    accepts = λ h. (length rs, refl);
+    results = λ count f. let n : length rs ≡ count = cc f in subst (λ (m : ℕ). Results job m work) n results;
+  }

@@ -1,22 +1,23 @@
 -- The work area: the results that it holds, read back and added to.
-use mathlib.Core.Path.{_≡_, refl, ap, sym, _∙_}
+use mathlib.Core.Path.{_≡_, refl, ap, ap₂, sym, _∙_}
 use mathlib.Core.List.{List, [], _∷_, _++_, append-assoc, append-nil}
 use Prim.Native.Nat.{ℕ, zero, suc, _+_, _*_, _-_, _≤_, _<_}
 use native.Mathlib.Omega.{arith}
 use lib.IntN.{ℤ}
 use lib.ListN.{length, take, drop, length-append}
-use lib.Seq.{take-at, drop-at, drop-append-add, drop-drop}
-use Rattle.integer.specs.Clearing.{zeros, length-zeros, zeros-append}
-use Rattle.model.specs.Models.{places}
-use Rattle.model.specs.Areas.{modelPlaces, words, areaModel}
-use Rattle.model.specs.AreaLaws.{length-words, model-words}
+use lib.Seq.{take-at, take-suc, take-length, drop-at, drop-append-add, drop-drop}
+use Rattle.integer.specs.definitions.Lists.{zeros}
+use Rattle.integer.specs.laws.Clearing.{length-zeros, zeros-append}
+use Rattle.model.specs.definitions.Models.{coefficientCount, zeroModel}
+use Rattle.model.specs.definitions.Areas.{modelSize, words, areaModel}
+use Rattle.model.specs.laws.AreaLaws.{length-words, model-words}
 use Rattle.model.specs.declared.types.Model.{Model}
-use Rattle.job.specs.Commands.{maxResults}
-use Rattle.job.specs.Jobs.{resultAt}
-use Rattle.job.specs.Work.{workPlaces, stretch, stretches, workOf, storedAt}
-use Rattle.job.specs.Steps.{Sized, Holds}
+use Rattle.job.specs.definitions.Commands.{maxResults}
+use Rattle.job.specs.definitions.Makers.{resultAt}
+use Rattle.job.specs.definitions.Work.{workSize, stretch, modelsIn, stretches, workWith, storedAt}
+use Rattle.job.specs.definitions.InnerContracts.{Sized, Holds}
 
-length-stretches : (rs : List Model) → Sized rs → length (stretches rs) ≡ modelPlaces * length rs
+length-stretches : (rs : List Model) → Sized rs → length (stretches rs) ≡ modelSize * length rs
 unfolding stretches
 length-stretches [] s = refl
 length-stretches (m ∷ rs) s =
@@ -27,15 +28,15 @@ stretch-result : (rs : List Model) (t : List ℤ) (i : ℕ) → Sized rs → i <
 unfolding stretches
 stretch-result [] t i s h = absurd (omega arith)
 stretch-result (m ∷ rs) t zero s h =
-    ap (λ (l : List ℤ). areaModel (take modelPlaces l)) (append-assoc (words m) (stretches rs) t)
-    ∙ ap areaModel (take-at (words m) (stretches rs ++ t) modelPlaces (length-words m (s .0)))
+    ap (λ (l : List ℤ). areaModel (take modelSize l)) (append-assoc (words m) (stretches rs) t)
+    ∙ ap areaModel (take-at (words m) (stretches rs ++ t) modelSize (length-words m (s .0)))
     ∙ model-words m (s .0)
 stretch-result (m ∷ rs) t (suc i) s h =
-    let e : modelPlaces * suc i ≡ length (words m) + modelPlaces * i = omega (arith, length-words m (s .0)) in
-    ap (λ (k : ℕ). areaModel (take modelPlaces (drop k ((words m ++ stretches rs) ++ t)))) e
-    ∙ ap (λ (l : List ℤ). areaModel (take modelPlaces (drop (length (words m) + modelPlaces * i) l)))
+    let e : modelSize * suc i ≡ length (words m) + modelSize * i = omega (arith, length-words m (s .0)) in
+    ap (λ (k : ℕ). areaModel (take modelSize (drop k ((words m ++ stretches rs) ++ t)))) e
+    ∙ ap (λ (l : List ℤ). areaModel (take modelSize (drop (length (words m) + modelSize * i) l)))
     (append-assoc (words m) (stretches rs) t)
-    ∙ ap (λ (l : List ℤ). areaModel (take modelPlaces l)) (drop-append-add (words m) (stretches rs ++ t) (modelPlaces * i))
+    ∙ ap (λ (l : List ℤ). areaModel (take modelSize l)) (drop-append-add (words m) (stretches rs ++ t) (modelSize * i))
     ∙ stretch-result rs t i (s .1) (omega arith)
 
 stretches-snoc : (rs : List Model) (m : Model) → stretches (rs ++ (m ∷ [])) ≡ stretches rs ++ words m
@@ -44,7 +45,7 @@ stretches-snoc [] m = append-nil (words m)
 stretches-snoc (r ∷ rs) m =
     ap (λ (l : List ℤ). words r ++ l) (stretches-snoc rs m) ∙ sym (append-assoc (words r) (stretches rs) (words m))
 
-sized-snoc : (rs : List Model) (m : Model) → Sized rs → length (m .coefficients) ≡ places → Sized (rs ++ (m ∷ []))
+sized-snoc : (rs : List Model) (m : Model) → Sized rs → length (m .coefficients) ≡ coefficientCount → Sized (rs ++ (m ∷ []))
 sized-snoc [] m s h = (h, tt)
 sized-snoc (r ∷ rs) m s h = (s .0, sized-snoc rs m (s .1) h)
 
@@ -56,56 +57,67 @@ drop-zeros n k t h =
     ∙ ap (λ (l : List ℤ). drop k l) (append-assoc (zeros k) (zeros (n - k)) t)
     ∙ drop-at (zeros k) (zeros (n - k) ++ t) k (length-zeros k)
 
-length-workOf : (rs : List Model) → Sized rs → length rs ≤ maxResults → length (workOf rs) ≡ workPlaces
-unfolding workOf
-length-workOf rs s few =
-    length-append (stretches rs) (zeros (workPlaces - modelPlaces * length rs))
-    ∙ omega (arith, length-stretches rs s, length-zeros (workPlaces - modelPlaces * length rs))
+length-workWith : (rs : List Model) → Sized rs → length rs ≤ maxResults → length (workWith rs) ≡ workSize
+unfolding workWith
+length-workWith rs s few =
+    length-append (stretches rs) (zeros (workSize - modelSize * length rs))
+    ∙ omega (arith, length-stretches rs s, length-zeros (workSize - modelSize * length rs))
 
 -- ---- a work area that holds results
 
 module _ {w : List ℤ} {count : ℕ} {rs : List Model} {t : List ℤ} (h : Holds w count rs t) where
   abbrev z : List ℤ
-  z = zeros (workPlaces - modelPlaces * length rs)
+  z = zeros (workSize - modelSize * length rs)
 
   front-is : w ≡ stretches rs ++ (z ++ t)
-  unfolding workOf
+  unfolding workWith
   front-is = h .work-is ∙ append-assoc (stretches rs) z t
 
   -- the count is the number of results
-  pub counted : Holds w (length rs) rs t
-  counted = record { work-is = h .work-is; count-is = refl; sized = h .sized }
+  pub holds-all : Holds w (length rs) rs t
+  holds-all = record { work-is = h .work-is; count-is = refl; sized = h .sized }
 
   -- the model read at result i
   pub result-held : (i : ℕ) → i < count → stretch w i ≡ resultAt rs i
   result-held i lt =
       ap (λ (l : List ℤ). stretch l i) front-is ∙ stretch-result rs (z ++ t) i (h .sized) (omega (arith, h .count-is))
 
+  models-upto : (n : ℕ) → n ≤ count → modelsIn w n ≡ take n rs
+  unfolding modelsIn
+  models-upto zero le = refl
+  models-upto (suc n) le =
+      let b = h .count-is in
+      ap₂ (λ (a : List Model) (m : Model). a ++ (m ∷ [])) (models-upto n (omega arith)) (result-held n (omega arith))
+      ∙ sym (take-suc rs n zeroModel (omega (arith, b)))
+
+  pub models-held : modelsIn w (length rs) ≡ rs
+  models-held = models-upto (length rs) (omega (arith, h .count-is)) ∙ take-length rs
+
   -- the numbers behind
-  pub behind : length rs ≤ maxResults → drop workPlaces w ≡ t
+  pub behind : length rs ≤ maxResults → drop workSize w ≡ t
   behind few =
-      ap (λ (l : List ℤ). drop workPlaces l) (h .work-is) ∙ drop-at (workOf rs) t workPlaces (length-workOf rs (h .sized) few)
+      ap (λ (l : List ℤ). drop workSize l) (h .work-is) ∙ drop-at (workWith rs) t workSize (length-workWith rs (h .sized) few)
 
   -- a model stored as the next result
-  pub stored-holds : (m : Model) → count < maxResults → length (m .coefficients) ≡ places
+  pub stored-holds : (m : Model) → count < maxResults → length (m .coefficients) ≡ coefficientCount
       → Holds (storedAt w count m) (length (rs ++ (m ∷ []))) (rs ++ (m ∷ [])) t
-  unfolding workOf
+  unfolding workWith
   stored-holds m few h33 =
       let rs′ : List Model = rs ++ (m ∷ []) in
-      let a : ℕ = modelPlaces * count in
-      let z′ : List ℤ = zeros (workPlaces - modelPlaces * length rs′) in
+      let a : ℕ = modelSize * count in
+      let z′ : List ℤ = zeros (workSize - modelSize * length rs′) in
       let ce : count ≡ length rs = h .count-is in
       let la : length (stretches rs) ≡ a = omega (arith, length-stretches rs (h .sized)) in
       let lr : length rs′ ≡ length rs + 1 = length-append rs (m ∷ []) in
       let front : take a w ≡ stretches rs = ap (λ (l : List ℤ). take a l) front-is ∙ take-at (stretches rs) (z ++ t) a la in
-      let back : drop (a + modelPlaces) w ≡ z′ ++ t =
-      ap (λ (l : List ℤ). drop (a + modelPlaces) l) front-is
-      ∙ sym (drop-drop modelPlaces a (stretches rs ++ (z ++ t)))
-      ∙ ap (λ (l : List ℤ). drop modelPlaces l) (drop-at (stretches rs) (z ++ t) a la)
-      ∙ drop-zeros (workPlaces - modelPlaces * length rs) modelPlaces t (omega arith)
+      let back : drop (a + modelSize) w ≡ z′ ++ t =
+      ap (λ (l : List ℤ). drop (a + modelSize) l) front-is
+      ∙ sym (drop-drop modelSize a (stretches rs ++ (z ++ t)))
+      ∙ ap (λ (l : List ℤ). drop modelSize l) (drop-at (stretches rs) (z ++ t) a la)
+      ∙ drop-zeros (workSize - modelSize * length rs) modelSize t (omega arith)
       ∙ ap (λ (k : ℕ). zeros k ++ t) (omega arith) in record {
         work-is =
-            ap (λ (l : List ℤ). l ++ (words m ++ drop (a + modelPlaces) w)) front
+            ap (λ (l : List ℤ). l ++ (words m ++ drop (a + modelSize) w)) front
             ∙ ap (λ (l : List ℤ). stretches rs ++ (words m ++ l)) back
             ∙ sym (append-assoc (stretches rs) (words m) (z′ ++ t))
             ∙ ap (λ (l : List ℤ). l ++ (z′ ++ t)) (sym (stretches-snoc rs m))

@@ -1,84 +1,74 @@
 -- From the reading of a command to its performance.
 use mathlib.Core.Path.{_≡_, refl, ap, sym, subst, _∙_}
-use mathlib.Core.Bool.{Bool, true, false, false≢true, _||_}
-use mathlib.Core.List.{List, [], _∷_}
-use Prim.Native.Nat.{ℕ, _≤_, _<_}
+use mathlib.Core.Bool.{Bool, false}
+use mathlib.Core.List.{List}
+use mathlib.Core.Logic.{_⊎_, inl, inr}
+use Prim.Native.Nat.{ℕ, _≤_}
 use native.Mathlib.Omega.{arith}
-use borrow.Author.Tests.{leb-false, lt-leb, eqb-true}
-use lib.Dec.{eqb, leb}
+use borrow.Author.Tests.{leb-false, lt-leb}
 use lib.IntN.{ℤ}
 use lib.ListN.{length}
-use denote.Enum.Declared.{tagOf}
-use types.Run.{OneOf, miss}
-use Rattle.model.specs.Models.{numberOf}
-use Rattle.model.specs.RefusalLaws.{first-refusal-zero}
+use Rattle.model.specs.definitions.Outcomes.{Passed, First}
+use Rattle.model.specs.laws.PlaceLaws.{passing-passed, passing-unrefused, first-or-passed, passing-first}
 use Rattle.model.specs.declared.types.Model.{Model}
-use Rattle.model.specs.declared.types.Verdict.{Verdict}
-use Rattle.model.specs.declared.types.Verdict.the-variants.{Accepted, ShortArea, BadModel, LargeResult, PointOutside, NotContracting, LargeResidual, HelperNotPositive, NegativeDiscriminant, BadValue, JobEnds, BytesAfterEnd, NotAResult, TooManyResults}
-use Rattle.model.proofs.types.Verdict.{the-type}
-use Rattle.job.specs.Commands.{Command, edition, load, add, subtract, multiply, quotient, root, finish, maxResults, shapeAt, nextAt, commandAt, badNames, makesResult, readingPlaces, readingNumber, ReadOutcome, found, refusal, readOutcome}
-use Rattle.job.specs.Jobs.{operation, no, resulting, performed, command}
-use Rattle.job.specs.CommandLaws.{both-below, Readable, readable, reading-numbered}
-use Rattle.job.specs.Work.{workPlaces}
-use Rattle.job.specs.Steps.{Performable}
+use Rattle.job.specs.definitions.Makers.{Maker, Row, of-none, of-one, of-two, rowFor, badIn, namesBad}
+use Rattle.job.specs.definitions.Commands.{maxResults, shapeAt, nextAt, commandAt, readingPlaces, CommandReading, found, commandReading}
+use Rattle.job.specs.definitions.Jobs.{refused, performed, command}
+use Rattle.job.specs.laws.CommandLaws.{both-below, Readable, readable}
+use Rattle.job.specs.definitions.Work.{workSize}
+use Rattle.job.specs.definitions.InnerContracts.{Performable}
 use Rattle.job.specs.declared.types.Kind.{Kind}
 
 -- ---- what a reading says of the command
 
 -- by what the reading answers
-abbrev ByReading : List ℕ → ℕ → List Model → ℕ → ReadOutcome → Type 0
+abbrev ByReading : List ℕ → ℕ → List Model → ℕ → CommandReading → Type 0
 ByReading job k rs at (found kind next) = command job k rs at ≡ performed (commandAt kind job at) rs next
-ByReading job k rs at (refusal n) = command job k rs at ≡ no n
+ByReading job k rs at (CommandReading.refused n) = command job k rs at ≡ refused n
 
-by-reading : (job : List ℕ) (k : ℕ) (rs : List Model) (at : ℕ) → ByReading job k rs at (readOutcome job k (length rs) at)
-unfolding command readOutcome
-by-reading job k rs at = by (eqb (readingNumber job k (length rs) at) 0) refl
+by-reading : (job : List ℕ) (k : ℕ) (rs : List Model) (at : ℕ) → ByReading job k rs at (commandReading job k (length rs) at)
+unfolding command commandReading
+by-reading job k rs at = by (first-or-passed places)
   where
-    by : (t : Bool) → eqb (readingNumber job k (length rs) at) 0 ≡ t → ByReading job k rs at (readOutcome job k (length rs) at)
-    by true e = simp e refl
-    by false e = simp e refl
+    places : List (Bool × ℕ)
+    places = readingPlaces job k (length rs) at
 
-module _ (job : List ℕ) (k count : ℕ) (rs : List Model) (at : ℕ) (e : count ≡ length rs) (o : ReadOutcome)
-    (h : readOutcome job k count at ≡ o) where
+    by : ((n : ℕ) × First places n) ⊎ Passed places → ByReading job k rs at (commandReading job k (length rs) at)
+    by (inl f) = rw (passing-first (found _ _) CommandReading.refused (f .1)) (passing-first _ refused (f .1))
+    by (inr f) = rw (passing-passed places (found _ _) CommandReading.refused f) (passing-passed places _ refused f)
+
+module _ (job : List ℕ) (k count : ℕ) (rs : List Model) (at : ℕ) (e : count ≡ length rs) (o : CommandReading)
+    (h : commandReading job k count at ≡ o) where
   read-is : ByReading job k rs at o
-  read-is = subst (ByReading job k rs at) (ap (λ (n : ℕ). readOutcome job k n at) (sym e) ∙ h) (by-reading job k rs at)
+  read-is = subst (ByReading job k rs at) (ap (λ (n : ℕ). commandReading job k n at) (sym e) ∙ h) (by-reading job k rs at)
 
 pub read-refuses : (job : List ℕ) (k count : ℕ) (rs : List Model) (at n : ℕ) → count ≡ length rs
-    → readOutcome job k count at ≡ refusal n → command job k rs at ≡ no n
-read-refuses job k count rs at n e h = read-is job k count rs at e (refusal n) h
+    → commandReading job k count at ≡ CommandReading.refused n → command job k rs at ≡ refused n
+read-refuses job k count rs at n e h = read-is job k count rs at e (CommandReading.refused n) h
 
 pub read-performs : (job : List ℕ) (k count : ℕ) (rs : List Model) (at : ℕ) (kind : Kind) (next : ℕ) → count ≡ length rs
-    → readOutcome job k count at ≡ found kind next → command job k rs at ≡ performed (commandAt kind job at) rs next
+    → commandReading job k count at ≡ found kind next → command job k rs at ≡ performed (commandAt kind job at) rs next
 read-performs job k count rs at kind next e h = read-is job k count rs at e (found kind next) h
 
 module _ (job : List ℕ) (k count at : ℕ) (kind : Kind) (next : ℕ) (work : List ℤ)
-    (h : readOutcome job k count at ≡ found kind next) where
-  abbrev reading : ℕ
-  reading = readingNumber job k count at
+    (h : commandReading job k count at ≡ found kind next) where
+  abbrev places : List (Bool × ℕ)
+  places = readingPlaces job k count at
 
-  found-none : reading ≡ 0
-  unfolding readOutcome
-  found-none = by (eqb reading 0) refl
-    where
-      by : (t : Bool) → eqb reading 0 ≡ t → reading ≡ 0
-      by true e = eqb-true reading 0 e
-      by false e =
-          let z : _≡_ {A = ReadOutcome} (refusal reading) (found kind next) = simp e at h in
-          let y : _≡_ {A = ℕ} 0 1 = cc z in
-          absurd (omega arith)
+  refused-not-found : (n : ℕ) → ¬ (CommandReading.refused n ≡ found kind next)
+  refused-not-found n e = let z : _≡_ {A = ℕ} 0 1 = cc e in absurd (omega arith)
+
+  found-passed : Passed places × (found kind next ≡ found (shapeAt job k count at .kind) (nextAt job k count at))
+  unfolding commandReading
+  found-passed = passing-unrefused places _ (found kind next) CommandReading.refused refused-not-found h
 
   kind-is : shapeAt job k count at .kind ≡ kind
-  unfolding readOutcome
-  kind-is =
-      let z : found (shapeAt job k count at .kind) (nextAt job k count at) ≡ found kind next = simp found-none at h in
-      cc z
+  kind-is = cc (found-passed .1)
 
   found-readable : Readable job k count at
-  unfolding readingNumber
-  found-readable =
-      readable job k count at (first-refusal-zero (readingPlaces job k count at) (reading-numbered job k count at) .0 found-none)
+  found-readable = readable job k count at (found-passed .0)
 
-  pub found-performable : count ≤ maxResults → workPlaces ≤ length work → Performable kind job count at work
+  pub found-performable : count ≤ maxResults → workSize ≤ length work → Performable kind job count at work
   found-performable few long =
       let r = found-readable in record {
         names = rw kind-is at (r .names-good);
@@ -88,55 +78,15 @@ module _ (job : List ℕ) (k count at : ℕ) (kind : Kind) (next : ℕ) (work : 
         long = long;
       }
 
--- ---- a command that makes a result
+-- ---- a command that makes a result names results below 32
 
-pub performed-makes : (c : Command) (rs : List Model) (next : ℕ) → makesResult c ≡ true
-    → performed c rs next ≡ resulting rs next (operation c rs)
-performed-makes edition rs next e = absurd (false≢true e)
-performed-makes (load m) rs next e = refl
-performed-makes (add i j) rs next e = refl
-performed-makes (subtract i j) rs next e = refl
-performed-makes (multiply i j d) rs next e = refl
-performed-makes (quotient i j h w) rs next e = refl
-performed-makes (root i h w) rs next e = refl
-performed-makes finish rs next e = absurd (false≢true e)
-
--- it names results below 32
 module _ (count : ℕ) (few : count ≤ maxResults) where
-  one : (i : ℕ) → leb count i ≡ false → leb maxResults i ≡ false
-  one i h = lt-leb maxResults i (omega (arith, leb-false count i h))
-
-  two : (i j : ℕ) → (leb count i || leb count j) ≡ false → (leb maxResults i || leb maxResults j) ≡ false
-  two i j h =
+  row-below : (r : Row) → badIn r count ≡ false → badIn r maxResults ≡ false
+  row-below (of-none g) h = refl
+  row-below (of-one i g) h = lt-leb maxResults i (omega (arith, leb-false count i h))
+  row-below (of-two i j g) h =
       let b = both-below count i j h in
       simp (lt-leb maxResults i (omega (arith, b)), lt-leb maxResults j (omega (arith, b)))
 
-  pub names-below : (c : Command) → badNames c count ≡ false → badNames c maxResults ≡ false
-  names-below edition h = refl
-  names-below (load m) h = refl
-  names-below (add i j) h = two i j h
-  names-below (subtract i j) h = two i j h
-  names-below (multiply i j d) h = two i j h
-  names-below (quotient i j c w) h = two i j h
-  names-below (root i c w) h = one i h
-  names-below finish h = refl
-
--- a verdict that refuses has a number
-abbrev refusals : List ℕ
-refusals = 1 ∷ 2 ∷ 3 ∷ 4 ∷ 5 ∷ 6 ∷ 7 ∷ 8 ∷ 9 ∷ 10 ∷ 11 ∷ 12 ∷ 13 ∷ []
-
-pub refusal-positive : (v : Verdict) → OneOf refusals (tagOf the-type v) → 0 < numberOf v
-refusal-positive Accepted h = absurd (miss refusals 0 tt h)
-refusal-positive ShortArea h = omega arith
-refusal-positive BadModel h = omega arith
-refusal-positive LargeResult h = omega arith
-refusal-positive PointOutside h = omega arith
-refusal-positive NotContracting h = omega arith
-refusal-positive LargeResidual h = omega arith
-refusal-positive HelperNotPositive h = omega arith
-refusal-positive NegativeDiscriminant h = omega arith
-refusal-positive BadValue h = omega arith
-refusal-positive JobEnds h = omega arith
-refusal-positive BytesAfterEnd h = omega arith
-refusal-positive NotAResult h = omega arith
-refusal-positive TooManyResults h = omega arith
+  pub names-below : (m : Maker) → namesBad m count ≡ false → namesBad m maxResults ≡ false
+  names-below m h = row-below (rowFor m) h

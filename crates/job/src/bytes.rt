@@ -2,11 +2,11 @@
 ghost use mathlib.Core.Path.{_≡_};
 ghost use Prim.Native.Nat.{_+_, _≤_, _<_};
 ghost use lib.ListN.{length};
-ghost use Rattle.model.specs.Models.{candidateModel};
-ghost use Rattle.job.specs.Bytes.{unsignedAt, signed as signedOf, signedsAt, blockAt};
+ghost use Rattle.model.specs.definitions.Models.{candidateModel};
+ghost use Rattle.job.specs.definitions.Bytes.{unsignedAt, signed as signedOf, signedsAt, blockAt};
+use model::types::COEFFICIENTS;
 use model::types::Candidate;
 use model::types::Model;
-use model::types::PLACES;
 
 fn widen(b: u8) -> u32
     ensures { λ r. ⌜ (r ≡ b) × (r < 256) ⌝ }
@@ -34,13 +34,13 @@ fn to_signed(n: u32) -> i32
 }
 
 // The coefficients of a block from i on.
-fn read_coefficients(s: &[u8], i: usize) -> [i32; PLACES]
+fn read_coefficients(s: &[u8], i: usize) -> [i32; COEFFICIENTS]
     requires { ⌜ i + 132 ≤ length (now s) ⌝ }
     ensures { λ r. ⌜ r ≡ signedsAt (now (s .entry)) i 33 ⌝ }
 {
-    let mut coefficients = [0i32; PLACES];
+    let mut coefficients = [0i32; COEFFICIENTS];
     let mut k: usize = 0;
-    while k < PLACES {
+    while k < COEFFICIENTS {
         coefficients[k] = to_signed(read_unsigned(s, i + 4 * k));
         k += 1;
     }

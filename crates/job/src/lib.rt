@@ -2,7 +2,7 @@
 mod bytes;
 mod decode;
 mod operations;
-mod reader;
+pub mod reader;
 mod reading;
 pub mod run;
 mod step;

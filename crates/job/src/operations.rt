@@ -1,29 +1,27 @@
 // The operations of the commands that make a result, on the results and blocks that they name.
 ghost use mathlib.Core.Path.{_≡_};
 ghost use mathlib.Core.List.{List};
-ghost use Prim.Native.Nat.{_+_, _≤_, _<_};
+ghost use Prim.Native.Nat.{_+_, _≤_};
 ghost use lib.IntN.{ℤ};
 ghost use lib.ListN.{length};
-ghost use Rattle.model.specs.Models.{outcomeOf};
-ghost use Rattle.certificate.specs.Tests.{testOf};
-ghost use Rattle.job.specs.Bytes.{byteAt};
-ghost use Rattle.job.specs.Commands.{keptByte, maxResults, commandAt};
-ghost use Rattle.job.specs.Jobs.{fromTest};
-ghost use Rattle.job.specs.Work.{workPlaces, stretch};
-ghost use Rattle.job.specs.Steps.{Performs, Operable, NamesTwo, Clear};
+ghost use Rattle.model.specs.definitions.Outcomes.{outcomeOf};
+ghost use Rattle.certificate.specs.definitions.Tests.{testOf};
+ghost use Rattle.job.specs.definitions.Bytes.{byteAt};
+ghost use Rattle.job.specs.definitions.Commands.{keptByte, makerAt};
+ghost use Rattle.job.specs.definitions.Work.{stretch};
+ghost use Rattle.job.specs.definitions.InnerContracts.{untestedOutcome, Performs, Operable, NamesOne, NamesTwo, Clear};
 use crate::bytes::read_candidate;
 use crate::bytes::read_model;
 use crate::bytes::read_unsigned;
-use crate::types::Kind;
+use crate::types::Operation;
 use crate::work::stretch_at;
-use certificate::types::Certified;
-use model::types::Answer;
+use certificate::types::TestOutcome;
 use model::types::Model;
-use model::types::Verdict;
+use model::types::ModelOutcome;
 
 // The result that byte i of the job names.
 fn named(job: &[u8], i: usize, work: &[i32]) -> Model
-    requires { ⌜ (i < length (now job)) × ((byteAt (now job) i < maxResults) × (workPlaces ≤ length (now work))) ⌝ }
+    requires { ⌜ NamesOne (now job) i (now work) ⌝ }
     ensures { λ (m : Model). ⌜ m ≡ stretch (now (work .entry)) (byteAt (now (job .entry)) i) ⌝ }
 {
     stretch_at(work, job[i] as usize)
@@ -45,35 +43,44 @@ fn read_operands(job: &[u8], at: usize, work: &[i32]) -> Operands
     Operands { first, second }
 }
 
-fn load(job: &[u8], at: usize) -> Answer
-    requires { ⌜ at + 138 ≤ length (now job) ⌝ }
-    ensures { λ (r : Answer). ⌜ ((w : List ℤ) → Performs (commandAt Kind.Load (now (job .entry)) at) w (outcomeOf r)) ⌝ }
+// Where no test runs, m, N and b are zero.
+fn untested(o: ModelOutcome) -> TestOutcome
+    ensures { λ (r : TestOutcome). ⌜ testOf r ≡ untestedOutcome (outcomeOf o) ⌝ }
 {
-    let m = read_model(job, at + 1, read_unsigned(job, at + 134));
-    if model::measure::is_good(m) {
-        Answer {
-            verdict: Verdict::Accepted,
-            model: m,
-        }
-    } else {
-        Answer::refused(Verdict::BadModel)
+    let verdict = o.verdict;
+    let model = o.model;
+    TestOutcome {
+        verdict,
+        model,
+        contraction: 0,
+        residual: 0,
+        displacement: 0,
     }
 }
 
-fn add(job: &[u8], at: usize, work: &[i32]) -> Answer
-    requires { ⌜ Operable Kind.Add (now job) at (now work) ⌝ }
-    ensures { λ (r : Answer). ⌜ Performs (commandAt Kind.Add (now (job .entry)) at) (now (work .entry)) (outcomeOf r) ⌝ }
+fn load(job: &[u8], at: usize) -> TestOutcome
+    requires { ⌜ at + 138 ≤ length (now job) ⌝ }
+    ensures { λ (r : TestOutcome). ⌜ ((w : List ℤ) → Performs (makerAt Operation.Load (now (job .entry)) at) w (testOf r)) ⌝ }
 {
-    let o = read_operands(job, at, work);
-    model::add::add(o.first, o.second)
+    let m = read_model(job, at + 1, read_unsigned(job, at + 134));
+    untested(model::load::load(m))
 }
 
-fn subtract(job: &[u8], at: usize, work: &[i32]) -> Answer
-    requires { ⌜ Operable Kind.Subtract (now job) at (now work) ⌝ }
-    ensures { λ (r : Answer). ⌜ Performs (commandAt Kind.Subtract (now (job .entry)) at) (now (work .entry)) (outcomeOf r) ⌝ }
+fn add(job: &[u8], at: usize, work: &[i32]) -> TestOutcome
+    requires { ⌜ Operable Operation.Add (now job) at (now work) ⌝ }
+    ensures { λ (r : TestOutcome). ⌜ Performs (makerAt Operation.Add (now (job .entry)) at) (now (work .entry)) (testOf r) ⌝ }
 {
     let o = read_operands(job, at, work);
-    model::add::subtract(o.first, o.second)
+    untested(model::add::add(o.first, o.second))
+}
+
+fn subtract(job: &[u8], at: usize, work: &[i32]) -> TestOutcome
+    requires { ⌜ Operable Operation.Subtract (now job) at (now work) ⌝ }
+    ensures { λ (r : TestOutcome).
+        ⌜ Performs (makerAt Operation.Subtract (now (job .entry)) at) (now (work .entry)) (testOf r) ⌝ }
+{
+    let o = read_operands(job, at, work);
+    untested(model::add::subtract(o.first, o.second))
 }
 
 // The kept degree that a byte means: the choice of 0xFF is made here, and not left to the library.
@@ -87,65 +94,57 @@ fn kept_degree(d: u8) -> u32
     }
 }
 
-fn multiply(job: &[u8], at: usize, work: &[i32]) -> Answer
-    requires { ⌜ Operable Kind.Multiply (now job) at (now work) ⌝ }
-    ensures { λ (r : Answer). ⌜ Performs (commandAt Kind.Multiply (now (job .entry)) at) (now (work .entry)) (outcomeOf r) ⌝ }
+fn multiply(job: &[u8], at: usize, work: &[i32]) -> TestOutcome
+    requires { ⌜ Operable Operation.Multiply (now job) at (now work) ⌝ }
+    ensures { λ (r : TestOutcome).
+        ⌜ Performs (makerAt Operation.Multiply (now (job .entry)) at) (now (work .entry)) (testOf r) ⌝ }
 {
     let o = read_operands(job, at, work);
     let kept = kept_degree(job[at + 3]);
-    model::multiply::multiply(o.first, o.second, kept)
+    untested(model::multiply::multiply(o.first, o.second, kept))
 }
 
-// A test's verdict and result.
-fn outcome(r: Certified) -> Answer
-    ensures { λ (a : Answer). ⌜ outcomeOf a ≡ fromTest (testOf r) ⌝ }
-{
-    let verdict = r.verdict;
-    let model = r.model;
-    Answer { verdict, model }
-}
-
-fn quotient(job: &[u8], at: usize, work: &[i32], scratch: &mut [i64]) -> Answer
-    requires { ⌜ Operable Kind.Quotient (now job) at (now work) × Clear (now scratch) ⌝ }
-    ensures { λ (r : Answer). ⌜ Performs (commandAt Kind.Quotient (now (job .entry)) at) (now (work .entry)) (outcomeOf r) ⌝ }
+fn quotient(job: &[u8], at: usize, work: &[i32], scratch: &mut [i64]) -> TestOutcome
+    requires { ⌜ Operable Operation.Quotient (now job) at (now work) × Clear (now scratch) ⌝ }
+    ensures { λ (r : TestOutcome).
+        ⌜ Performs (makerAt Operation.Quotient (now (job .entry)) at) (now (work .entry)) (testOf r) ⌝ }
     ensures { λ _. ⌜ now (scratch .exit) ≡ now (scratch .entry) ⌝ }
 {
     let o = read_operands(job, at, work);
     let h = read_candidate(job, at + 3);
     let w = read_candidate(job, at + 136);
-    outcome(certificate::quotient::quotient(o.first, o.second, h, w, scratch))
+    certificate::quotient::quotient(o.first, o.second, h, w, scratch)
 }
 
-fn root(job: &[u8], at: usize, work: &[i32], scratch: &mut [i64]) -> Answer
-    requires { ⌜ Operable Kind.Root (now job) at (now work) × Clear (now scratch) ⌝ }
-    ensures { λ (r : Answer). ⌜ Performs (commandAt Kind.Root (now (job .entry)) at) (now (work .entry)) (outcomeOf r) ⌝ }
+fn root(job: &[u8], at: usize, work: &[i32], scratch: &mut [i64]) -> TestOutcome
+    requires { ⌜ Operable Operation.Root (now job) at (now work) × Clear (now scratch) ⌝ }
+    ensures { λ (r : TestOutcome). ⌜ Performs (makerAt Operation.Root (now (job .entry)) at) (now (work .entry)) (testOf r) ⌝ }
     ensures { λ _. ⌜ now (scratch .exit) ≡ now (scratch .entry) ⌝ }
 {
     let f = named(job, at + 1, work);
     let h = read_candidate(job, at + 2);
     let w = read_candidate(job, at + 135);
-    outcome(certificate::root::root(f, h, w, scratch))
+    certificate::root::root(f, h, w, scratch)
 }
 
 // The operation of a command that makes a result.
 pub(crate) fn operate(
-    kind: Kind,
+    op: Operation,
     job: &[u8],
     at: usize,
     work: &[i32],
     scratch: &mut [i64],
-) -> Answer
-    requires { ⌜ Operable kind (now job) at (now work) × Clear (now scratch) ⌝ }
-    ensures { λ (r : Answer). ⌜ Performs (commandAt kind (now (job .entry)) at) (now (work .entry)) (outcomeOf r) ⌝ }
+) -> TestOutcome
+    requires { ⌜ Operable op (now job) at (now work) × Clear (now scratch) ⌝ }
+    ensures { λ (r : TestOutcome). ⌜ Performs (makerAt op (now (job .entry)) at) (now (work .entry)) (testOf r) ⌝ }
     ensures { λ _. ⌜ now (scratch .exit) ≡ now (scratch .entry) ⌝ }
 {
-    match kind {
-        Kind::Load => load(job, at),
-        Kind::Add => add(job, at, work),
-        Kind::Subtract => subtract(job, at, work),
-        Kind::Multiply => multiply(job, at, work),
-        Kind::Quotient => quotient(job, at, work, scratch),
-        Kind::Root => root(job, at, work, scratch),
-        _ => Answer::refused(Verdict::BadValue),
+    match op {
+        Operation::Load => load(job, at),
+        Operation::Add => add(job, at, work),
+        Operation::Subtract => subtract(job, at, work),
+        Operation::Multiply => multiply(job, at, work),
+        Operation::Quotient => quotient(job, at, work, scratch),
+        Operation::Root => root(job, at, work, scratch),
     }
 }

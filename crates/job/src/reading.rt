@@ -1,18 +1,19 @@
 // Reading one command: the places of document 01's table that its bytes pass through.
 ghost use mathlib.Core.Path.{_≡_};
-ghost use mathlib.Core.Bool.{_&&_, _||_};
-ghost use mathlib.Core.List.{List};
-ghost use Prim.Native.Nat.{ℕ, _+_, _≤_};
+ghost use mathlib.Core.Bool.{_&&_};
+ghost use Prim.Native.Nat.{_+_, _≤_};
 ghost use lib.Dec.{leb, ltb};
 ghost use lib.ListN.{length};
-ghost use Rattle.model.specs.Models.{maxDegree};
-ghost use Rattle.job.specs.Bytes.{byteAt};
-ghost use Rattle.job.specs.Commands.{maxResults, widthOf, keptByte, commandAt, badKind, badValues, badNames, makesResult, isEnd, readOutcome, readOutcomeOf};
+ghost use Rattle.model.specs.definitions.Models.{maxDegree};
+ghost use Rattle.job.specs.definitions.Commands.{maxResults, keptByte, badKind, badValues, valueBytes, badBytes, nameBytes};
+ghost use Rattle.job.specs.definitions.Commands.{makesResult, isEnd, commandReading, commandReadingOf};
 use crate::decode::shape_of;
+use crate::types::CommandReading;
 use crate::types::Kind;
-use crate::types::Read;
+use crate::types::Names;
+use crate::types::Values;
 use model::types::Model;
-use model::types::Verdict;
+use model::types::Refusal;
 
 const MAX_RESULTS: usize = 32;
 
@@ -39,14 +40,14 @@ fn is_bad_degree(d: u8) -> bool
 }
 
 // Edition not 1; a bad kept degree.
-fn has_bad_values(kind: Kind, job: &[u8], at: usize) -> bool
-    requires { ⌜ at + 1 + widthOf kind ≤ length (now job) ⌝ }
-    ensures { λ r. ⌜ r ≡ badValues kind (now (job .entry)) at ⌝ }
+fn has_bad_values(values: Values, job: &[u8], at: usize) -> bool
+    requires { ⌜ at + 1 + valueBytes values ≤ length (now job) ⌝ }
+    ensures { λ r. ⌜ r ≡ badValues values (now (job .entry)) at ⌝ }
 {
-    match kind {
-        Kind::Edition => job[at + 1] != 1,
-        Kind::Multiply => is_bad_degree(job[at + 3]),
-        _ => false,
+    match values {
+        Values::Any => false,
+        Values::EditionOne => job[at + 1] != 1,
+        Values::KeptDegree => is_bad_degree(job[at + 3]),
     }
 }
 
@@ -57,40 +58,36 @@ fn is_bad_name(b: u8, count: usize) -> bool
     count <= b as usize
 }
 
-// The two bytes from i on name results of which one is not there yet.
-fn is_bad_pair(job: &[u8], i: usize, count: usize) -> bool
-    requires { ⌜ i + 2 ≤ length (now job) ⌝ }
-    ensures { λ r. ⌜ r ≡ (leb count (byteAt (now (job .entry)) i) || leb count (byteAt (now (job .entry)) (i + 1))) ⌝ }
+// The two bytes after a command name results of which one is not there yet.
+fn is_bad_pair(job: &[u8], at: usize, count: usize) -> bool
+    requires { ⌜ at + 3 ≤ length (now job) ⌝ }
+    ensures { λ r. ⌜ r ≡ badBytes Names.Two (now (job .entry)) at count ⌝ }
 {
-    if is_bad_name(job[i], count) {
+    if is_bad_name(job[at + 1], count) {
         true
     } else {
-        is_bad_name(job[i + 1], count)
+        is_bad_name(job[at + 2], count)
     }
 }
 
-fn has_bad_names(kind: Kind, job: &[u8], at: usize, count: usize) -> bool
-    requires { ⌜ at + 1 + widthOf kind ≤ length (now job) ⌝ }
-    ensures { λ r. ⌜ r ≡ badNames (commandAt kind (now (job .entry)) at) count ⌝ }
+fn has_bad_names(names: Names, job: &[u8], at: usize, count: usize) -> bool
+    requires { ⌜ at + 1 + nameBytes names ≤ length (now job) ⌝ }
+    ensures { λ r. ⌜ r ≡ badBytes names (now (job .entry)) at count ⌝ }
 {
-    match kind {
-        Kind::Add | Kind::Subtract | Kind::Multiply | Kind::Quotient => is_bad_pair(
-            job,
-            at + 1,
-            count,
-        ),
-        Kind::Root => is_bad_name(job[at + 1], count),
-        _ => false,
+    match names {
+        Names::Nothing => false,
+        Names::One => is_bad_name(job[at + 1], count),
+        Names::Two => is_bad_pair(job, at, count),
     }
 }
 
 // A 33rd result.
 fn is_full(kind: Kind, count: usize) -> bool
-    ensures { λ r. ⌜ ((job : List ℕ) (at : ℕ) → r ≡ (makesResult (commandAt kind job at) && leb maxResults count)) ⌝ }
+    ensures { λ r. ⌜ r ≡ (makesResult kind && leb maxResults count) ⌝ }
 {
     match kind {
-        Kind::End | Kind::Edition | Kind::Unknown => false,
-        _ => MAX_RESULTS <= count,
+        Kind::Result(_) => MAX_RESULTS <= count,
+        _ => false,
     }
 }
 
@@ -105,32 +102,34 @@ fn is_too_long(kind: Kind, next: usize, len: usize) -> bool
 }
 
 // Command k, whose byte stands at a position, with so many results before it.
-pub(crate) fn read_command(job: &[u8], k: usize, count: usize, at: usize) -> Read
-    ensures { λ r. ⌜ readOutcomeOf r ≡ readOutcome (now (job .entry)) k count at ⌝ }
+pub(crate) fn read_command(job: &[u8], k: usize, count: usize, at: usize) -> CommandReading
+    ensures { λ r. ⌜ commandReadingOf r ≡ commandReading (now (job .entry)) k count at ⌝ }
 {
     if job.len() <= at {
-        return Read::Refused(Verdict::JobEnds);
+        return CommandReading::Refused(Refusal::JobEnds);
     }
     let shape = shape_of(job[at]);
     let kind = shape.kind;
     if is_bad_kind(k, kind) {
-        return Read::Refused(Verdict::BadValue);
+        return CommandReading::Refused(Refusal::BadValue);
     }
     if job.len() - at <= shape.width {
-        return Read::Refused(Verdict::JobEnds);
+        return CommandReading::Refused(Refusal::JobEnds);
     }
-    if has_bad_values(kind, job, at) {
-        return Read::Refused(Verdict::BadValue);
+    let values = shape.values;
+    if has_bad_values(values, job, at) {
+        return CommandReading::Refused(Refusal::BadValue);
     }
-    if has_bad_names(kind, job, at, count) {
-        return Read::Refused(Verdict::NotAResult);
+    let names = shape.names;
+    if has_bad_names(names, job, at, count) {
+        return CommandReading::Refused(Refusal::NotAResult);
     }
     if is_full(kind, count) {
-        return Read::Refused(Verdict::TooManyResults);
+        return CommandReading::Refused(Refusal::TooManyResults);
     }
     let next = at + 1 + shape.width;
     if is_too_long(kind, next, job.len()) {
-        return Read::Refused(Verdict::BytesAfterEnd);
+        return CommandReading::Refused(Refusal::BytesAfterEnd);
     }
-    Read::Command(kind, next)
+    CommandReading::Found(kind, next)
 }

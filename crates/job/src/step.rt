@@ -1,26 +1,23 @@
 // One command: its reading, its operation, and its result's stretch of the work area.
 ghost use mathlib.Core.Path.{_≡_};
-ghost use Prim.Native.Nat.{_≤_, _<_};
-ghost use lib.ListN.{length};
-ghost use Rattle.model.specs.Models.{outcomeOf};
-ghost use Rattle.model.specs.Areas.{Storable};
-ghost use Rattle.job.specs.Commands.{maxResults, commandAt};
-ghost use Rattle.job.specs.Jobs.{resulting, performed, command};
-ghost use Rattle.job.specs.Work.{workPlaces};
-ghost use Rattle.job.specs.Steps.{StepsBy, Performable, Clear};
+ghost use Rattle.certificate.specs.definitions.Tests.{testOf};
+ghost use Rattle.job.specs.definitions.Commands.{commandAt};
+ghost use Rattle.job.specs.definitions.Jobs.{resulting, performed, command};
+ghost use Rattle.job.specs.definitions.InnerContracts.{StepsBy, Performable, Storing, Between, Clear};
 use crate::operations::operate;
 use crate::reader::read_next;
-use crate::types::Done;
+use crate::types::CommandReading;
 use crate::types::Kind;
-use crate::types::Read;
+use crate::types::Step;
 use crate::work::store;
-use model::types::Answer;
+use certificate::types::TestOutcome;
+use model::types::Refusal;
 use model::types::Verdict;
 
 // The operation's answer becomes the next result.
-fn add_result(work: &mut [i32], count: usize, next: usize, a: Answer) -> Done
-    requires { ⌜ (workPlaces ≤ length (now work)) × ((count < maxResults) × Storable (a .model)) ⌝ }
-    ensures { λ (r : Done). ⌜ StepsBy r (now (work .entry)) (now (work .exit)) count (λ rs. resulting rs next (outcomeOf a)) ⌝ }
+fn add_result(work: &mut [i32], count: usize, next: usize, a: TestOutcome) -> Step
+    requires { ⌜ Storing (now work) count (a .model) ⌝ }
+    ensures { λ r. ⌜ StepsBy r (now (work .entry)) (now (work .exit)) count (λ rs. resulting rs next (testOf a)) ⌝ }
 {
     let verdict = a.verdict;
     match verdict {
@@ -28,9 +25,9 @@ fn add_result(work: &mut [i32], count: usize, next: usize, a: Answer) -> Done
             let m = a.model;
             store(work, count, m);
             let results = count + 1;
-            Done::More(next, results)
+            Step::More(results, next)
         }
-        _ => Done::Refused(verdict),
+        Verdict::Refused(refusal) => Step::Refused(refusal),
     }
 }
 
@@ -43,18 +40,20 @@ fn perform(
     at: usize,
     work: &mut [i32],
     scratch: &mut [i64],
-) -> Done
+) -> Step
     requires { ⌜ Performable kind (now job) count at (now work) × Clear (now scratch) ⌝ }
-    ensures { λ (r : Done). ⌜ StepsBy r (now (work .entry)) (now (work .exit)) count (λ rs. performed (commandAt kind (now (job .entry)) at) rs next) ⌝ }
+    ensures { λ r. ⌜ StepsBy r (now (work .entry)) (now (work .exit)) count
+        (λ rs. performed (commandAt kind (now (job .entry)) at) rs next) ⌝ }
     ensures { λ _. ⌜ now (scratch .exit) ≡ now (scratch .entry) ⌝ }
 {
     match kind {
-        Kind::End | Kind::Unknown => Done::Over,
-        Kind::Edition => Done::More(next, count),
-        _ => {
-            let a = operate(kind, job, at, work, scratch);
+        Kind::End => Step::Over,
+        Kind::Edition => Step::More(count, next),
+        Kind::Result(op) => {
+            let a = operate(op, job, at, work, scratch);
             add_result(work, count, next, a)
         }
+        Kind::Unknown => Step::Refused(Refusal::BadValue),
     }
 }
 
@@ -66,14 +65,14 @@ pub(crate) fn step(
     at: usize,
     work: &mut [i32],
     scratch: &mut [i64],
-) -> Done
-    requires { ⌜ (workPlaces ≤ length (now work)) × ((count ≤ maxResults) × Clear (now scratch)) ⌝ }
-    ensures { λ (r : Done). ⌜ StepsBy r (now (work .entry)) (now (work .exit)) count (λ rs. command (now (job .entry)) k rs at) ⌝ }
+) -> Step
+    requires { ⌜ Between (now work) count (now scratch) ⌝ }
+    ensures { λ r. ⌜ StepsBy r (now (work .entry)) (now (work .exit)) count (λ rs. command (now (job .entry)) k rs at) ⌝ }
     ensures { λ _. ⌜ now (scratch .exit) ≡ now (scratch .entry) ⌝ }
 {
     let read = read_next(job, k, count, at);
     match read {
-        Read::Refused(v) => Done::Refused(v),
-        Read::Command(kind, next) => perform(kind, next, job, count, at, work, scratch),
+        CommandReading::Refused(refusal) => Step::Refused(refusal),
+        CommandReading::Found(kind, next) => perform(kind, next, job, count, at, work, scratch),
     }
 }

@@ -1,39 +1,61 @@
 // The kinds of commands, and what the check of a job answers.
-use model::types::Verdict;
+use model::types::Refusal;
 
-pub enum Kind {
-    End,
-    Edition,
+// The operations of the commands that make a result.
+pub enum Operation {
     Load,
     Add,
     Subtract,
     Multiply,
     Quotient,
     Root,
+}
+
+// A command is the end, the edition or one that makes a result.
+pub enum Kind {
+    End,
+    Edition,
+    Result(Operation),
     Unknown,
 }
 
-// A command's kind and the width of its operands in bytes.
+// How many of a command's operand bytes, from the first on, name results.
+pub enum Names {
+    Nothing,
+    One,
+    Two,
+}
+
+// What is asked of a command's operand bytes: nothing, an edition of 1, or a kept degree after two names.
+pub enum Values {
+    Any,
+    EditionOne,
+    KeptDegree,
+}
+
+// A command's shape: its kind, the width of its operands in bytes, which of them name results, and what values are asked.
 pub struct Shape {
     pub kind: Kind,
     pub width: usize,
+    pub names: Names,
+    pub values: Values,
 }
 
 // What reading a command answers: its kind and the next position, or a refusal.
-pub enum Read {
-    Command(Kind, usize),
-    Refused(Verdict),
+pub enum CommandReading {
+    Found(Kind, usize),
+    Refused(Refusal),
 }
 
-// What one command does: the next position and the count of results then, the end of the job, or a refusal.
-pub enum Done {
+// What one command does: the count of results then and the next position, the end of the job, or a refusal.
+pub enum Step {
     More(usize, usize),
     Over,
-    Refused(Verdict),
+    Refused(Refusal),
 }
 
-// Accepted with the count of results, or refused with the verdict and the command's number, counted from 0.
-pub enum Report {
+// Accepted with the count of results, or refused with the refusal and the command's number, counted from 0.
+pub enum JobOutcome {
     Accepted(usize),
-    Refused(Verdict, usize),
+    Refused(Refusal, usize),
 }

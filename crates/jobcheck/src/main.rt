@@ -1,59 +1,64 @@
 // Checks a job from standard input: a line for each result, number, degree, radius, then 'accepted' and the count; or one
-// line, 'refused', number, command.
-use job::types::Report;
-use job::work::WORK_PLACES;
+// line: 'refused', number, command; 'too long'; or 'unreadable', if a read failed.
+ghost use Rattle.jobcheck.specs.definitions.Lines.{Printable};
+ghost use Prim.Native.Nat.{_+_};
+use certificate::types::SCRATCH_SIZE;
+use input::Input;
+use job::types::JobOutcome;
+use job::work::WORK_SIZE;
 use libc::STDOUT_FILENO;
-use model::types::Verdict;
+use model::types::Refusal;
+
+mod input;
 
 // The program takes up to so many bytes.
 const LIMIT: usize = 65536;
 
 fn main() {
-    let mut buffer = [0u8; 65537];
-    let mut work = [0i32; 1120];
-    let mut scratch = [0i64; 65];
-    let got = io::read_full(0, &mut buffer);
-    if LIMIT < got {
-        io::write_all(STDOUT_FILENO, b"too long\n");
-        return;
+    let mut buffer = [0u8; LIMIT + 1];
+    let input = input::read_input(&mut buffer);
+    match input {
+        Input::Whole(length) => answer(&buffer[..length]),
+        Input::TooLong => text(b"too long\n"),
+        Input::Unreadable => text(b"unreadable\n"),
     }
-    let report = job::run::check(&buffer[..got], &mut work, &mut scratch);
-    match report {
-        Report::Accepted(count) => accepted(&work, count),
-        Report::Refused(verdict, command) => refused(verdict, command),
+}
+
+// Checks a job and prints the answer.
+fn answer(job: &[u8]) {
+    let mut work = [0i32; WORK_SIZE];
+    let mut scratch = [0i64; SCRATCH_SIZE];
+    let outcome = job::run::check(job, &mut work, &mut scratch);
+    match outcome {
+        JobOutcome::Accepted(count) => accepted(&work, count),
+        JobOutcome::Refused(refusal, command) => refused(refusal, command),
     }
+}
+
+fn text(bytes: &[u8]) {
+    io::write_all(STDOUT_FILENO, bytes);
 }
 
 fn number(n: u64) {
     io::print_decimal(STDOUT_FILENO, n);
 }
 
-fn space() {
-    io::write_all(STDOUT_FILENO, b" ");
-}
-
-fn end_line() {
-    io::write_all(STDOUT_FILENO, b"\n");
-}
-
 // The line of result i.
-fn line(work: &[i32], i: usize) {
-    if 32 <= i {
-        return;
-    }
-    if work.len() < WORK_PLACES {
-        return;
-    }
+fn line(work: &[i32], i: usize)
+    requires { ⌜ Printable (now work) (i + 1) ⌝ }
+{
     let m = job::work::stretch_at(work, i);
     number(i as u64);
-    space();
+    text(b" ");
     number(m.degree as u64);
-    space();
+    text(b" ");
     number(m.radius as u64);
-    end_line();
+    text(b"\n");
 }
 
-fn lines(work: &[i32], count: usize) {
+fn lines(work: &[i32], count: usize)
+    requires { ⌜ Printable (now work) count ⌝ }
+{
     let mut i: usize = 0;
     while i < count {
         line(work, i);
@@ -61,17 +66,19 @@ fn lines(work: &[i32], count: usize) {
     }
 }
 
-fn accepted(work: &[i32], count: usize) {
+fn accepted(work: &[i32], count: usize)
+    requires { ⌜ Printable (now work) count ⌝ }
+{
     lines(work, count);
-    io::write_all(STDOUT_FILENO, b"accepted ");
+    text(b"accepted ");
     number(count as u64);
-    end_line();
+    text(b"\n");
 }
 
-fn refused(verdict: Verdict, command: usize) {
-    io::write_all(STDOUT_FILENO, b"refused ");
-    number(model::types::number_of(verdict) as u64);
-    space();
+fn refused(refusal: Refusal, command: usize) {
+    text(b"refused ");
+    number(model::types::number_of(refusal) as u64);
+    text(b" ");
     number(command as u64);
-    end_line();
+    text(b"\n");
 }

@@ -1,21 +1,21 @@
 -- From V and W to the bounds of an evaluation: the numbers on the way fit 64 bits.
 use mathlib.Core.Path.{_≡_, ap}
 use mathlib.Core.Bool.{true}
-use Prim.Native.Nat.{ℕ, _+_, _*_, _^_, _≤_}
+use Prim.Native.Nat.{ℕ, _+_, _^_, _≤_}
 use native.Mathlib.Omega.{arith}
 use lib.IntN.{ℤ, pos, natAbs, _+ℤ_, _-ℤ_, _*ℤ_}
 use mir.Syntax.{w64}
 use mir.Val.{SFits, toZ}
 use mir.Facts.{toZ-pos}
-use Rattle.integer.specs.Parts.{abs-add, abs-sub, abs-mul}
-use Rattle.integer.specs.Machine.{abs-fits}
-use Rattle.integer.specs.Rounding.{floor, up}
-use Rattle.integer.specs.RoundingSize.{floor-size, up-size}
-use Rattle.model.specs.Models.{scale, terms, good}
-use Rattle.model.specs.ModelLaws.{Good, good-is}
-use Rattle.model.specs.GoodLaws.{length-terms, weight-terms}
-use Rattle.model.specs.Evaluation.{pointSum, pointError, lowBound, highBound}
-use Rattle.model.specs.EvaluationLaws.{sum-size, error-size}
+use Rattle.integer.specs.laws.Parts.{abs-add, abs-sub, abs-mul}
+use Rattle.integer.specs.laws.Machine.{abs-fits}
+use Rattle.integer.specs.definitions.Rounding.{floor, up}
+use Rattle.integer.specs.laws.RoundingSize.{floor-size, up-size}
+use Rattle.model.specs.definitions.Models.{scale, terms, good}
+use Rattle.model.specs.laws.ModelLaws.{Good, good-is}
+use Rattle.model.specs.laws.GoodLaws.{length-terms, weight-terms}
+use Rattle.model.specs.definitions.Evaluation.{pointSum, pointError, lowBound, highBound}
+use Rattle.model.specs.laws.EvaluationLaws.{sum-size, error-size}
 use Rattle.model.specs.declared.types.Model.{Model}
 
 -- v and w are V and W of a good model at a point inside

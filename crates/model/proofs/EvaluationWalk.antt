@@ -3,17 +3,21 @@ use mathlib.Core.Path.{_≡_, refl, sym, _∙_, ap}
 use mathlib.Core.List.{List}
 use Prim.Native.Nat.{ℕ, zero, suc, _+_, _*_, _-_, _^_, _<_, _≤_}
 use native.Mathlib.Numerals.{add-one}
+use native.Mathlib.Nat.{mul-le-mul}
 use native.Mathlib.Omega.{arith}
 use lib.IntN.{ℤ, pos, natAbs, _+ℤ_, _-ℤ_, _*ℤ_, +ℤ-assoc, +ℤ-idl, +ℤ-idr}
 use lib.ListN.{length, getD, drop, length-drop, drop-of-length-le}
 use lib.Seq.{drop-cons}
-use Rattle.integer.specs.Parts.{abs, apart, sum}
-use Rattle.integer.specs.Rounding.{near}
-use Rattle.chebyshev.specs.Coefficients.{weight}
-use Rattle.chebyshev.specs.Weight.{weight-drop}
-use Rattle.model.specs.Models.{scale, places, maxWeight}
-use Rattle.model.specs.Evaluation.{pointTerm, pointSum, pointError}
-use Rattle.model.specs.EvaluationLaws.{term-size, sum-size, error-size}
+use mir.Syntax.{w64}
+use mir.Val.{SFits}
+use Rattle.integer.specs.laws.Parts.{abs, apart, sum, mul-within}
+use Rattle.integer.specs.laws.Machine.{abs-fits}
+use Rattle.integer.specs.definitions.Rounding.{near}
+use Rattle.chebyshev.specs.definitions.Coefficients.{weight}
+use Rattle.chebyshev.specs.laws.Weight.{weight-drop}
+use Rattle.model.specs.definitions.Models.{scale, coefficientCount, maxWeight}
+use Rattle.model.specs.definitions.Evaluation.{pointTerm, pointSum, pointError}
+use Rattle.model.specs.laws.EvaluationLaws.{term-size, sum-size, error-size}
 
 -- at place k: what is summed up and what is left of cs make V and W, and t and `next` are t_k and t_(k+1)
 pub record Walk (p : ℤ) (cs : List ℤ) (value : ℤ) (error : ℕ) (t next : ℤ) (k : ℕ) : Type 0 where
@@ -31,6 +35,9 @@ begins p cs = record { within = omega arith; value-rest = +ℤ-idl (pointSum p 0
 pub pairs-is : (k : ℕ) → (k ≤ k * k) × (k * k - k ≡ k * (k - 1))
 pairs-is zero = omega arith
 pairs-is (suc k) = let e : suc k - 1 ≡ k = omega arith in rw e (omega arith)
+
+pub square-small : (k : ℕ) → k ≤ coefficientCount → k * k ≤ coefficientCount * coefficientCount
+square-small k h = mul-le-mul h h
 
 sum-step : (p : ℤ) (k : ℕ) (a : List ℤ) → k < length a → pointSum p k (drop k a) ≡ getD a k (pos 0) *ℤ pointTerm p k +ℤ pointSum p (k + 1) (drop (k + 1) a)
 unfolding pointSum
@@ -68,7 +75,7 @@ pub record Small (value : ℤ) (error : ℕ) (t next : ℤ) : Type 0 where
   pub next-small : natAbs next ≤ 2 ^ 31
 
 pub small : {p : ℤ} {cs : List ℤ} {value : ℤ} {error : ℕ} {t next : ℤ} {k : ℕ} → Walk p cs value error t next k
-    → natAbs p ≤ scale → length cs ≤ places → weight cs ≤ maxWeight → Small value error t next
+    → natAbs p ≤ scale → length cs ≤ coefficientCount → weight cs ≤ maxWeight → Small value error t next
 small {p} {cs} {value} {error} {t} {next} {k} w hp hl hw = record {
   value-small = omega (arith, difference value (pointSum p k (drop k cs)) (pointSum p 0 cs) (w .value-rest), sum-size p 0 32 cs hp (omega arith), rest);
   error-small = omega (arith, w .error-rest, error-size 0 32 cs (omega arith));
@@ -81,3 +88,22 @@ small {p} {cs} {value} {error} {t} {next} {k} w hp hl hw = record {
 
     rest : 4 * natAbs (pointSum p k (drop k cs)) ≤ (2 ^ 32 + 32 * 31) * 2 ^ 28
     rest = omega (arith, sum-size p k 32 (drop k cs) hp (rw length-drop (omega (arith, w .within))), weight-drop k cs)
+
+-- ---- the numbers of a turn fit 64 bits
+
+pub term-fits : (x t : ℤ) → natAbs x ≤ maxWeight → natAbs t ≤ 2 ^ 31 → SFits w64 (x *ℤ t)
+term-fits x t h k = abs-fits w64 (x *ℤ t) (omega (arith, mul-within (2 ^ 28) (2 ^ 31) x t h k))
+
+module _ (p : ℤ) (h : natAbs p ≤ scale) where
+  twice : natAbs (pos 2 *ℤ p) ≤ 2 * 2 ^ 20
+  twice = mul-within 2 (2 ^ 20) (pos 2) p (omega arith) h
+
+  pub first-fits : SFits w64 (pos 1024 *ℤ p)
+  first-fits = abs-fits w64 (pos 1024 *ℤ p) (omega (arith, mul-within 1024 (2 ^ 20) (pos 1024) p (omega arith) h))
+
+  pub twice-fits : SFits w64 (pos 2 *ℤ p)
+  twice-fits = abs-fits w64 (pos 2 *ℤ p) (omega (arith, twice))
+
+  pub numerator-fits : (next : ℤ) → natAbs next ≤ 2 ^ 31 → SFits w64 (pos 2 *ℤ p *ℤ next)
+  numerator-fits next k =
+      abs-fits w64 (pos 2 *ℤ p *ℤ next) (omega (arith, mul-within (2 * 2 ^ 20) (2 ^ 31) (pos 2 *ℤ p) next twice k))

@@ -7,13 +7,14 @@ use native.Mathlib.Numerals.{add-one}
 use lib.IntN.{ℤ, pos, natAbs, _-ℤ_}
 use lib.ListN.{length, getD, drop, set, replicate, length-set, length-append, length-replicate, drop-of-length-le, List·getD-append, List·getD-eq-default}
 use lib.Seq.{drop-cons, drop-at, drop-set-lt, getD-set-same}
-use Rattle.integer.specs.Rounding.{near}
-use Rattle.integer.specs.Filling.{drop-replicate}
-use Rattle.chebyshev.specs.Coefficients.{weight}
-use Rattle.chebyshev.specs.Weight.{weight-step, weight-drop, weight-at}
-use Rattle.model.specs.Models.{places}
-use Rattle.model.specs.Integral.{alternating}
-use Rattle.model.specs.IntegralLaws.{roundedTail, roundedIntegral, length-rounded, getD-rounded, weight-rounded, alternating-size, weight-integral}
+use Rattle.integer.specs.definitions.Rounding.{near}
+use Rattle.integer.specs.laws.Filling.{drop-replicate}
+use Rattle.chebyshev.specs.definitions.Coefficients.{weight}
+use Rattle.chebyshev.specs.laws.Weight.{weight-step, weight-drop, weight-at}
+use Rattle.model.specs.definitions.InnerContracts.{roundedIntegral, roundedTail}
+use Rattle.model.specs.definitions.Models.{coefficientCount}
+use Rattle.model.specs.definitions.Integral.{alternating}
+use Rattle.model.specs.laws.IntegralLaws.{length-rounded, getD-rounded, weight-rounded, alternating-size, weight-integral}
 
 -- at place k: c_(k+1), c_(k+2), … stand in `out`, `total` is their weight and `first` is c_(k+1) − c_(k+2) + …; `above` and
 -- `here` are the numbers of ds at places k + 1 and k
@@ -26,7 +27,7 @@ pub record Walk (ds out : List ℤ) (total : ℕ) (first above here : ℤ) (k : 
   pub above-is : above ≡ getD ds (suc k) (pos 0)
   pub here-is : here ≡ getD ds k (pos 0)
 
-pub begins : (ds : List ℤ) (k : ℕ) → length ds ≡ k → k < places → Walk ds (replicate places (pos 0)) 0 (pos 0) (pos 0) (pos 0) k
+pub begins : (ds : List ℤ) (k : ℕ) → length ds ≡ k → k < coefficientCount → Walk ds (replicate coefficientCount (pos 0)) 0 (pos 0) (pos 0) (pos 0) k
 unfolding roundedIntegral weight alternating
 begins ds k e h =
     let n : length (roundedTail ds) ≡ k = length-rounded ds ∙ e in
@@ -34,9 +35,9 @@ begins ds k e h =
       within = omega arith;
       room = rw length-replicate (omega arith);
       filled =
-          drop-replicate (suc k) places (pos 0)
-          ∙ ap (λ (j : ℕ). replicate (places - suc j) (pos 0)) (sym n)
-          ∙ sym (drop-at (alternating (roundedTail ds) ∷ roundedTail ds) (replicate (places - suc (length (roundedTail ds))) (pos 0)) (suc k) (ap suc n));
+          drop-replicate (suc k) coefficientCount (pos 0)
+          ∙ ap (λ (j : ℕ). replicate (coefficientCount - suc j) (pos 0)) (sym n)
+          ∙ sym (drop-at (alternating (roundedTail ds) ∷ roundedTail ds) (replicate (coefficientCount - suc (length (roundedTail ds))) (pos 0)) (suc k) (ap suc n));
       total-is = rw none;
       first-is = rw none;
       above-is = sym (List·getD-eq-default ds (pos 0) {n = suc k} (omega arith));
@@ -56,7 +57,7 @@ length-integral ds = rw length-append (omega (arith, length-rounded ds))
 
 getD-integral : (ds : List ℤ) (j : ℕ) → j < length ds → getD (roundedIntegral ds) (suc j) (pos 0) ≡ getD (roundedTail ds) j (pos 0)
 unfolding roundedIntegral
-getD-integral ds j h = List·getD-append (roundedTail ds) (replicate (places - suc (length (roundedTail ds))) (pos 0)) (pos 0) j (rw length-rounded h)
+getD-integral ds j h = List·getD-append (roundedTail ds) (replicate (coefficientCount - suc (length (roundedTail ds))) (pos 0)) (pos 0) j (rw length-rounded h)
 
 -- a turn forms c = c_k, of absolute value m, from the numbers at k − 1 = j and k + 1
 pub turn : {ds out : List ℤ} {total : ℕ} {first above here : ℤ} {k : ℕ} (j : ℕ) (below c : ℤ) (m : ℕ) → Walk ds out total first above here k → k ≡ suc j

@@ -6,12 +6,13 @@ use native.Mathlib.Omega.{arith}
 use lib.IntN.{ℤ, pos, natAbs}
 use lib.ListN.{length, getD, take, drop, set, replicate, length-replicate}
 use lib.Seq.{length-take-le}
-use Rattle.integer.specs.Filling as Filling
-use Rattle.chebyshev.specs.Coefficients.{weight}
-use Rattle.chebyshev.specs.Weight.{weight-step, weight-end}
-use Rattle.model.specs.Models.{places, maxWeight}
-use Rattle.model.specs.Operations.{rounded, roundingLoss}
-use Rattle.model.specs.RoundingPass.{roundedAt, lossAt, rounded-length, rounded-at, rounded-weight, loss-step, loss-end, loss-weight, RoundedFrom}
+use Rattle.integer.specs.laws.Filling as Filling
+use Rattle.chebyshev.specs.definitions.Coefficients.{weight}
+use Rattle.chebyshev.specs.laws.Weight.{weight-step, weight-end}
+use Rattle.model.specs.definitions.InnerContracts.{RoundedFrom}
+use Rattle.model.specs.definitions.Models.{coefficientCount, maxWeight}
+use Rattle.model.specs.definitions.Operations.{rounded, roundingLoss}
+use Rattle.model.specs.laws.RoundingPassLaws.{roundedAt, lossAt, rounded-length, rounded-at, rounded-weight, loss-step, loss-end, loss-weight}
 
 -- k of the numbers are rounded: their weight and their loss in rest form, with `dropped` lost besides; they are written as
 -- long as their weight is within its limit
@@ -19,14 +20,14 @@ pub record Walk (cs : List ℤ) (dropped : ℕ) (out : List ℤ) (total loss k :
   pub within : k ≤ length cs
   pub weight-rest : total + weight (drop k (rounded cs)) ≡ weight (rounded cs)
   pub loss-rest : loss + roundingLoss (drop k cs) ≡ roundingLoss cs + dropped
-  pub written : total ≤ maxWeight → Filling.Filling (rounded cs) (replicate places (pos 0)) out 0 (length cs) k
+  pub written : total ≤ maxWeight → Filling.Filling (rounded cs) (replicate coefficientCount (pos 0)) out 0 (length cs) k
 
-pub begins : (cs : List ℤ) (dropped : ℕ) → length cs ≤ places → Walk cs dropped (replicate places (pos 0)) 0 dropped 0
+pub begins : (cs : List ℤ) (dropped : ℕ) → length cs ≤ coefficientCount → Walk cs dropped (replicate coefficientCount (pos 0)) 0 dropped 0
 begins cs dropped h = record {
   within = omega arith;
   weight-rest = omega arith;
   loss-rest = omega arith;
-  written = λ _. Filling.begins (rounded cs) (replicate places (pos 0)) 0 (length cs) (rounded-length cs) (rw length-replicate (omega arith));
+  written = λ _. Filling.begins (rounded cs) (replicate coefficientCount (pos 0)) 0 (length cs) (rounded-length cs) (rw length-replicate (omega arith));
 }
 
 -- a turn rounds x to q, of absolute value m, and loses n; q is stored where the weight stays within its limit
@@ -49,7 +50,7 @@ ends c n {out} {total} {loss} {k} h w l =
     let e : length cs ≡ n = length-take-le n c h in record {
       weight-is = omega (arith, w .weight-rest, weight-end (rounded cs) k (omega (arith, rounded-length cs)));
       loss-is = omega (arith, w .loss-rest, loss-end cs k (omega arith));
-      coefficients-are = λ b. Filling.padded places (pos 0) (w .written b) (omega arith) ∙ rw e;
+      coefficients-are = λ b. Filling.padded coefficientCount (pos 0) (w .written b) (omega arith) ∙ rw e;
     }
 
 -- neither sum is above the weight of all numbers

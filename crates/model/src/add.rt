@@ -1,34 +1,32 @@
 // Add and subtract: coefficient by coefficient, the larger degree, radii added.
 ghost use mathlib.Core.Path.{_≡_};
-ghost use Prim.Native.Nat.{_≤_};
 ghost use lib.IntN.{natAbs};
-ghost use lib.ListN.{length};
-ghost use Rattle.integer.specs.Integer.{ℤ-ring};
-ghost use Rattle.chebyshev.specs.Coefficients.{weight, addLists, scaleList};
-ghost use Rattle.model.specs.Models.{places, maxWeight, outcomeOf};
-ghost use Rattle.model.specs.Operations.{addition, subtraction};
-ghost use Rattle.model.specs.Combination.{combination};
+ghost use Rattle.integer.specs.definitions.Integer.{ℤ-ring};
+ghost use Rattle.chebyshev.specs.definitions.Coefficients.{weight, addLists, scaleList};
+ghost use Rattle.model.specs.definitions.InnerContracts.{Summands, combination};
+ghost use Rattle.model.specs.definitions.Outcomes.{outcomeOf};
+ghost use Rattle.model.specs.definitions.Operations.{addition, subtraction};
 use crate::measure::is_good;
-use crate::types::Answer;
+use crate::types::COEFFICIENTS;
 use crate::types::Model;
-use crate::types::PLACES;
-use crate::types::Verdict;
+use crate::types::ModelOutcome;
+use crate::types::Refusal;
 
 struct Combined {
-    coefficients: [i32; PLACES],
+    coefficients: [i32; COEFFICIENTS],
     weight: u64,
 }
 
 // a + sign·b, with its weight.
-fn combine(a: &[i32; PLACES], b: &[i32; PLACES], sign: i32) -> Combined
-    requires { ⌜ (length (now a) ≡ places) × (length (now b) ≡ places) ⌝ }
-    requires { ⌜ (weight (now a) ≤ maxWeight) × (weight (now b) ≤ maxWeight) × (natAbs sign ≡ 1) ⌝ }
-    ensures { λ (r : Combined). ⌜ (r .coefficients ≡ addLists ℤ-ring (now (a .entry)) (scaleList ℤ-ring sign (now (b .entry)))) × (r .weight ≡ weight (r .coefficients)) ⌝ }
+fn combine(a: &[i32; COEFFICIENTS], b: &[i32; COEFFICIENTS], sign: i32) -> Combined
+    requires { ⌜ Summands (now a) (now b) sign ⌝ }
+    ensures { λ (r : Combined). ⌜ r .coefficients ≡ addLists ℤ-ring (now (a .entry)) (scaleList ℤ-ring sign (now (b .entry))) ⌝ }
+    ensures { λ (r : Combined). ⌜ r .weight ≡ weight (r .coefficients) ⌝ }
 {
-    let mut coefficients = [0i32; PLACES];
+    let mut coefficients = [0i32; COEFFICIENTS];
     let mut weight: u64 = 0;
     let mut i = 0;
-    while i < PLACES {
+    while i < COEFFICIENTS {
         let c = a[i] + sign * b[i];
         coefficients[i] = c;
         weight += integer::absolute::magnitude(c as i64);
@@ -41,15 +39,15 @@ fn combine(a: &[i32; PLACES], b: &[i32; PLACES], sign: i32) -> Combined
 }
 
 // a + sign·b of two models.
-fn combine_models(a: Model, b: Model, sign: i32) -> Answer
+fn combine_models(a: Model, b: Model, sign: i32) -> ModelOutcome
     requires { ⌜ natAbs sign ≡ 1 ⌝ }
-    ensures { λ (r : Answer). ⌜ outcomeOf r ≡ combination sign a b ⌝ }
+    ensures { λ (r : ModelOutcome). ⌜ outcomeOf r ≡ combination sign a b ⌝ }
 {
     if !is_good(a) {
-        return Answer::refused(Verdict::BadModel);
+        return ModelOutcome::refused(Refusal::BadModel);
     }
     if !is_good(b) {
-        return Answer::refused(Verdict::BadModel);
+        return ModelOutcome::refused(Refusal::BadModel);
     }
     let sum = combine(&a.coefficients, &b.coefficients, sign);
     let coefficients = sum.coefficients;
@@ -59,17 +57,17 @@ fn combine_models(a: Model, b: Model, sign: i32) -> Answer
         a.degree
     };
     let radius = a.radius as u64 + b.radius as u64;
-    Answer::formed(degree, coefficients, sum.weight, radius)
+    ModelOutcome::formed(degree, coefficients, sum.weight, radius)
 }
 
-pub fn add(a: Model, b: Model) -> Answer
-    ensures { λ (r : Answer). ⌜ outcomeOf r ≡ addition a b ⌝ }
+pub fn add(a: Model, b: Model) -> ModelOutcome
+    ensures { λ (r : ModelOutcome). ⌜ outcomeOf r ≡ addition a b ⌝ }
 {
     combine_models(a, b, 1)
 }
 
-pub fn subtract(a: Model, b: Model) -> Answer
-    ensures { λ (r : Answer). ⌜ outcomeOf r ≡ subtraction a b ⌝ }
+pub fn subtract(a: Model, b: Model) -> ModelOutcome
+    ensures { λ (r : ModelOutcome). ⌜ outcomeOf r ≡ subtraction a b ⌝ }
 {
     combine_models(a, b, -1)
 }

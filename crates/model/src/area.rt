@@ -1,14 +1,15 @@
 // Areas of signed 32-bit numbers: a model is its degree, its coefficients and its radius, a candidate the first two.
 ghost use mathlib.Core.Path.{_≡_};
 ghost use lib.ListN.{length};
-ghost use Rattle.model.specs.Areas.{modelPlaces, candidatePlaces, unsignedOf, areaModel, areaCandidate, words, Storable};
+ghost use Rattle.model.specs.definitions.Areas.{modelSize, candidateSize, unsignedOf, areaModel};
+ghost use Rattle.model.specs.definitions.Areas.{areaCandidate, words, Storable};
+use crate::types::COEFFICIENTS;
 use crate::types::Candidate;
 use crate::types::Model;
-use crate::types::PLACES;
 
-pub const MODEL_PLACES: usize = 35;
+pub const MODEL_SIZE: usize = 35;
 
-pub const CANDIDATE_PLACES: usize = 34;
+pub const CANDIDATE_SIZE: usize = 34;
 
 // 2^32
 const WORD: u64 = 4294967296;
@@ -38,11 +39,11 @@ fn copy(from: &[i32], to: &mut [i32])
 
 // The candidate whose 34 numbers these are.
 pub fn read_candidate(area: &[i32]) -> Candidate
-    requires { ⌜ length (now area) ≡ candidatePlaces ⌝ }
+    requires { ⌜ length (now area) ≡ candidateSize ⌝ }
     ensures { λ (r : Candidate). ⌜ r ≡ areaCandidate (now (area .entry)) ⌝ }
 {
-    let mut coefficients = [0i32; PLACES];
-    copy(&area[1..CANDIDATE_PLACES], &mut coefficients);
+    let mut coefficients = [0i32; COEFFICIENTS];
+    copy(&area[1..CANDIDATE_SIZE], &mut coefficients);
     Candidate {
         degree: unsigned(area[0]),
         coefficients,
@@ -51,22 +52,22 @@ pub fn read_candidate(area: &[i32]) -> Candidate
 
 // The model whose 35 numbers these are.
 pub fn read(area: &[i32]) -> Model
-    requires { ⌜ length (now area) ≡ modelPlaces ⌝ }
+    requires { ⌜ length (now area) ≡ modelSize ⌝ }
     ensures { λ (r : Model). ⌜ r ≡ areaModel (now (area .entry)) ⌝ }
 {
-    let candidate = read_candidate(&area[..CANDIDATE_PLACES]);
+    let candidate = read_candidate(&area[..CANDIDATE_SIZE]);
     let coefficients = candidate.coefficients;
-    let radius = unsigned(area[CANDIDATE_PLACES]);
+    let radius = unsigned(area[CANDIDATE_SIZE]);
     Model::new(candidate.degree, coefficients, radius)
 }
 
 // The 35 numbers of a model.
 pub fn write(area: &mut [i32], m: Model)
-    requires { ⌜ (length (now area) ≡ modelPlaces) × Storable m ⌝ }
+    requires { ⌜ (length (now area) ≡ modelSize) × Storable m ⌝ }
     ensures { λ _. ⌜ now (area .exit) ≡ words m ⌝ }
 {
     let coefficients = m.coefficients;
-    copy(&coefficients, &mut area[1..CANDIDATE_PLACES]);
+    copy(&coefficients, &mut area[1..CANDIDATE_SIZE]);
     area[0] = m.degree as i32;
-    area[CANDIDATE_PLACES] = m.radius as i32;
+    area[CANDIDATE_SIZE] = m.radius as i32;
 }

@@ -1,15 +1,14 @@
 // Evaluate at p/S: a pass over the coefficients forms V and W, from which the bounds are taken.
 ghost use mathlib.Core.Path.{_≡_};
-ghost use Prim.Native.Nat.{suc, _≤_};
-ghost use lib.IntN.{natAbs};
-ghost use lib.ListN.{length, take};
-ghost use Rattle.chebyshev.specs.Coefficients.{weight};
-ghost use Rattle.model.specs.Models.{scale, places, maxDegree, maxWeight};
-ghost use Rattle.model.specs.Evaluation.{pointSum, pointError, enclosureOf, evaluation};
+ghost use Prim.Native.Nat.{suc};
+ghost use lib.ListN.{take};
+ghost use Rattle.model.specs.definitions.InnerContracts.{Evaluable};
+ghost use Rattle.model.specs.definitions.Evaluation.{pointSum, pointError, boundsOf, evaluation};
 use crate::measure::is_good;
-use crate::types::Bounds;
+use crate::types::BoundsOutcome;
+use crate::types::COEFFICIENTS;
 use crate::types::Model;
-use crate::types::PLACES;
+use crate::types::Refusal;
 use crate::types::Verdict;
 
 // 2^30, the scale of t_k: t_0 = 2^30 and t_1 = 2^10·p.
@@ -26,9 +25,8 @@ struct PointSums {
 }
 
 // One pass over the coefficients up to the degree, with t_k and t_(k+1) at hand.
-fn point_sums(degree: u32, coefficients: &[i32; PLACES], p: i64) -> PointSums
-    requires { ⌜ (length (now coefficients) ≡ places) × (degree ≤ maxDegree) ⌝ }
-    requires { ⌜ (weight (now coefficients) ≤ maxWeight) × (natAbs p ≤ scale) ⌝ }
+fn point_sums(degree: u32, coefficients: &[i32; COEFFICIENTS], p: i64) -> PointSums
+    requires { ⌜ Evaluable degree (now coefficients) p ⌝ }
     ensures { λ (r : PointSums). ⌜ r .value ≡ pointSum p 0 (take (suc degree) (now (coefficients .entry))) ⌝ }
     ensures { λ (r : PointSums). ⌜ r .error ≡ pointError 0 (take (suc degree) (now (coefficients .entry))) ⌝ }
 {
@@ -50,8 +48,8 @@ fn point_sums(degree: u32, coefficients: &[i32; PLACES], p: i64) -> PointSums
     PointSums { value, error }
 }
 
-pub fn evaluate(a: Model, p: i32) -> Bounds
-    ensures { λ (r : Bounds). ⌜ enclosureOf r ≡ evaluation a p ⌝ }
+pub fn evaluate(a: Model, p: i32) -> BoundsOutcome
+    ensures { λ (r : BoundsOutcome). ⌜ boundsOf r ≡ evaluation a p ⌝ }
 {
     if is_good(a) {
         let point = p as i64;
@@ -62,21 +60,21 @@ pub fn evaluate(a: Model, p: i32) -> Bounds
             let radius = a.radius as i64;
             let low = integer::rounding::floor(value - error, SUM_SCALE) - radius;
             let high = integer::rounding::up(value + error, SUM_SCALE) + radius;
-            Bounds {
+            BoundsOutcome {
                 verdict: Verdict::Accepted,
                 low,
                 high,
             }
         } else {
-            Bounds {
-                verdict: Verdict::PointOutside,
+            BoundsOutcome {
+                verdict: Verdict::Refused(Refusal::PointOutside),
                 low: 0,
                 high: 0,
             }
         }
     } else {
-        Bounds {
-            verdict: Verdict::BadModel,
+        BoundsOutcome {
+            verdict: Verdict::Refused(Refusal::BadModel),
             low: 0,
             high: 0,
         }

@@ -1,31 +1,31 @@
 // Integrate from -1: the coefficients are formed from the highest down, so that c_0 = c_1 - (c_2 - (c_3 - ..)) needs no
 // signs.
 ghost use mathlib.Core.Path.{_≡_};
-ghost use Prim.Native.Nat.{suc, _*_, _≤_, _<_};
-ghost use lib.ListN.{length, take};
-ghost use Rattle.chebyshev.specs.Coefficients.{weight};
-ghost use Rattle.model.specs.Models.{places, maxDegree, maxWeight, outcomeOf};
-ghost use Rattle.model.specs.Integral.{integration};
-ghost use Rattle.model.specs.IntegralLaws.{roundedIntegral};
+ghost use Prim.Native.Nat.{suc};
+ghost use lib.ListN.{take};
+ghost use Rattle.chebyshev.specs.definitions.Coefficients.{weight};
+ghost use Rattle.model.specs.definitions.InnerContracts.{Integrable, roundedIntegral};
+ghost use Rattle.model.specs.definitions.Outcomes.{outcomeOf};
+ghost use Rattle.model.specs.definitions.Integral.{integration};
 use crate::measure::is_good;
-use crate::types::Answer;
+use crate::types::COEFFICIENTS;
 use crate::types::Model;
-use crate::types::PLACES;
-use crate::types::Verdict;
+use crate::types::ModelOutcome;
+use crate::types::Refusal;
 
 struct Integral {
-    coefficients: [i32; PLACES],
+    coefficients: [i32; COEFFICIENTS],
     weight: u64,
 }
 
 // The integral of 2·a_0, a_1, .., a_n, 0, .. and its weight. On the way `above`, `here` and `below` are the numbers of
 // that list at places k + 1, k and k - 1.
-fn rounded_integral(degree: u32, doubled: &[i32; PLACES]) -> Integral
-    requires { ⌜ (length (now doubled) ≡ places) × (degree < maxDegree) × (weight (now doubled) ≤ 2 * maxWeight) ⌝ }
+fn rounded_integral(degree: u32, doubled: &[i32; COEFFICIENTS]) -> Integral
+    requires { ⌜ Integrable degree (now doubled) ⌝ }
     ensures { λ (r : Integral). ⌜ r .coefficients ≡ roundedIntegral (take (suc degree) (now (doubled .entry))) ⌝ }
     ensures { λ (r : Integral). ⌜ r .weight ≡ weight (roundedIntegral (take (suc degree) (now (doubled .entry)))) ⌝ }
 {
-    let mut coefficients = [0i32; PLACES];
+    let mut coefficients = [0i32; COEFFICIENTS];
     let mut weight: u64 = 0;
     let mut first: i64 = 0;
     let mut above: i64 = 0;
@@ -49,8 +49,8 @@ fn rounded_integral(degree: u32, doubled: &[i32; PLACES]) -> Integral
     }
 }
 
-pub fn integrate(a: Model) -> Answer
-    ensures { λ (r : Answer). ⌜ outcomeOf r ≡ integration a ⌝ }
+pub fn integrate(a: Model) -> ModelOutcome
+    ensures { λ (r : ModelOutcome). ⌜ outcomeOf r ≡ integration a ⌝ }
 {
     if is_good(a) {
         if a.degree < Model::MAX_DEGREE {
@@ -59,11 +59,11 @@ pub fn integrate(a: Model) -> Answer
             let result = rounded_integral(a.degree, &doubled);
             let radius = 2 * (a.radius as u64) + (a.degree as u64) + 1;
             let coefficients = result.coefficients;
-            Answer::formed(a.degree + 1, coefficients, result.weight, radius)
+            ModelOutcome::formed(a.degree + 1, coefficients, result.weight, radius)
         } else {
-            Answer::refused(Verdict::LargeResult)
+            ModelOutcome::refused(Refusal::LargeResult)
         }
     } else {
-        Answer::refused(Verdict::BadModel)
+        ModelOutcome::refused(Refusal::BadModel)
     }
 }

@@ -3,6 +3,7 @@ pub mod add;
 pub mod area;
 pub mod evaluate;
 pub mod integrate;
+pub mod load;
 pub mod measure;
 pub mod multiply;
 pub mod products;

@@ -2,11 +2,11 @@
 ghost use mathlib.Core.Path.{_≡_};
 ghost use Prim.Native.Nat.{_<_, _^_};
 ghost use lib.ListN.{length};
-ghost use Rattle.chebyshev.specs.Coefficients.{weight};
-ghost use Rattle.model.specs.Models.{places, modelOf, candidateModel, good};
+ghost use Rattle.chebyshev.specs.definitions.Coefficients.{weight};
+ghost use Rattle.model.specs.definitions.Models.{coefficientCount, makeModel, candidateModel, good};
+use crate::types::COEFFICIENTS;
 use crate::types::Candidate;
 use crate::types::Model;
-use crate::types::PLACES;
 
 pub struct Measured {
     pub good: bool,
@@ -14,15 +14,16 @@ pub struct Measured {
 }
 
 // A model with radius 0, given by its parts.
-fn measure_parts(degree: u32, coefficients: &[i32; PLACES]) -> Measured
-    requires { ⌜ length (now coefficients) ≡ places ⌝ }
-    ensures { λ (r : Measured). ⌜ (r .good ≡ good (modelOf degree (now (coefficients .entry)) 0)) × (r .weight ≡ weight (now (coefficients .entry))) ⌝ }
+fn measure_parts(degree: u32, coefficients: &[i32; COEFFICIENTS]) -> Measured
+    requires { ⌜ length (now coefficients) ≡ coefficientCount ⌝ }
+    ensures { λ (r : Measured). ⌜ r .good ≡ good (makeModel degree (now (coefficients .entry)) 0) ⌝ }
+    ensures { λ (r : Measured). ⌜ r .weight ≡ weight (now (coefficients .entry)) ⌝ }
 {
     let n = degree as usize;
     let mut total: u64 = 0;
     let mut beyond: u64 = 0;
     let mut i = 0;
-    while i < PLACES {
+    while i < COEFFICIENTS {
         let size = integer::absolute::magnitude(coefficients[i] as i64);
         total += size;
         if n < i {

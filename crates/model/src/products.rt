@@ -3,9 +3,9 @@ ghost use mathlib.Core.Path.{_≡_};
 ghost use Prim.Native.Nat.{suc, _+_, _*_, _^_, _<_, _≤_};
 ghost use lib.IntN.{natAbs};
 ghost use lib.ListN.{length};
-ghost use Rattle.integer.specs.Integer.{ℤ-ring};
-ghost use Rattle.chebyshev.specs.Coefficients.{weight};
-ghost use Rattle.chebyshev.specs.Product.{distance as distanceOf, addAt, addPair, addRow, addRows};
+ghost use Rattle.integer.specs.definitions.Integer.{ℤ-ring};
+ghost use Rattle.chebyshev.specs.definitions.Coefficients.{weight};
+ghost use Rattle.chebyshev.specs.definitions.Product.{distance as distanceOf, addAt, addPair, addRow, addRows};
 
 // |i - j|
 fn distance(i: usize, j: usize) -> usize
@@ -58,7 +58,8 @@ fn add_row(c: &mut [i64], x: i64, i: usize, b: &[i32])
 
 // C(a, b), which c has room for.
 pub fn add_products(c: &mut [i64], a: &[i32], b: &[i32])
-    requires { ⌜ (length (now a) + length (now b) ≤ suc (length (now c))) × (weight (now c) + 2 * weight (now a) * weight (now b) < 2 ^ 63) ⌝ }
+    requires { ⌜ length (now a) + length (now b) ≤ suc (length (now c)) ⌝ }
+    requires { ⌜ weight (now c) + 2 * weight (now a) * weight (now b) < 2 ^ 63 ⌝ }
     ensures { λ _. ⌜ now (c .exit) ≡ addRows ℤ-ring (now (c .entry)) 0 (now (a .entry)) (now (b .entry)) ⌝ }
 {
     let mut i = 0;

@@ -1,28 +1,28 @@
 // A model: degree, coefficients of T_0 .. T_32 in units of 1/SCALE, radius in units.
 ghost use mathlib.Core.Path.{_≡_};
-ghost use Rattle.model.specs.Models.{modelOf, zeroModel, constantModel, numberOf, answerOf, outcomeOf};
-ghost use Rattle.model.specs.Formed.{formedOutcome};
+ghost use Rattle.model.specs.definitions.InnerContracts.{formedOutcome};
+ghost use Rattle.model.specs.definitions.Models.{makeModel, zeroModel, constantModel};
+ghost use Rattle.model.specs.definitions.Outcomes.{refused, numberOf, verdictNumber, outcomeOf};
 
-pub const PLACES: usize = 33;
+pub const COEFFICIENTS: usize = 33;
 
 // How many numbers the list C of two models has.
-pub const PRODUCT_PLACES: usize = 65;
+pub const PRODUCT_SIZE: usize = 65;
 
 pub struct Model {
     pub degree: u32,
-    pub coefficients: [i32; PLACES],
+    pub coefficients: [i32; COEFFICIENTS],
     pub radius: u32,
 }
 
 // A proposed quotient, root or helper: a model without a radius.
 pub struct Candidate {
     pub degree: u32,
-    pub coefficients: [i32; PLACES],
+    pub coefficients: [i32; COEFFICIENTS],
 }
 
-// How an operation ends; `number_of` gives document 01's number of each.
-pub enum Verdict {
-    Accepted,
+// Document 01's numbered refusals; `number_of` gives the number of each.
+pub enum Refusal {
     ShortArea,
     BadModel,
     LargeResult,
@@ -38,37 +38,52 @@ pub enum Verdict {
     TooManyResults,
 }
 
-// A refused operation answers its verdict beside the zero model.
-pub struct Answer {
+// How an operation ends.
+pub enum Verdict {
+    Accepted,
+    Refused(Refusal),
+}
+
+// A refused operation answers its refusal beside the zero model.
+pub struct ModelOutcome {
     pub verdict: Verdict,
     pub model: Model,
 }
 
 // A refused evaluation answers 0 and 0.
-pub struct Bounds {
+pub struct BoundsOutcome {
     pub verdict: Verdict,
     pub low: i64,
     pub high: i64,
 }
 
-pub fn number_of(verdict: Verdict) -> u32
-    ensures { λ r. ⌜ r ≡ numberOf verdict ⌝ }
+pub fn number_of(refusal: Refusal) -> u32
+    ensures { λ r. ⌜ r ≡ numberOf refusal ⌝ }
+{
+    match refusal {
+        Refusal::ShortArea => 1,
+        Refusal::BadModel => 2,
+        Refusal::LargeResult => 3,
+        Refusal::PointOutside => 4,
+        Refusal::NotContracting => 5,
+        Refusal::LargeResidual => 6,
+        Refusal::HelperNotPositive => 7,
+        Refusal::NegativeDiscriminant => 8,
+        Refusal::BadValue => 9,
+        Refusal::JobEnds => 10,
+        Refusal::BytesAfterEnd => 11,
+        Refusal::NotAResult => 12,
+        Refusal::TooManyResults => 13,
+    }
+}
+
+// The number of a refusal, 0 where nothing is refused.
+pub fn verdict_number(verdict: Verdict) -> u32
+    ensures { λ r. ⌜ r ≡ verdictNumber verdict ⌝ }
 {
     match verdict {
         Verdict::Accepted => 0,
-        Verdict::ShortArea => 1,
-        Verdict::BadModel => 2,
-        Verdict::LargeResult => 3,
-        Verdict::PointOutside => 4,
-        Verdict::NotContracting => 5,
-        Verdict::LargeResidual => 6,
-        Verdict::HelperNotPositive => 7,
-        Verdict::NegativeDiscriminant => 8,
-        Verdict::BadValue => 9,
-        Verdict::JobEnds => 10,
-        Verdict::BytesAfterEnd => 11,
-        Verdict::NotAResult => 12,
-        Verdict::TooManyResults => 13,
+        Verdict::Refused(refusal) => number_of(refusal),
     }
 }
 
@@ -82,8 +97,8 @@ impl Model {
     pub const MAX_RADIUS: u64 = 268435456;
 
     // The one place where a model is made.
-    pub fn new(degree: u32, coefficients: [i32; PLACES], radius: u32) -> Model
-        ensures { λ (r : Model). ⌜ r ≡ modelOf degree coefficients radius ⌝ }
+    pub fn new(degree: u32, coefficients: [i32; COEFFICIENTS], radius: u32) -> Model
+        ensures { λ (r : Model). ⌜ r ≡ makeModel degree coefficients radius ⌝ }
     {
         Model {
             degree,
@@ -95,45 +110,50 @@ impl Model {
     pub fn zero() -> Model
         ensures { λ (r : Model). ⌜ r ≡ zeroModel ⌝ }
     {
-        Model::new(0, [0i32; PLACES], 0)
+        Model::new(0, [0i32; COEFFICIENTS], 0)
     }
 
     // The constant c, in units, with radius 0.
     pub fn constant(c: i32) -> Model
         ensures { λ (r : Model). ⌜ r ≡ constantModel c ⌝ }
     {
-        let mut coefficients = [0i32; PLACES];
+        let mut coefficients = [0i32; COEFFICIENTS];
         coefficients[0] = c;
         Model::new(0, coefficients, 0)
     }
 }
 
-impl Answer {
-    // A refused operation: its verdict beside the zero model.
-    pub fn refused(verdict: Verdict) -> Answer
-        ensures { λ (r : Answer). ⌜ r ≡ answerOf verdict zeroModel ⌝ }
+impl ModelOutcome {
+    // A refused operation: its refusal beside the zero model.
+    pub(crate) fn refused(refusal: Refusal) -> ModelOutcome
+        ensures { λ (r : ModelOutcome). ⌜ outcomeOf r ≡ refused (numberOf refusal) zeroModel ⌝ }
     {
-        Answer {
-            verdict,
+        ModelOutcome {
+            verdict: Verdict::Refused(refusal),
             model: Model::zero(),
         }
     }
 
     // An operation that has formed its result: that result, unless it is too large.
-    pub fn formed(degree: u32, coefficients: [i32; PLACES], weight: u64, radius: u64) -> Answer
-        ensures { λ (r : Answer). ⌜ outcomeOf r ≡ formedOutcome degree coefficients weight radius ⌝ }
+    pub(crate) fn formed(
+        degree: u32,
+        coefficients: [i32; COEFFICIENTS],
+        weight: u64,
+        radius: u64,
+    ) -> ModelOutcome
+        ensures { λ (r : ModelOutcome). ⌜ outcomeOf r ≡ formedOutcome degree coefficients weight radius ⌝ }
     {
         if weight <= Model::MAX_WEIGHT {
             if radius <= Model::MAX_RADIUS {
                 if degree <= Model::MAX_DEGREE {
                     let model = Model::new(degree, coefficients, radius as u32);
-                    return Answer {
+                    return ModelOutcome {
                         verdict: Verdict::Accepted,
                         model,
                     };
                 }
             }
         }
-        Answer::refused(Verdict::LargeResult)
+        ModelOutcome::refused(Refusal::LargeResult)
     }
 }

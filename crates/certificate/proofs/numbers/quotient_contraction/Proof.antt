@@ -1,90 +1,55 @@
 -- `numbers::quotient_contraction` meets its contract.
 use borrow.Author.Needs.{needs}
-use mathlib.Core.Path.{_≡_, _∙_, ap}
+use mathlib.Core.Path.{_≡_, _∙_, ap₂}
 use Prim.Native.Nat.{ℕ, _+_, _*_, _^_, _≤_}
 use native.Mathlib.Omega.{arith}
 use lib.IntN.{pos}
-use Rattle.integer.specs.Rounding.{upℕ}
-use Rattle.chebyshev.specs.Coefficients.{weight}
-use Rattle.model.specs.Models.{candidateModel}
-use Rattle.model.specs.ModelLaws.{good-is}
-use Rattle.model.specs.Operations.{productList}
+use Rattle.integer.specs.definitions.Rounding.{upℕ}
+use Rattle.chebyshev.specs.definitions.Coefficients.{weight}
+use Rattle.model.specs.definitions.Models.{candidateModel}
+use Rattle.model.specs.definitions.Operations.{productList}
 use Rattle.model.specs.declared.types.Model.{Model}
-use Rattle.certificate.specs.Tests.{quotientContraction}
-use Rattle.certificate.specs.Residuals.{constantResidual}
-use Rattle.certificate.proofs.Ranges.{weights-range, constant-range, ErrorTerm, error-term}
+use Rattle.certificate.specs.definitions.Tests.{quotientContraction}
+use Rattle.certificate.specs.definitions.InnerContracts.{constantResidual}
+use Rattle.certificate.proofs.Ranges.{factors, constant-range, error-range}
 use Rattle.certificate.proofs.numbers.quotient_contraction.Statement.{statement}
 use Rattle.certificate.proofs.numbers.quotient_contraction.Tie as tie
 
-module _ (s : tie.Start) where
+constant-residual-requires : tie.Need-constant-residual-requires
+constant-residual-requires c κs =
+    let r = c .before .before .before .before .before .pre .0 in
+    ((r .lent, factors r (search needs) (search needs)), omega arith)
+
+module _ (c : tie.After-part) where
+  abbrev s : tie.Start
+  s = c .before .before .before .before .before .before .before
+
   abbrev g : Model
   g = s .args .t2
 
   abbrev w : Model
   w = candidateModel (s .args .t3)
 
-  error : ErrorTerm (s .args .weight) w g
-  error = error-term (s .args .weight) w g (s .pre .2) (s .pre .1) (s .pre .3)
+  error : (s .args .weight ≤ 2 ^ 28) × (s .args .weight * g .radius ≤ 2 ^ 56)
+  error = let r = s .pre .0 in error-range (s .args .weight) w g (r .first-good) (r .second-good) (s .pre .1)
 
-mul-constant-residual : tie.Need-mul-constant-residual
-mul-constant-residual c = search needs
-
-constant-residual-requires : tie.Need-constant-residual-requires
-constant-residual-requires c κs =
-    let s = c .before .before .before .before .before in
-    let p = s .pre in (
-      (p .0, omega (arith, weights-range (w s) (g s) (p .2) (p .1))),
-      (search needs, search needs, good-is (w s) (p .2) .degree-fits, good-is (g s) (p .1) .degree-fits),
-    )
-
-module _ (c : tie.After-part) where
-  abbrev s : tie.Start
-  s = c .before .before .before .before .before .before .before
-
-  distance-is : c .before .constant-residual .result ≡ weight (constantResidual 0 (pos (2 ^ 41)) (productList (w s) (g s)))
+  distance-is : c .before .constant-residual .result ≡ weight (constantResidual 0 (pos (2 ^ 41)) (productList w g))
   unfolding productList
   distance-is = c .before .constant-residual .ensures .0
 
   distance-range : c .before .constant-residual .result ≤ 2 ^ 58
-  distance-range = omega (arith, distance-is, constant-range (w s) (g s) (s .pre .2) (s .pre .1) (pos (2 ^ 41)))
-
-mul-up-unsigned : tie.Need-mul-up-unsigned
-mul-up-unsigned c = omega (arith, error (s c))
-
-cast-up-unsigned : tie.Need-cast-up-unsigned
-cast-up-unsigned c = search needs
-
-mul-up-unsigned-2 : tie.Need-mul-up-unsigned-2
-mul-up-unsigned-2 c = omega (arith, error (s c))
-
-add-up-unsigned : tie.Need-add-up-unsigned
-add-up-unsigned c = omega (arith, distance-range c, error (s c))
-
-up-unsigned-requires : tie.Need-up-unsigned-requires
-up-unsigned-requires c κs = search needs
-
-same-length : tie.Need-same-length
-same-length c = search needs
+  distance-range = omega (arith, distance-is, constant-range (s .pre .0) (pos (2 ^ 41)))
 
 returns : tie.Need-returns
 unfolding quotientContraction
 returns c =
-    let d = c .before in
-    let p = s d in
-    let numerator : d .before .constant-residual .result + 2 * p .args .weight * g p .radius
-    ≡ weight (constantResidual 0 (pos (2 ^ 41)) (productList (w p) (g p))) + 2 * weight (w p .coefficients) * g p .radius = omega (arith, distance-is d, error p) in
-    (c .up-unsigned .ensures ∙ ap (λ (n : ℕ). upℕ n (2 ^ 21)) numerator, d .before .constant-residual .ensures .1)
+    let d = c .before in (
+      c .up-unsigned .ensures ∙ ap₂ (λ (n k : ℕ). upℕ (n + 2 * k * g d .radius) (2 ^ 21)) (distance-is d) (s d .pre .1),
+      d .before .constant-residual .ensures .1,
+    )
 
 pub quotient-contraction-spec : {M : Type 1} → statement M
 quotient-contraction-spec =
-    tie.close
-    (tie.spec
-    mul-constant-residual
-    constant-residual-requires
-    mul-up-unsigned
-    cast-up-unsigned
-    mul-up-unsigned-2
-    add-up-unsigned
-    up-unsigned-requires
-    same-length
-    returns)
+    tie.close (tie.spec
+    (λ c. search needs) constant-residual-requires (λ c. omega (arith, error c)) (λ c. search needs) (λ c. omega (arith, error c))
+    (λ c. omega (arith, distance-range c, error c)) (λ c κs. search needs) (λ c. search needs) returns)

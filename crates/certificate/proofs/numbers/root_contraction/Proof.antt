@@ -3,36 +3,17 @@ use borrow.Author.Needs.{needs}
 use mathlib.Core.Path.{_∙_, ap}
 use Prim.Native.Nat.{ℕ, _^_}
 use native.Mathlib.Omega.{arith}
-use Rattle.integer.specs.Rounding.{upℕ}
-use Rattle.model.specs.Models.{candidateModel}
-use Rattle.model.specs.ModelLaws.{good-is}
-use Rattle.model.specs.Operations.{productList}
-use Rattle.model.specs.declared.types.Model.{Model}
-use Rattle.certificate.specs.Tests.{rootContraction}
-use Rattle.certificate.proofs.Ranges.{weights-range}
+use Rattle.integer.specs.definitions.Rounding.{upℕ}
+use Rattle.model.specs.definitions.Operations.{productList}
+use Rattle.certificate.specs.definitions.Tests.{rootContraction}
+use Rattle.certificate.proofs.Ranges.{factors}
 use Rattle.certificate.proofs.numbers.root_contraction.Statement.{statement}
 use Rattle.certificate.proofs.numbers.root_contraction.Tie as tie
 
-module _ (s : tie.Start) where
-  abbrev h : Model
-  h = candidateModel (s .args .t2)
-
-  abbrev w : Model
-  w = candidateModel (s .args .t3)
-
 constant-residual-requires : tie.Need-constant-residual-requires
 constant-residual-requires c κs =
-    let s = c .before .before .before .before .before in
-    let p = s .pre in (
-      (p .0, omega (arith, weights-range (w s) (h s) (p .2) (p .1))),
-      (search needs, search needs, good-is (w s) (p .2) .degree-fits, good-is (h s) (p .1) .degree-fits),
-    )
-
-up-unsigned-requires : tie.Need-up-unsigned-requires
-up-unsigned-requires c κs = search needs
-
-same-length : tie.Need-same-length
-same-length c = search needs
+    let r = c .before .before .before .before .before .pre in
+    ((r .lent, factors r (search needs) (search needs)), omega arith)
 
 returns : tie.Need-returns
 unfolding rootContraction productList
@@ -42,4 +23,4 @@ returns c =
 
 pub root-contraction-spec : {M : Type 1} → statement M
 root-contraction-spec =
-    tie.close (tie.spec constant-residual-requires up-unsigned-requires same-length returns)
+    tie.close (tie.spec constant-residual-requires (λ c κs. search needs) (λ c. search needs) returns)

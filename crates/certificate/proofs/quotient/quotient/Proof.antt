@@ -1,56 +1,36 @@
 -- `quotient::quotient` meets its contract.
 use borrow.Author.Needs.{needs}
-use mathlib.Core.Path.{_≡_, sym, _∙_, ap}
-use mathlib.Core.List.{_++_}
+use mathlib.Core.Path.{_≡_, sym, _∙_}
 use native.Mathlib.Omega.{arith}
-use lib.ListN.{length, take, drop}
+use lib.ListN.{length, take}
 use lib.Seq.{length-take-le}
-use Rattle.model.specs.Models.{candidateModel}
-use Rattle.certificate.specs.Tests.{scratchPlaces, testOf}
-use Rattle.certificate.specs.Stages.{quotient-short, quotient-room, scratch-short, scratch-cleared}
+use Rattle.model.specs.definitions.Models.{candidateModel}
+use Rattle.certificate.specs.definitions.Tests.{scratchSize}
+use Rattle.certificate.specs.laws.Stages.{quotient-room, scratch-short}
+use Rattle.certificate.specs.laws.QuotientStages.{quotient-short}
+use Rattle.certificate.proofs.Formed.{scratch-after}
 use Rattle.certificate.proofs.quotient.quotient.Statement.{statement}
 use Rattle.certificate.proofs.quotient.quotient.Tie as tie
-
-refused-requires : tie.Need-refused-requires
-refused-requires c κs = search needs
 
 returns : tie.Need-returns
 returns c =
     let a = c .before .before .args in (
-      ap testOf (c .refused .ensures) ∙ sym (quotient-short (length (a .scratch .now)) (a .f) (a .g) (candidateModel (a .h)) (candidateModel (a .w)) (omega arith)),
+      c .refused .ensures ∙ sym (quotient-short (length (a .scratch .now)) (a .f) (a .g) (candidateModel (a .h)) (candidateModel (a .w)) (omega arith)),
       sym (scratch-short (a .scratch .now) (omega arith)),
     )
 
-first-part : (c : tie.Else1) → length (take scratchPlaces (c .before .args .scratch .now)) ≡ scratchPlaces
-first-part c = length-take-le scratchPlaces (c .before .args .scratch .now) (omega arith)
-
-slice-relend-prefix-test-in : tie.Need-slice-relend-prefix-test-in
-slice-relend-prefix-test-in c = search needs
-
-slice-aggregate-test-in : tie.Need-slice-aggregate-test-in
-slice-aggregate-test-in c = sym (first-part (c .before))
-
-test-in-requires : tie.Need-test-in-requires
-test-in-requires c κs = first-part (c .before)
-
-same-length : tie.Need-same-length
-same-length c = search needs
+first-part : (c : tie.Else1) → length (take scratchSize (c .before .args .scratch .now)) ≡ scratchSize
+first-part c = length-take-le scratchSize (c .before .args .scratch .now) (omega arith)
 
 returns-2 : tie.Need-returns-2
 returns-2 c =
     let a = c .before .before .before .before .args in (
       c .before .test-in .ensures .0 ∙ sym (quotient-room (length (a .scratch .now)) (a .f) (a .g) (candidateModel (a .h)) (candidateModel (a .w)) (omega arith)),
-      ap (λ l. l ++ drop scratchPlaces (a .scratch .now)) (c .before .test-in .ensures .1) ∙ sym (scratch-cleared (a .scratch .now) (omega arith)),
+      scratch-after (a .scratch .now) (omega arith) (c .before .test-in .ensures .1) (c .before .test-in .kept .0),
     )
 
 pub quotient-spec : {M : Type 1} → statement M
 quotient-spec =
-    tie.close
-    (tie.spec
-    refused-requires
-    returns
-    slice-relend-prefix-test-in
-    slice-aggregate-test-in
-    test-in-requires
-    same-length
-    returns-2)
+    tie.close (tie.spec
+    (λ c κs. search needs) returns (λ c. search needs) (λ c. sym (first-part (c .before))) (λ c κs. first-part (c .before))
+    (λ c. search needs) returns-2)

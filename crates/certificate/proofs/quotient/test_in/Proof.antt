@@ -1,33 +1,17 @@
 -- `quotient::test_in` meets its contract: models and candidates are measured in operand order.
 use borrow.Author.Needs.{needs}
-use mathlib.Core.Path.{_≡_, sym, _∙_, ap}
+use mathlib.Core.Path.{_≡_, sym, _∙_}
 use mathlib.Core.Logic.{⊎-elim}
 use mathlib.Core.Bool.{false, _&&_}
-use native.Mathlib.Omega.{arith}
-use Rattle.integer.specs.Clearing.{zeros}
-use Rattle.model.specs.Models.{good, candidateModel}
-use Rattle.certificate.specs.Tests.{scratchPlaces, testOf}
-use Rattle.certificate.specs.Stages.{quotient-bad}
+use Rattle.model.specs.definitions.Models.{good, candidateModel}
+use Rattle.certificate.specs.definitions.InnerContracts.{Lent}
+use Rattle.certificate.specs.laws.QuotientStages.{quotient-bad}
+use Rattle.certificate.proofs.Formed.{lent-scratch}
 use Rattle.certificate.proofs.quotient.test_in.Statement.{statement}
 use Rattle.certificate.proofs.quotient.test_in.Tie as tie
 
-clear-requires : tie.Need-clear-requires
-clear-requires c κs = search needs
-
-cleared : (c : tie.After-clear) → c .clear .last .0 ≡ zeros scratchPlaces
-cleared c = c .clear .ensures ∙ ap zeros (c .before .before .pre)
-
-measure-requires : tie.Need-measure-requires
-measure-requires c κs = search needs
-
-measure-requires-2 : tie.Need-measure-requires-2
-measure-requires-2 c κs = search needs
-
-measure-candidate-requires : tie.Need-measure-candidate-requires
-measure-candidate-requires c κs = search needs
-
-measure-candidate-requires-2 : tie.Need-measure-candidate-requires-2
-measure-candidate-requires-2 c κs = search needs
+is-lent : (c : tie.After-clear) → Lent (c .clear .last .0)
+is-lent c = lent-scratch (c .before .before .args .part .now) (c .before .before .pre) (c .clear .ensures)
 
 test-good-requires : tie.Need-test-good-requires
 test-good-requires c κs =
@@ -35,21 +19,15 @@ test-good-requires c κs =
     let of-h = of-w .before .before in
     let of-g = of-h .before .before in
     let of-f = of-g .before .before in (
-      (
-        cleared (of-f .before .before),
-        sym (of-f .measure .ensures .0) ∙ of-g .before .if1 .taken,
-        sym (of-g .measure2 .ensures .0) ∙ of-h .before .if2 .taken,
-        sym (of-h .measure-candidate .ensures .0) ∙ of-w .before .if3 .taken,
-        sym (of-w .measure-candidate2 .ensures .0) ∙ c .before .if4 .taken,
-      ),
+      record {
+        lent = is-lent (of-f .before .before);
+        good-f = sym (of-f .measure .ensures .0) ∙ of-g .before .if1 .taken;
+        good-g = sym (of-g .measure2 .ensures .0) ∙ of-h .before .if2 .taken;
+        good-h = sym (of-h .measure-candidate .ensures .0) ∙ of-w .before .if3 .taken;
+        good-w = sym (of-w .measure-candidate2 .ensures .0) ∙ c .before .if4 .taken;
+      },
       (of-h .measure-candidate .ensures .1, of-w .measure-candidate2 .ensures .1),
     )
-
-same-length : tie.Need-same-length
-same-length c = search needs
-
-returns : tie.Need-returns
-returns c = search needs
 
 -- one of the four is bad
 bad : (c : tie.Joined1) → let a = c .before .before .before .before .before .args in
@@ -66,31 +44,15 @@ bad c =
     (λ w. rw (of-f ∙ w .left))))
     (c .if1 .came)
 
-refused-requires : tie.Need-refused-requires
-refused-requires c κs = search needs
-
-same-length-2 : tie.Need-same-length-2
-same-length-2 c = search needs
-
 returns-2 : tie.Need-returns-2
 returns-2 c =
     let s = c .before .before .before .before .before .before in (
-      ap testOf (c .refused .ensures) ∙ sym (quotient-bad scratchPlaces (s .args .f) (s .args .g) (candidateModel (s .args .h)) (candidateModel (s .args .w)) (omega arith) (bad (c .before))),
-      cleared (c .before .before .before .before),
+      c .refused .ensures ∙ sym (quotient-bad (s .args .f) (s .args .g) (candidateModel (s .args .h)) (candidateModel (s .args .w)) (bad (c .before))),
+      is-lent (c .before .before .before .before),
     )
 
 pub test-in-spec : {M : Type 1} → statement M
 test-in-spec =
-    tie.close
-    (tie.spec
-    clear-requires
-    measure-requires
-    measure-requires-2
-    measure-candidate-requires
-    measure-candidate-requires-2
-    test-good-requires
-    same-length
-    returns
-    refused-requires
-    same-length-2
-    returns-2)
+    tie.close (tie.spec
+    (λ c κs. search needs) (λ c κs. search needs) (λ c κs. search needs) (λ c κs. search needs) (λ c κs. search needs)
+    test-good-requires (λ c. search needs) (λ c. search needs) (λ c κs. search needs) (λ c. search needs) returns-2)

@@ -8,7 +8,7 @@ use lib.ListN.{length, getD}
 use mir.Syntax.{w64}
 use mir.Val.{SFits}
 use mir.Facts.{toZ-ofZ}
-use Rattle.integer.specs.Clearing.{clearing-next}
+use Rattle.integer.specs.laws.Clearing.{clearing-next}
 use Rattle.certificate.proofs.Draining.{Draining, draining-begins, draining-fits, draining-turn, draining-ends}
 use Rattle.certificate.proofs.residual.drain.Statement.{statement}
 use Rattle.certificate.proofs.residual.drain.Tie as tie
@@ -22,15 +22,6 @@ abbrev μ-loop : tie.MeasureT-loop
 loop-holds : tie.Need-loop-holds Inv-loop μ-loop
 loop-holds c = draining-begins refl
 
-mul-magnitude : tie.Need-mul-magnitude Inv-loop μ-loop
-mul-magnitude c = search needs
-
-slice-copy-out-magnitude : tie.Need-slice-copy-out-magnitude Inv-loop μ-loop
-slice-copy-out-magnitude c = search needs
-
-magnitude-requires : tie.Need-magnitude-requires Inv-loop μ-loop
-magnitude-requires c κs = search needs
-
 module _ (c : tie.After-magnitude Inv-loop μ-loop) where
   abbrev l : tie.At-loop Inv-loop μ-loop
   l = c .before .before .before
@@ -43,45 +34,15 @@ module _ (c : tie.After-magnitude Inv-loop μ-loop) where
       let fits : SFits w64 (getD (l .loop .part) (l .loop .k) (pos 0)) = record { sfits = c .before .magnitude-arg .given } in
       (simp (toZ-ofZ fits) at (c .magnitude .ensures)) ∙ ap natAbs (clearing-next (l .loop .inv .cleared))
 
-add-sum : tie.Need-add-sum Inv-loop μ-loop
-add-sum c = omega (arith, draining-fits (l c .loop .inv) _ (inside c) (size-is c), l c .before .pre)
-
-mul-part : tie.Need-mul-part Inv-loop μ-loop
-mul-part c = search needs
-
-slice-set-of-part : tie.Need-slice-set-of-part Inv-loop μ-loop
-slice-set-of-part c = search needs
-
-add-k : tie.Need-add-k Inv-loop μ-loop
-add-k c = search needs
-
-loop-less : tie.Need-loop-less Inv-loop μ-loop
-loop-less c = search needs
-
 loop-again : tie.Need-loop-again Inv-loop μ-loop
 loop-again c = draining-turn (l c .loop .inv) _ (inside c) (size-is c)
-
-same-length : tie.Need-same-length Inv-loop μ-loop
-same-length c = c .before .loop .inv .cleared .same
 
 returns : tie.Need-returns Inv-loop μ-loop
 returns c = draining-ends (c .before .loop .inv) (omega arith)
 
 pub drain-spec : {M : Type 1} → statement M
 drain-spec =
-    tie.close
-    (tie.spec
-    Inv-loop
-    μ-loop
-    loop-holds
-    mul-magnitude
-    slice-copy-out-magnitude
-    magnitude-requires
-    add-sum
-    mul-part
-    slice-set-of-part
-    add-k
-    loop-less
-    loop-again
-    same-length
-    returns)
+    tie.close (tie.spec
+    Inv-loop μ-loop loop-holds (λ c. search needs) (λ c. search needs) (λ c κs. search needs)
+    (λ c. omega (arith, draining-fits (l c .loop .inv) _ (inside c) (size-is c), l c .before .pre)) (λ c. search needs)
+    (λ c. search needs) (λ c. search needs) (λ c. search needs) loop-again (λ c. c .before .loop .inv .cleared .same) returns)

@@ -10,17 +10,15 @@ use lib.ListN.{length, getD, set, length-set}
 use mir.Syntax.{w64}
 use mir.Val.{SFits}
 use mir.Facts.{toZ-ofZ}
-use Rattle.integer.specs.Parts.{abs-sub}
-use Rattle.integer.specs.Machine.{abs-fits}
-use Rattle.integer.specs.Clearing.{zeros}
-use Rattle.chebyshev.specs.Coefficients.{weight}
-use Rattle.chebyshev.specs.Weight.{weight-at}
-use Rattle.certificate.specs.Residuals.{constantResidual, weight-constant, weight-no-constant, weight-constant-le}
+use Rattle.integer.specs.laws.Parts.{abs-sub}
+use Rattle.integer.specs.laws.Machine.{abs-fits}
+use Rattle.integer.specs.definitions.Lists.{zeros}
+use Rattle.chebyshev.specs.definitions.Coefficients.{weight}
+use Rattle.chebyshev.specs.laws.Weight.{weight-at}
+use Rattle.certificate.specs.definitions.InnerContracts.{constantResidual}
+use Rattle.certificate.specs.laws.ResidualLaws.{weight-constant, weight-no-constant, weight-constant-le}
 use Rattle.certificate.proofs.residual.drain_constant.Statement.{statement}
 use Rattle.certificate.proofs.residual.drain_constant.Tie as tie
-
-slice-copy-out-part : tie.Need-slice-copy-out-part
-slice-copy-out-part c = search needs
 
 module _ (c : tie.After-part) where
   abbrev x : ℤ
@@ -37,9 +35,6 @@ module _ (c : tie.After-part) where
 
 sub-part : tie.Need-sub-part
 sub-part c = simp (toZ-ofZ (fits-x c), toZ-ofZ (c .before .before .fits .c)) (fits-difference c)
-
-slice-set-from-part : tie.Need-slice-set-from-part
-slice-set-from-part c = search needs
 
 module _ (c : tie.Joined1) where
   abbrev P : List ℤ
@@ -67,9 +62,9 @@ same-length c = c .before .drain .kept .0 ∙ joined (c .before .before .before)
 returns : tie.Need-returns
 returns c =
     let j = joined (c .before .before .before) in
-    (c .before .drain .ensures .0 ∙ j .1, c .before .drain .ensures .1 ∙ ap zeros (j .0))
+    let r = c .before .drain .ensures in
+    record { sum-is = r .sum-is ∙ j .1; cleared = r .cleared ∙ ap zeros (j .0) }
 
 pub drain-constant-spec : {M : Type 1} → statement M
 drain-constant-spec =
-    tie.close
-    (tie.spec slice-copy-out-part sub-part slice-set-from-part drain-requires same-length returns)
+    tie.close (tie.spec (λ c. search needs) sub-part (λ c. search needs) drain-requires same-length returns)

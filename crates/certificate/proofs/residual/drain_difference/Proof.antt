@@ -9,11 +9,12 @@ use lib.ListN.{length, getD}
 use mir.Syntax.{w32, w64}
 use mir.Val.{SFits}
 use mir.Facts.{toZ-ofZ}
-use Rattle.integer.specs.Parts.{abs-mul}
-use Rattle.integer.specs.Machine.{signed-needs, abs-fits, fits-widens}
-use Rattle.integer.specs.Clearing.{clearing-next}
-use Rattle.chebyshev.specs.Weight.{weight-at}
-use Rattle.certificate.specs.Residuals.{residualList, length-residual, at-residual, weight-residual}
+use Rattle.integer.specs.laws.Parts.{abs-mul}
+use Rattle.integer.specs.laws.Machine.{signed-needs, abs-fits, fits-widens}
+use Rattle.integer.specs.laws.Clearing.{clearing-next}
+use Rattle.chebyshev.specs.laws.Weight.{weight-at}
+use Rattle.certificate.specs.definitions.InnerContracts.{residualList}
+use Rattle.certificate.specs.laws.ResidualLaws.{length-residual, at-residual, weight-residual}
 use Rattle.certificate.proofs.Draining.{Draining, draining-begins, draining-fits, draining-turn, draining-ends}
 use Rattle.certificate.proofs.residual.drain_difference.Statement.{statement}
 use Rattle.certificate.proofs.residual.drain_difference.Tie as tie
@@ -26,18 +27,6 @@ abbrev μ-loop : tie.MeasureT-loop
 
 loop-holds : tie.Need-loop-holds Inv-loop μ-loop
 loop-holds c = draining-begins (omega (arith, length-residual (c .args .part .now) (c .args .f .now), c .pre))
-
-mul-magnitude : tie.Need-mul-magnitude Inv-loop μ-loop
-mul-magnitude c = search needs
-
-slice-copy-out-magnitude : tie.Need-slice-copy-out-magnitude Inv-loop μ-loop
-slice-copy-out-magnitude c = search needs
-
-mul-magnitude-2 : tie.Need-mul-magnitude-2 Inv-loop μ-loop
-mul-magnitude-2 c = search needs
-
-shared-slice-copy-out-magnitude : tie.Need-shared-slice-copy-out-magnitude Inv-loop μ-loop
-shared-slice-copy-out-magnitude c = search needs
 
 module _ (c : tie.After-magnitude-arg2 Inv-loop μ-loop) where
   abbrev l : tie.At-loop Inv-loop μ-loop
@@ -79,17 +68,8 @@ module _ (c : tie.After-magnitude-arg2 Inv-loop μ-loop) where
   fits-d : SFits w64 (x -ℤ p)
   fits-d = abs-fits w64 (x -ℤ p) (omega (arith, ap natAbs difference-is, weight-at (residualList C f) k, weight-residual C f, l .before .pre))
 
-cast-magnitude : tie.Need-cast-magnitude Inv-loop μ-loop
-cast-magnitude c = search signed-needs
-
-mul-magnitude-3 : tie.Need-mul-magnitude-3 Inv-loop μ-loop
-mul-magnitude-3 c = simp (toZ-ofZ (fits-y c), toZ-ofZ (fits-widens (fits-y c))) (fits-p c)
-
 sub-magnitude : tie.Need-sub-magnitude Inv-loop μ-loop
 sub-magnitude c = simp (toZ-ofZ (fits-y c), toZ-ofZ (fits-widens (fits-y c)), toZ-ofZ (fits-p c), toZ-ofZ (fits-x c)) (fits-d c)
-
-magnitude-requires : tie.Need-magnitude-requires Inv-loop μ-loop
-magnitude-requires c κs = tt
 
 size-is : (c : tie.After-magnitude Inv-loop μ-loop) → let b = c .before in c .magnitude .result ≡ natAbs (getD (residualList (C b) (f b)) (k b) (pos 0))
 size-is c =
@@ -100,47 +80,16 @@ size-is c =
 add-sum : tie.Need-add-sum Inv-loop μ-loop
 add-sum c = let b = c .before in omega (arith, draining-fits (l b .loop .inv) _ (inside b) (size-is c), weight-residual (C b) (f b), l b .before .pre)
 
-mul-part : tie.Need-mul-part Inv-loop μ-loop
-mul-part c = search needs
-
-slice-set-of-part : tie.Need-slice-set-of-part Inv-loop μ-loop
-slice-set-of-part c = search needs
-
-add-k : tie.Need-add-k Inv-loop μ-loop
-add-k c = search needs
-
-loop-less : tie.Need-loop-less Inv-loop μ-loop
-loop-less c = search needs
-
 loop-again : tie.Need-loop-again Inv-loop μ-loop
 loop-again c = let b = c .before in draining-turn (l b .loop .inv) _ (inside b) (size-is c)
-
-same-length : tie.Need-same-length Inv-loop μ-loop
-same-length c = c .before .loop .inv .cleared .same
 
 returns : tie.Need-returns Inv-loop μ-loop
 returns c = draining-ends (c .before .loop .inv) (omega arith)
 
 pub drain-difference-spec : {M : Type 1} → statement M
 drain-difference-spec =
-    tie.close
-    (tie.spec
-    Inv-loop
-    μ-loop
-    loop-holds
-    mul-magnitude
-    slice-copy-out-magnitude
-    mul-magnitude-2
-    shared-slice-copy-out-magnitude
-    cast-magnitude
-    mul-magnitude-3
-    sub-magnitude
-    magnitude-requires
-    add-sum
-    mul-part
-    slice-set-of-part
-    add-k
-    loop-less
-    loop-again
-    same-length
-    returns)
+    tie.close (tie.spec
+    Inv-loop μ-loop loop-holds (λ c. search needs) (λ c. search needs) (λ c. search needs) (λ c. search needs)
+    (λ c. search signed-needs) (λ c. simp (toZ-ofZ (fits-y c), toZ-ofZ (fits-widens (fits-y c))) (fits-p c)) sub-magnitude
+    (λ c κs. tt) add-sum (λ c. search needs) (λ c. search needs) (λ c. search needs) (λ c. search needs) loop-again
+    (λ c. c .before .loop .inv .cleared .same) returns)

@@ -7,17 +7,16 @@ use native.Mathlib.Omega.{arith}
 use lib.IntN.{ℤ}
 use lib.ListN.{length, take, drop, length-take, length-drop}
 use lib.Seq.{length-take-le}
-use Rattle.integer.specs.Clearing.{zeros, zeros-append}
-use Rattle.chebyshev.specs.Coefficients.{weight}
-use Rattle.chebyshev.specs.Weight.{weight-take, weight-drop}
-use Rattle.model.specs.Models.{scale}
-use Rattle.certificate.specs.Residuals.{residualList, weight-residual, weight-residual-split}
+use Rattle.integer.specs.definitions.Lists.{zeros}
+use Rattle.integer.specs.laws.Clearing.{zeros-append}
+use Rattle.chebyshev.specs.definitions.Coefficients.{weight}
+use Rattle.chebyshev.specs.laws.Weight.{weight-take, weight-drop}
+use Rattle.model.specs.definitions.Models.{scale}
+use Rattle.certificate.specs.definitions.InnerContracts.{residualList}
+use Rattle.certificate.specs.laws.ResidualLaws.{weight-residual, weight-residual-split}
 use Rattle.certificate.proofs.TwoParts.{length-halfway, second-part, both-parts}
 use Rattle.certificate.proofs.residual.drain_residual.Statement.{statement}
 use Rattle.certificate.proofs.residual.drain_residual.Tie as tie
-
-window-requires : tie.Need-window-requires
-window-requires c κs = search needs
 
 module _ (c : tie.After-window) where
   abbrev P : List ℤ
@@ -42,18 +41,9 @@ module _ (c : tie.After-window) where
         weight-drop (c .before .args .start) (c .before .args .f .now),
       )
 
-slice-relend-prefix-drain-difference : tie.Need-slice-relend-prefix-drain-difference
-slice-relend-prefix-drain-difference c = short c
-
-slice-aggregate-drain-difference : tie.Need-slice-aggregate-drain-difference
-slice-aggregate-drain-difference c = sym (first-length (c .before))
-
 drain-difference-requires : tie.Need-drain-difference-requires
 drain-difference-requires c κs =
     let b = c .before in (sym (first-length b), omega (arith, weight-small b, weight-take (length (own b)) (P b)))
-
-mul-drain : tie.Need-mul-drain
-mul-drain c = search needs
 
 module _ (c : tie.After-part) where
   abbrev b : tie.After-window
@@ -67,15 +57,6 @@ module _ (c : tie.After-part) where
 
   halfway-longer : length (own b) ≤ length (Z ++ drop (length (own b)) (P b))
   halfway-longer = omega (arith, length-halfway (P b) Z (length (own b)) (short b) length-Z, short b)
-
-sub-drain : tie.Need-sub-drain
-sub-drain c = halfway-longer c
-
-part-drain-start : tie.Need-part-drain-start
-part-drain-start c = halfway-longer c
-
-part-drain-end : tie.Need-part-drain-end
-part-drain-end c = search needs
 
 drain-requires : tie.Need-drain-requires
 drain-requires c κs =
@@ -91,43 +72,30 @@ module _ (c : tie.After-part2) where
   n = length (own (b d))
 
   rest-is : c .before .drain .result ≡ weight (drop n (P (b d)))
-  rest-is = c .before .drain .ensures .0 ∙ ap weight (second-part (P (b d)) (Z d) n (short (b d)) (length-Z d))
+  rest-is = c .before .drain .ensures .sum-is ∙ ap weight (second-part (P (b d)) (Z d) n (short (b d)) (length-Z d))
 
   sum-is : d .before .drain-difference .result + c .before .drain .result ≡ weight (residualList (P (b d)) (own (b d)))
-  sum-is = omega (arith, rest-is, d .before .drain-difference .ensures .0, weight-residual-split (P (b d)) (own (b d)) (short (b d)))
+  sum-is = omega (arith, rest-is, d .before .drain-difference .ensures .sum-is, weight-residual-split (P (b d)) (own (b d)) (short (b d)))
 
 add-result : tie.Need-add-result
 add-result c = omega (arith, sum-is c, weight-residual (P (b (d c))) (own (b (d c))), weight-small (b (d c)))
-
-same-length : tie.Need-same-length
-same-length c = search needs
 
 returns : tie.Need-returns
 returns c =
     let w = b (d c) in
     let m = length-drop (n c) (P w) in
     let s = second-part (P w) (Z (d c)) (n c) (short w) (length-Z (d c)) in
-    let whole : n c + length (drop (n c) (P w)) ≡ length (P w) = omega (arith, short w) in (
-      sum-is c ∙ ap (λ l. weight (residualList (P w) l)) (w .window .ensures),
-      both-parts (P w) (Z (d c)) (n c) (short w) (length-Z (d c)) (c .before .drain .last .0)
-          ∙ ap₂ _++_ (d c .before .drain-difference .ensures .1 ∙ ap zeros (first-length w)) (c .before .drain .ensures .1 ∙ ap (λ l. zeros (length l)) s)
+    let whole : n c + length (drop (n c) (P w)) ≡ length (P w) = omega (arith, short w) in record {
+      sum-is = sum-is c ∙ ap (λ l. weight (residualList (P w) l)) (w .window .ensures);
+      cleared =
+          both-parts (P w) (Z (d c)) (n c) (short w) (length-Z (d c)) (c .before .drain .last .0)
+          ∙ ap₂ _++_ (d c .before .drain-difference .ensures .cleared ∙ ap zeros (first-length w)) (c .before .drain .ensures .cleared ∙ ap (λ l. zeros (length l)) s)
           ∙ zeros-append (n c) (length (drop (n c) (P w)))
-          ∙ ap zeros whole,
-    )
+          ∙ ap zeros whole;
+    }
 
 pub drain-residual-spec : {M : Type 1} → statement M
 drain-residual-spec =
-    tie.close
-    (tie.spec
-    window-requires
-    slice-relend-prefix-drain-difference
-    slice-aggregate-drain-difference
-    drain-difference-requires
-    mul-drain
-    sub-drain
-    part-drain-start
-    part-drain-end
-    drain-requires
-    add-result
-    same-length
-    returns)
+    tie.close (tie.spec
+    (λ c κs. search needs) short (λ c. sym (first-length (c .before))) drain-difference-requires
+    (λ c. search needs) halfway-longer halfway-longer (λ c. search needs) drain-requires add-result (λ c. search needs) returns)

@@ -1,6 +1,6 @@
 -- `residual::form` meets its contract.
 use borrow.Author.Needs.{needs}
-use mathlib.Core.Path.{_≡_, sym, _∙_, ap, ap₂}
+use mathlib.Core.Path.{_≡_, sym, _∙_, ap₂}
 use mathlib.Core.List.{List}
 use Prim.Native.Nat.{ℕ, _+_, _*_, _≤_}
 use native.Mathlib.Omega.{arith}
@@ -9,67 +9,45 @@ use native.Mathlib.Numerals.{add-one}
 use lib.IntN.{ℤ}
 use lib.ListN.{length, take}
 use lib.Seq.{length-take-le}
-use Rattle.integer.specs.Integer.{ℤ-ring}
-use Rattle.chebyshev.specs.Coefficients.{weight}
-use Rattle.chebyshev.specs.Weight.{weight-take}
-use Rattle.chebyshev.specs.Product.{addRows, product}
-use Rattle.certificate.specs.Tests.{scratchPlaces}
-use Rattle.certificate.proofs.Formed.{cleared, from-zeros}
+use Rattle.integer.specs.definitions.Integer.{ℤ-ring}
+use Rattle.chebyshev.specs.definitions.Coefficients.{weight}
+use Rattle.chebyshev.specs.laws.Weight.{weight-take}
+use Rattle.chebyshev.specs.definitions.Product.{product}
+use Rattle.model.specs.definitions.Models.{productSize}
+use Rattle.certificate.proofs.Formed.{weight-lent, from-lent}
 use Rattle.certificate.proofs.residual.form.Statement.{statement}
 use Rattle.certificate.proofs.residual.form.Tie as tie
 
 module _ (s : tie.Start) where
   abbrev a : List ℤ
-  a = s .args .a .now
+  a = take (s .args .n + 1) (s .args .a .now)
 
   abbrev b : List ℤ
-  b = s .args .b .now
+  b = take (s .args .k + 1) (s .args .b .now)
 
-  length-a : length (take (s .args .n + 1) a) ≡ s .args .n + 1
-  length-a = length-take-le (s .args .n + 1) a (omega (arith, s .pre))
+  length-a : length a ≡ s .args .n + 1
+  length-a = length-take-le (s .args .n + 1) (s .args .a .now) (omega arith)
 
-  length-b : length (take (s .args .k + 1) b) ≡ s .args .k + 1
-  length-b = length-take-le (s .args .k + 1) b (omega (arith, s .pre))
+  length-b : length b ≡ s .args .k + 1
+  length-b = length-take-le (s .args .k + 1) (s .args .b .now) (omega arith)
 
-  weights : weight (take (s .args .n + 1) a) * weight (take (s .args .k + 1) b) ≤ weight a * weight b
-  weights = mul-le-mul (weight-take (s .args .n + 1) a) (weight-take (s .args .k + 1) b)
-
-add-add-products : tie.Need-add-add-products
-add-add-products c = search needs
-
-slice-aggregate-add-products : tie.Need-slice-aggregate-add-products
-slice-aggregate-add-products c = sym (length-a (c .before .before .before .before))
-
-add-add-products-2 : tie.Need-add-add-products-2
-add-add-products-2 c = search needs
-
-slice-aggregate-add-products-2 : tie.Need-slice-aggregate-add-products-2
-slice-aggregate-add-products-2 c = sym (length-b (c .before .before .before .before .before))
+  weights : weight a * weight b ≤ weight (s .args .a .now) * weight (s .args .b .now)
+  weights = mul-le-mul (weight-take (s .args .n + 1) (s .args .a .now)) (weight-take (s .args .k + 1) (s .args .b .now))
 
 add-products-requires : tie.Need-add-products-requires
 add-products-requires c κs =
     let s = c .before .before .before .before .before in
-    omega (arith, cleared (s .pre .0 .0), length-a s, length-b s, weights s, s .pre)
-
-same-length : tie.Need-same-length
-same-length c = search needs
+    omega (arith, weight-lent (s .pre .0), length-a s, length-b s, weights s, s .pre .0, s .pre .1)
 
 returns : tie.Need-returns
 returns c =
     let s = c .before .before .before .before .before .before .before in
     c .before .add-products .ensures
-    ∙ ap (λ l. addRows ℤ-ring l 0 (take (s .args .n + 1) (a s)) (take (s .args .k + 1) (b s))) (s .pre .0 .0)
-    ∙ from-zeros (take (s .args .n + 1) (a s)) (take (s .args .k + 1) (b s))
-    ∙ ap₂ (λ (i j : ℕ). product ℤ-ring scratchPlaces (take i (a s)) (take j (b s))) (add-one (s .args .n)) (add-one (s .args .k))
+    ∙ from-lent (s .pre .0) (a s) (b s)
+    ∙ ap₂ (λ (i j : ℕ). product ℤ-ring productSize (take i (s .args .a .now)) (take j (s .args .b .now))) (add-one (s .args .n)) (add-one (s .args .k))
 
 pub form-spec : {M : Type 1} → statement M
 form-spec =
-    tie.close
-    (tie.spec
-    add-add-products
-    slice-aggregate-add-products
-    add-add-products-2
-    slice-aggregate-add-products-2
-    add-products-requires
-    same-length
-    returns)
+    tie.close (tie.spec
+    (λ c. search needs) (λ c. sym (length-a (c .before .before .before .before))) (λ c. search needs)
+    (λ c. sym (length-b (c .before .before .before .before .before))) add-products-requires (λ c. search needs) returns)

@@ -1,32 +1,16 @@
 -- `root::numbers_in` meets its contract: model and candidates are measured in operand order.
 use borrow.Author.Needs.{needs}
-use mathlib.Core.Path.{_≡_, sym, _∙_, ap}
-use mathlib.Core.Bool.{true, false, _&&_}
-use native.Mathlib.Omega.{arith}
-use Rattle.integer.specs.Clearing.{zeros}
-use Rattle.model.specs.Models.{good, candidateModel}
-use Rattle.certificate.specs.Tests.{scratchPlaces}
-use Rattle.certificate.specs.RootNumbers.{refused, rootOutcome, root-bad}
+use mathlib.Core.Path.{_≡_, sym, _∙_}
+use mathlib.Core.Bool.{true}
+use Rattle.model.specs.definitions.Models.{good, candidateModel}
+use Rattle.certificate.specs.definitions.InnerContracts.{Lent}
+use Rattle.certificate.specs.laws.NumbersStages.{numbers-bad}
+use Rattle.certificate.proofs.Formed.{lent-scratch}
 use Rattle.certificate.proofs.root.numbers_in.Statement.{statement}
 use Rattle.certificate.proofs.root.numbers_in.Tie as tie
 
-clear-requires : tie.Need-clear-requires
-clear-requires c κs = search needs
-
-cleared : (c : tie.After-clear) → c .clear .last .0 ≡ zeros scratchPlaces
-cleared c = c .clear .ensures ∙ ap zeros (c .before .before .pre)
-
--- a model or a candidate is bad
-module _ (s : tie.Start) where
-  bad : (good (s .args .f) && (good (candidateModel (s .args .h)) && good (candidateModel (s .args .w)))) ≡ false
-      → refused 2 ≡ rootOutcome scratchPlaces (s .args .f) (candidateModel (s .args .h)) (candidateModel (s .args .w))
-  bad e = sym (root-bad scratchPlaces (s .args .f) (candidateModel (s .args .h)) (candidateModel (s .args .w)) (omega arith) e)
-
-measure-requires : tie.Need-measure-requires
-measure-requires c κs = search needs
-
-measure-candidate-requires : tie.Need-measure-candidate-requires
-measure-candidate-requires c κs = search needs
+is-lent : (c : tie.After-clear) → Lent (c .clear .last .0)
+is-lent c = lent-scratch (c .before .before .args .part .now) (c .before .before .pre) (c .clear .ensures)
 
 good-f : (c : tie.Then1) → good (c .before .before .before .before .before .args .f) ≡ true
 good-f c = sym (c .before .measure .ensures .0) ∙ c .if1 .taken
@@ -34,69 +18,51 @@ good-f c = sym (c .before .measure .ensures .0) ∙ c .if1 .taken
 good-h : (c : tie.Then2) → good (candidateModel (c .before .before .before .before .before .before .before .args .h)) ≡ true
 good-h c = sym (c .before .measure-candidate .ensures .0) ∙ c .if2 .taken
 
-measure-candidate-requires-2 : tie.Need-measure-candidate-requires-2
-measure-candidate-requires-2 c κs = search needs
-
 numbers-of-good-requires : tie.Need-numbers-of-good-requires
 numbers-of-good-requires c κs =
     let of-w = c .before .before in
-    let t = of-w .before in
-    let of-f = t .before .before .before in (
-      cleared (of-f .before .before),
-      good-f (t .before .before),
-      good-h t,
-      sym (of-w .measure-candidate2 .ensures .0) ∙ c .before .if3 .taken,
+    let t = of-w .before in (
+      record {
+        lent = is-lent (t .before .before .before .before .before);
+        good-f = good-f (t .before .before);
+        good-h = good-h t;
+        good-w = sym (of-w .measure-candidate2 .ensures .0) ∙ c .before .if3 .taken;
+      },
       of-w .measure-candidate2 .ensures .1,
     )
-
-same-length : tie.Need-same-length
-same-length c = search needs
-
-returns : tie.Need-returns
-returns c = search needs
-
-same-length-2 : tie.Need-same-length-2
-same-length-2 c = search needs
 
 returns-2 : tie.Need-returns-2
 returns-2 c =
     let of-w = c .before in
     let t = of-w .before in
     let d = t .before .before .before .before .before in
-    (bad (d .before .before) (rw (good-f (t .before .before), good-h t) (sym (of-w .measure-candidate2 .ensures .0) ∙ c .if3 .left)), cleared d)
-
-same-length-3 : tie.Need-same-length-3
-same-length-3 c = search needs
+    let a = d .before .before .args in (
+      sym (numbers-bad (a .f) (candidateModel (a .h)) (candidateModel (a .w))
+          (rw (good-f (t .before .before), good-h t) (sym (of-w .measure-candidate2 .ensures .0) ∙ c .if3 .left))),
+      is-lent d,
+    )
 
 returns-3 : tie.Need-returns-3
 returns-3 c =
     let of-h = c .before in
     let d = of-h .before .before .before .before in
-    (bad (d .before .before) (rw (good-f (of-h .before), sym (of-h .measure-candidate .ensures .0) ∙ c .if2 .left)), cleared d)
-
-same-length-4 : tie.Need-same-length-4
-same-length-4 c = search needs
+    let a = d .before .before .args in (
+      sym (numbers-bad (a .f) (candidateModel (a .h)) (candidateModel (a .w))
+          (rw (good-f (of-h .before), sym (of-h .measure-candidate .ensures .0) ∙ c .if2 .left))),
+      is-lent d,
+    )
 
 returns-4 : tie.Need-returns-4
 returns-4 c =
-    let of-f = c .before in
-    let d = of-f .before .before in
-    (bad (d .before .before) (rw (sym (of-f .measure .ensures .0) ∙ c .if1 .left)), cleared d)
+    let d = c .before .before .before in
+    let a = d .before .before .args in (
+      sym (numbers-bad (a .f) (candidateModel (a .h)) (candidateModel (a .w)) (rw (sym (c .before .measure .ensures .0) ∙ c .if1 .left))),
+      is-lent d,
+    )
 
 pub numbers-in-spec : {M : Type 1} → statement M
 numbers-in-spec =
-    tie.close
-    (tie.spec
-    clear-requires
-    measure-requires
-    measure-candidate-requires
-    measure-candidate-requires-2
-    numbers-of-good-requires
-    same-length
-    returns
-    same-length-2
-    returns-2
-    same-length-3
-    returns-3
-    same-length-4
+    tie.close (tie.spec
+    (λ c κs. search needs) (λ c κs. search needs) (λ c κs. search needs) (λ c κs. search needs) numbers-of-good-requires
+    (λ c. search needs) (λ c. search needs) (λ c. search needs) returns-2 (λ c. search needs) returns-3 (λ c. search needs)
     returns-4)

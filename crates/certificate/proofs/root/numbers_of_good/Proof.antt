@@ -1,132 +1,73 @@
 -- `root::numbers_of_good` meets its contract: m is tested before N is formed, and N before b.
 use borrow.Author.Needs.{needs}
-use mathlib.Core.Path.{_≡_, sym, _∙_, ap, ap₂}
-use mathlib.Core.Bool.{true, false}
-use Prim.Native.Nat.{ℕ, _*_, _≤_}
+use mathlib.Core.Path.{_≡_, sym, _∙_, ap}
+use mathlib.Core.Bool.{false}
 use native.Mathlib.Omega.{arith}
 use lib.IntN.{pos}
 use lib.Signed.{leZ}
 use mir.Syntax.{w64}
 use mir.Val.{SFits, toZ, ofZ}
 use mir.Facts.{toZ-ofZ}
-use Rattle.integer.specs.Rounding.{upℕ}
-use Rattle.chebyshev.specs.Sign.{coefficientSum}
-use Rattle.model.specs.Models.{scale, maxWeight, candidateModel}
-use Rattle.model.specs.ModelLaws.{good-is}
-use Rattle.model.specs.declared.types.Model.{Model}
-use Rattle.certificate.specs.Tests.{scratchPlaces, rootContraction, rootResidual, displacement}
-use Rattle.certificate.specs.RootNumbers.{reached, root-helper, root-not-contracting, root-large-residual, root-reached}
+use Rattle.chebyshev.specs.definitions.Coefficients.{coefficientSum}
+use Rattle.model.specs.definitions.Models.{candidateModel}
+use Rattle.model.specs.laws.ModelLaws.{good-is}
+use Rattle.certificate.specs.laws.NumbersStages.{numbers-helper, numbers-not-contracting, numbers-large-residual, numbers-reached}
 use Rattle.certificate.proofs.root.numbers_of_good.Statement.{statement}
 use Rattle.certificate.proofs.root.numbers_of_good.Tie as tie
 
-total-requires : tie.Need-total-requires
-total-requires c κs = search needs
-
-module _ (s : tie.Start) where
-  abbrev h : Model
-  h = candidateModel (s .args .h)
-
-  abbrev w : Model
-  w = candidateModel (s .args .t4)
-
-  w-fits : s .args .weight ≤ maxWeight
-  w-fits = omega (arith, s .pre .4, good-is w (s .pre .3) .weight-fits)
-
 -- the code's test of the sign
-module _ (c : tie.After-total) where
-  abbrev s : tie.Start
-  s = c .before .before .before
+sign-is : (c : tie.After-total)
+    → leZ (toZ w64 (ofZ w64 (c .total .result))) (pos 0) ≡ leZ (coefficientSum (c .before .before .before .args .t4 .coefficients)) (pos 0)
+sign-is c =
+    let fits : SFits w64 (c .total .result) = record { sfits = c .total .ok } in
+    ap (λ z. leZ z (pos 0)) (toZ-ofZ fits ∙ c .total .ensures)
 
-  sign-is : leZ (toZ w64 (ofZ w64 (c .total .result))) (pos 0) ≡ leZ (coefficientSum (w s .coefficients)) (pos 0)
-  sign-is =
-      let fits : SFits w64 (c .total .result) = record { sfits = c .total .ok } in
-      ap (λ z. leZ z (pos 0)) (toZ-ofZ fits ∙ c .total .ensures)
-
-not-positive : (c : tie.Then1) → leZ (coefficientSum (w (s (c .before)) .coefficients)) (pos 0) ≡ true
-not-positive c = sym (sign-is (c .before)) ∙ c .if1 .taken
-
-positive : (c : tie.Else1) → leZ (coefficientSum (w (s (c .before)) .coefficients)) (pos 0) ≡ false
+positive : (c : tie.Else1) → leZ (coefficientSum (c .before .before .before .before .args .t4 .coefficients)) (pos 0) ≡ false
 positive c = sym (sign-is (c .before)) ∙ c .if1 .left
 
 returns : tie.Need-returns
 returns c =
-    let p = s (c .before) in (
-      sym (root-helper scratchPlaces (p .args .f) (h p) (w p) (omega arith) (p .pre .1) (p .pre .2) (p .pre .3) (not-positive c)),
-      p .pre .0,
-    )
-
-root-contraction-requires : tie.Need-root-contraction-requires
-root-contraction-requires c κs = search needs
-
-root-residual-requires : tie.Need-root-residual-requires
-root-residual-requires c κs = search needs
+    let p = c .before .before .before .before .pre .0 in
+    (sym (numbers-helper p (sym (sign-is (c .before)) ∙ c .if1 .taken)), p .lent)
 
 displacement-requires : tie.Need-displacement-requires
-displacement-requires c κs = (w-fits (c .before .before .before .before .before .before .before .before .before .before .before .before), search needs)
-
-same-length : tie.Need-same-length
-same-length c = search needs
-
-reached-parts : {M M′ m m′ n n′ b b′ : ℕ} → M ≡ M′ → m ≡ m′ → n ≡ n′ → b ≡ b′ → reached M m n b ≡ reached M′ m′ n′ b′
-reached-parts e f g h = cc
+displacement-requires c κs =
+    let s = c .before .before .before .before .before .before .before .before .before .before .before .before in
+    (omega (arith, s .pre .1, good-is (candidateModel (s .args .t4)) (s .pre .0 .good-w) .weight-fits), search needs)
 
 returns-2 : tie.Need-returns-2
-unfolding displacement
 returns-2 c =
     let of-n = c .before .before .before .root-residual in
+    let contracting = c .before .before .before .before .before .if2 .taken in
     let at-m = c .before .before .before .before .before .before .before in
+    let of-m = at-m .root-contraction in
     let q = at-m .before .before in
-    let p = s (q .before) in
-    let m = at-m .root-contraction .result in
-    let n = of-n .result in
-    let em : m ≡ rootContraction (h p) (w p) = at-m .root-contraction .ensures .0 in
-    let en : n ≡ rootResidual (p .args .f) (h p) = of-n .ensures .0 in
-    let eb : c .displacement .result ≡ displacement (w p) (rootResidual (p .args .f) (h p)) = c .displacement .ensures ∙ ap₂ (λ (i j : ℕ). upℕ (i * j) scale) (p .pre .4) en in (
-      reached-parts (p .pre .4) em en eb
-          ∙ sym (root-reached scratchPlaces (p .args .f) (h p) (w p) (omega arith) (p .pre .1) (p .pre .2) (p .pre .3) (positive q) (omega (arith, em)) (omega (arith, en))),
+    let s = q .before .before .before .before in (
+      sym (numbers-reached (s .pre .0) (positive q) (of-m .result) (of-m .ensures .0) contracting (of-n .result) (of-n .ensures .0) (omega arith)
+          (s .args .weight) (c .displacement .result) (s .pre .1) (c .displacement .ensures)),
       of-n .ensures .1,
     )
-
-same-length-2 : tie.Need-same-length-2
-same-length-2 c = search needs
 
 returns-3 : tie.Need-returns-3
 returns-3 c =
     let of-n = c .before .before .root-residual in
     let at-m = c .before .before .before .before .before .before in
+    let of-m = at-m .root-contraction in
     let q = at-m .before .before in
-    let p = s (q .before) in
-    let em : at-m .root-contraction .result ≡ rootContraction (h p) (w p) = at-m .root-contraction .ensures .0 in
-    let en : of-n .result ≡ rootResidual (p .args .f) (h p) = of-n .ensures .0 in (
-      sym (root-large-residual scratchPlaces (p .args .f) (h p) (w p) (omega arith) (p .pre .1) (p .pre .2) (p .pre .3) (positive q) (omega (arith, em)) (omega (arith, en))),
+    let s = q .before .before .before .before in (
+      sym (numbers-large-residual (s .pre .0) (positive q) (of-m .result) (of-m .ensures .0) (omega arith) (of-n .result) (of-n .ensures .0) (omega arith)),
       of-n .ensures .1,
     )
 
-same-length-3 : tie.Need-same-length-3
-same-length-3 c = search needs
-
 returns-4 : tie.Need-returns-4
 returns-4 c =
-    let at-m = c .before .before in
-    let q = at-m .before .before in
-    let p = s (q .before) in
-    let em : at-m .root-contraction .result ≡ rootContraction (h p) (w p) = at-m .root-contraction .ensures .0 in (
-      sym (root-not-contracting scratchPlaces (p .args .f) (h p) (w p) (omega arith) (p .pre .1) (p .pre .2) (p .pre .3) (positive q) (omega (arith, em))),
-      at-m .root-contraction .ensures .1,
-    )
+    let of-m = c .before .before .root-contraction in
+    let q = c .before .before .before .before in
+    let s = q .before .before .before .before in
+    (sym (numbers-not-contracting (s .pre .0) (positive q) (of-m .result) (of-m .ensures .0) (omega arith)), of-m .ensures .1)
 
 pub numbers-of-good-spec : {M : Type 1} → statement M
 numbers-of-good-spec =
-    tie.close
-    (tie.spec
-    total-requires
-    returns
-    root-contraction-requires
-    root-residual-requires
-    displacement-requires
-    same-length
-    returns-2
-    same-length-2
-    returns-3
-    same-length-3
-    returns-4)
+    tie.close (tie.spec
+    (λ c κs. search needs) returns (λ c κs. search needs) (λ c κs. search needs) displacement-requires (λ c. search needs)
+    returns-2 (λ c. search needs) returns-3 (λ c. search needs) returns-4)

@@ -1,53 +1,36 @@
 -- `root::root_numbers` meets its contract.
 use borrow.Author.Needs.{needs}
-use mathlib.Core.Path.{_≡_, sym, _∙_, ap}
-use mathlib.Core.List.{_++_}
+use mathlib.Core.Path.{_≡_, sym, _∙_}
 use native.Mathlib.Omega.{arith}
-use lib.ListN.{length, take, drop}
+use lib.ListN.{length, take}
 use lib.Seq.{length-take-le}
-use Rattle.model.specs.Models.{candidateModel}
-use Rattle.certificate.specs.Tests.{scratchPlaces}
-use Rattle.certificate.specs.Stages.{scratch-short, scratch-cleared}
-use Rattle.certificate.specs.RootNumbers.{root-short, root-room}
+use Rattle.model.specs.definitions.Models.{candidateModel}
+use Rattle.certificate.specs.definitions.Tests.{scratchSize}
+use Rattle.certificate.specs.laws.Stages.{scratch-short}
+use Rattle.certificate.specs.laws.NumbersStages.{numbers-short, numbers-room}
+use Rattle.certificate.proofs.Formed.{scratch-after}
 use Rattle.certificate.proofs.root.root_numbers.Statement.{statement}
 use Rattle.certificate.proofs.root.root_numbers.Tie as tie
 
 returns : tie.Need-returns
 returns c =
     let a = c .before .args in (
-      sym (root-short (length (a .scratch .now)) (a .f) (candidateModel (a .h)) (candidateModel (a .w)) (omega arith)),
+      sym (numbers-short (length (a .scratch .now)) (a .f) (candidateModel (a .h)) (candidateModel (a .w)) (omega arith)),
       sym (scratch-short (a .scratch .now) (omega arith)),
     )
 
-first-part : (c : tie.Else1) → length (take scratchPlaces (c .before .args .scratch .now)) ≡ scratchPlaces
-first-part c = length-take-le scratchPlaces (c .before .args .scratch .now) (omega arith)
-
-slice-relend-prefix-numbers-in : tie.Need-slice-relend-prefix-numbers-in
-slice-relend-prefix-numbers-in c = search needs
-
-slice-aggregate-numbers-in : tie.Need-slice-aggregate-numbers-in
-slice-aggregate-numbers-in c = sym (first-part (c .before))
-
-numbers-in-requires : tie.Need-numbers-in-requires
-numbers-in-requires c κs = first-part (c .before)
-
-same-length : tie.Need-same-length
-same-length c = search needs
+first-part : (c : tie.Else1) → length (take scratchSize (c .before .args .scratch .now)) ≡ scratchSize
+first-part c = length-take-le scratchSize (c .before .args .scratch .now) (omega arith)
 
 returns-2 : tie.Need-returns-2
 returns-2 c =
+    let r = c .before .numbers-in in
     let a = c .before .before .before .before .args in (
-      c .before .numbers-in .ensures .0 ∙ sym (root-room (length (a .scratch .now)) (a .f) (candidateModel (a .h)) (candidateModel (a .w)) (omega arith)),
-      ap (λ l. l ++ drop scratchPlaces (a .scratch .now)) (c .before .numbers-in .ensures .1) ∙ sym (scratch-cleared (a .scratch .now) (omega arith)),
+      r .ensures .0 ∙ sym (numbers-room (length (a .scratch .now)) (a .f) (candidateModel (a .h)) (candidateModel (a .w)) (omega arith)),
+      scratch-after (a .scratch .now) (omega arith) (r .ensures .1) (r .kept .0),
     )
 
 pub root-numbers-spec : {M : Type 1} → statement M
 root-numbers-spec =
-    tie.close
-    (tie.spec
-    returns
-    slice-relend-prefix-numbers-in
-    slice-aggregate-numbers-in
-    numbers-in-requires
-    same-length
-    returns-2)
+    tie.close (tie.spec
+    returns (λ c. search needs) (λ c. sym (first-part (c .before))) (λ c κs. first-part (c .before)) (λ c. search needs) returns-2)

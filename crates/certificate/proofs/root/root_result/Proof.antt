@@ -1,86 +1,33 @@
 -- `root::root_result` meets its contract: b is compared with a quotient, and the radius is at most 2^27.
 use borrow.Author.Needs.{needs}
-use borrow.Author.Tests.{lt-ltb, le-ltb}
-use mathlib.Core.Path.{_≡_, sym, _∙_, ap}
-use mathlib.Core.List.{[]}
-use Prim.Native.Nat.{ℕ, _*_, _-_, _/_, _^_, _≤_}
+use mathlib.Core.Path.{sym, _∙_}
+use Prim.Native.Nat.{_-_, _^_, _≤_}
 use native.Mathlib.Omega.{arith}
 use native.Mathlib.Nat.{mul-le-mul}
-use Rattle.integer.specs.Rounding.{upℕ}
-use Rattle.integer.specs.RoundingLaws.{upℕ-least}
-use Rattle.model.specs.Models.{scale, maxRadius, candidateModel, modelOf}
-use Rattle.certificate.specs.Tests.{testOf, rootModel}
-use Rattle.certificate.specs.Stages.{passedTest, tested-pass, tested-refuse, tested-none, large-radius}
-use Rattle.certificate.specs.RootRadius.{numerator-bound}
-use Rattle.certificate.specs.Discriminant.{discriminant-quotient, discriminant-test}
+use Rattle.model.specs.definitions.Models.{scale}
+use Rattle.certificate.specs.laws.RootEnd.{root-end-refused, root-end-radius, root-end-passed}
 use Rattle.certificate.proofs.root.root_result.Statement.{statement}
 use Rattle.certificate.proofs.root.root_result.Tie as tie
 
-sub-gap : tie.Need-sub-gap
-sub-gap c = search needs
-
 mul-if1 : tie.Need-mul-if1
-mul-if1 c = let h : 1048576 - c .args .m ≤ 2 ^ 20 = omega arith in omega (arith, mul-le-mul h h)
-
-mul-if1-2 : tie.Need-mul-if1-2
-mul-if1-2 c = search needs
-
-div-if1 : tie.Need-div-if1
-div-if1 c = search needs
-
-root-radius-requires : tie.Need-root-radius-requires
-root-radius-requires c κs = search needs
+mul-if1 c = let h : scale - c .args .m ≤ 2 ^ 20 = omega arith in omega (arith, mul-le-mul h h)
 
 radius-small : (c : tie.After-root-radius) → c .root-radius .result ≤ 2 ^ 27
-radius-small c =
-    let s = c .before .before in
-    let p = scale - s .args .m in
-    let q = discriminant-quotient (s .args .b) (s .args .weight) (s .args .m) (s .pre .0 .1) .1 (c .before .if1 .taken) in
-    rw (c .root-radius .ensures)
-    (upℕ-least (2 * s .args .b * scale) p (2 ^ 27) (omega arith) (numerator-bound p (s .args .b) (s .args .weight) (omega arith) (s .pre .1) q))
-
-cast-accepted : tie.Need-cast-accepted
-cast-accepted c = omega (arith, radius-small c)
-
-accepted-requires : tie.Need-accepted-requires
-accepted-requires c κs = search needs
-
-refused-requires : tie.Need-refused-requires
-refused-requires c κs = search needs
+radius-small c = root-end-radius (c .before .before .pre) (c .before .if1 .taken) (c .root-radius .result) (c .root-radius .ensures)
 
 returns : tie.Need-returns
-unfolding rootModel
 returns c =
-    let of-r = c .before in
-    let s = of-r .before .before in
-    let a = s .args in
-    let h = candidateModel (a .h) in
-    let r = rootModel h (a .m) (a .b) in
-    let er : of-r .root-radius .result ≡ upℕ (2 * a .b * scale) (scale - a .m) = of-r .root-radius .ensures in
-    let discriminant = le-ltb ((scale - a .m) * (scale - a .m)) (8 * a .b * a .weight) (discriminant-quotient (a .b) (a .weight) (a .m) (s .pre .0 .1) .1 (of-r .before .if1 .taken)) in
-    let small = large-radius h (upℕ (2 * a .b * scale) (scale - a .m)) (s .pre .0 .0) ∙ le-ltb maxRadius (upℕ (2 * a .b * scale) (scale - a .m)) (omega (arith, er, radius-small of-r)) in
-    ap testOf (c .accepted .ensures)
-    ∙ ap (λ (e : ℕ). passedTest (modelOf (h .degree) (h .coefficients) e) (a .m) (a .n) (a .b)) er
-    ∙ sym (tested-pass _ 8 _ r (a .m) (a .n) (a .b) discriminant ∙ tested-pass _ 3 [] r (a .m) (a .n) (a .b) small ∙ tested-none r (a .m) (a .n) (a .b))
+    let d = c .before in
+    c .accepted .ensures
+    ∙ sym (root-end-passed (d .before .before .pre) (d .before .if1 .taken) (d .root-radius .result) (d .root-radius .ensures) (d .before .before .args .n))
 
 returns-2 : tie.Need-returns-2
 returns-2 c =
     let s = c .before .before in
-    let a = s .args in
-    let discriminant = discriminant-test (a .b) (a .weight) (a .m) (s .pre .0 .1) ∙ lt-ltb ((scale - a .m) * (scale - a .m) / (8 * a .weight)) (a .b) (c .before .if1 .left) in
-    ap testOf (c .refused .ensures) ∙ sym (tested-refuse _ 8 _ (rootModel (candidateModel (a .h)) (a .m) (a .b)) (a .m) (a .n) (a .b) discriminant (omega arith))
+    c .refused .ensures ∙ sym (root-end-refused (s .pre) (s .args .n) (c .before .if1 .left))
 
 pub root-result-spec : {M : Type 1} → statement M
 root-result-spec =
-    tie.close
-    (tie.spec
-    sub-gap
-    mul-if1
-    mul-if1-2
-    div-if1
-    root-radius-requires
-    cast-accepted
-    accepted-requires
-    refused-requires
-    returns
-    returns-2)
+    tie.close (tie.spec
+    (λ c. search needs) mul-if1 (λ c. search needs) (λ c. search needs) (λ c κs. search needs) (λ c. omega (arith, radius-small c))
+    (λ c κs. search needs) (λ c κs. search needs) returns returns-2)

@@ -11,9 +11,9 @@ use lib.Seq.{drop-cons}
 use mir.Syntax.{w32, w64}
 use mir.Val.{SFits, toZ}
 use mir.Facts.{toZ-ofZ}
-use Rattle.integer.specs.Parts.{abs, apart, abs-add}
-use Rattle.integer.specs.Machine.{signed-needs, within, abs-fits, fits-widens}
-use Rattle.chebyshev.specs.Sign.{coefficientSum}
+use Rattle.integer.specs.laws.Parts.{abs, apart, abs-add}
+use Rattle.integer.specs.laws.Machine.{signed-needs, within, abs-fits, fits-widens}
+use Rattle.chebyshev.specs.definitions.Coefficients.{coefficientSum}
 use Rattle.certificate.proofs.root.total.Statement.{statement}
 use Rattle.certificate.proofs.root.total.Tie as tie
 
@@ -33,15 +33,6 @@ abbrev μ-loop : tie.MeasureT-loop
 
 loop-holds : tie.Need-loop-holds Inv-loop μ-loop
 loop-holds c = (omega arith, +ℤ-idl (coefficientSum (c .args .coefficients .now)), omega arith)
-
-mul-sum : tie.Need-mul-sum Inv-loop μ-loop
-mul-sum c = search signed-needs
-
-element-copy-out-sum : tie.Need-element-copy-out-sum Inv-loop μ-loop
-element-copy-out-sum c = search signed-needs
-
-cast-sum : tie.Need-cast-sum Inv-loop μ-loop
-cast-sum c = search signed-needs
 
 module _ (c : tie.After-sum Inv-loop μ-loop) where
   abbrev l : tie.At-loop Inv-loop μ-loop
@@ -65,15 +56,6 @@ module _ (c : tie.After-sum Inv-loop μ-loop) where
   fits-s : SFits w64 (s +ℤ x)
   fits-s = abs-fits w64 (s +ℤ x) (omega (arith, small))
 
-add-sum : tie.Need-add-sum Inv-loop μ-loop
-add-sum c = simp (toZ-ofZ (fits-x c), toZ-ofZ (fits-widens (fits-x c))) (fits-s c)
-
-add-k : tie.Need-add-k Inv-loop μ-loop
-add-k c = omega arith
-
-loop-less : tie.Need-loop-less Inv-loop μ-loop
-loop-less c = omega arith
-
 loop-again : tie.Need-loop-again Inv-loop μ-loop
 loop-again c =
     let k = l c .loop .k in
@@ -91,16 +73,7 @@ returns c =
 
 pub total-spec : {M : Type 1} → statement M
 total-spec =
-    tie.close
-    (tie.spec
-    Inv-loop
-    μ-loop
-    loop-holds
-    mul-sum
-    element-copy-out-sum
-    cast-sum
-    add-sum
-    add-k
-    loop-less
-    loop-again
-    returns)
+    tie.close (tie.spec
+    Inv-loop μ-loop loop-holds (λ c. search signed-needs) (λ c. search signed-needs) (λ c. search signed-needs)
+    (λ c. simp (toZ-ofZ (fits-x c), toZ-ofZ (fits-widens (fits-x c))) (fits-s c)) (λ c. omega arith) (λ c. omega arith)
+    loop-again returns)

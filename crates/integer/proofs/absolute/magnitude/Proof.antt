@@ -9,8 +9,8 @@ use lib.Signed.{ltZ}
 use mir.Syntax.{w64}
 use mir.Val.{SFits}
 use mir.Facts.{toZ-ofZ}
-use Rattle.integer.specs.Parts.{_⁻, abs, apart, difference, lt-yes, lt-no}
-use Rattle.integer.specs.Machine.{fits, within, non-neg}
+use Rattle.integer.specs.laws.Parts.{_⁻, abs, apart, difference, lt-yes, lt-no}
+use Rattle.integer.specs.laws.Machine.{fits, within, non-neg}
 use Rattle.integer.proofs.absolute.magnitude.Statement.{statement}
 use Rattle.integer.proofs.absolute.magnitude.Tie as tie
 
@@ -37,9 +37,6 @@ module _ (c : tie.Then1) where
   fits-y : SFits w64 y
   fits-y = fits w64 y (omega (arith, abs y, y-is, small)) (omega (arith, y-is))
 
-sub-result : tie.Need-sub-result
-sub-result c = simp (toZ-ofZ (fits-x c)) (fits-y c)
-
 cast-result : tie.Need-cast-result
 cast-result c = simp (toZ-ofZ (fits-x c), toZ-ofZ (fits-y c)) (non-neg (y c) (y-is c .1), record { fits = omega (arith, y-is c, small c) })
 
@@ -56,8 +53,7 @@ cast-result-2 c =
 returns : tie.Need-returns
 returns c = simp (toZ-ofZ (fits-x c), toZ-ofZ (fits-y c)) (y-is c .0)
 
-returns-2 : tie.Need-returns-2
-returns-2 c = search needs
-
 pub magnitude-spec : {M : Type 1} → statement M
-magnitude-spec = tie.close (tie.spec sub-result cast-result add-result cast-result-2 returns returns-2)
+magnitude-spec =
+    tie.close (tie.spec
+    (λ c. simp (toZ-ofZ (fits-x c)) (fits-y c)) cast-result add-result cast-result-2 returns (λ c. search needs))

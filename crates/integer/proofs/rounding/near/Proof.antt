@@ -1,113 +1,111 @@
--- `rounding::near` meets its contract: the truncated quotient, corrected by twice the remainder against d.
-use mathlib.Core.Path.{_≡_, subst}
-use Prim.Native.Nat.{_<_}
+-- `rounding::near` meets its contract: the truncated quotient, corrected where the remainder reaches half of d.
+use mathlib.Core.Path.{_≡_}
+use mathlib.Core.Bool.{true, false}
+use Prim.Native.Nat.{_+_, _*_, _≤_, _<_}
 use native.Mathlib.Omega.{arith}
-use lib.IntN.{ℤ, pos, natAbs, _-ℤ_, _*ℤ_}
-use lib.Signed.{_<ℤ_, _≤ℤ_}
+use native.Mathlib.Nat.{mul-div-le, lt-div-mul-add}
+use lib.IntN.{ℤ, pos, negsuc, natAbs, _+ℤ_, _-ℤ_}
+use lib.Signed.{shrZ, leZ, ltZ}
 use mir.Syntax.{w64}
-use mir.Val.{SFits}
+use mir.Val.{SFits, toZ, ofZ}
 use mir.Facts.{toZ-ofZ}
-use Rattle.integer.specs.Parts.{abs, apart, product, difference, abs-mul, abs-sub}
-use Rattle.integer.specs.Difference.{≤-parts, <-parts}
-use Rattle.integer.specs.Machine.{abs-fits, is-positive, positive-is, le-true, le-false, lt-true, lt-false}
+use Rattle.integer.specs.laws.Parts.{_⁺, _⁻, abs, apart, difference, le-yes, le-no, lt-yes, lt-no}
+use Rattle.integer.specs.laws.Machine.{fits, within, is-positive}
 use Rattle.integer.proofs.Division.{Operands, q, r, t, asks, q-is, r-is, q-up-fits, q-down-fits, near-above, near-below, near-at}
 use Rattle.integer.proofs.rounding.near.Statement.{statement}
 use Rattle.integer.proofs.rounding.near.Tie as tie
 
+-- d ≥ 1 is 2 h or 2 h + 1
+record Halved (d h : ℤ) : Type 0 where
+  positive : (0 < d ⁺) × (d ⁻ ≡ 0)
+  nonneg : h ⁻ ≡ 0
+  low : 2 * h ⁺ ≤ d ⁺
+  high : d ⁺ < 2 * h ⁺ + 2
+
+halved : (d : ℤ) → 0 < d ⁺ → Halved d (shrZ d 2)
+halved (pos n) p = record { positive = omega arith; nonneg = omega arith; low = omega (arith, mul-div-le n 2); high = omega (arith, lt-div-mul-add {a = n} {b = 2} (omega arith)) }
+halved (negsuc n) p = absurd (omega arith)
+
+-- what the tests say of the remainder r
+module _ (d h r : ℤ) (k : Halved d h) where
+  above : leZ (d -ℤ h) r ≡ true → natAbs d ≤ 2 * r ⁺
+  above e = omega (arith, abs d, difference d h, le-yes (d -ℤ h) r e)
+
+  not-above : leZ (d -ℤ h) r ≡ false → 2 * r ⁺ < natAbs d
+  not-above e = omega (arith, abs d, difference d h, apart r, le-no (d -ℤ h) r e)
+
+  below : ltZ r (pos 0 -ℤ h) ≡ true → natAbs d < 2 * r ⁻
+  below e = omega (arith, abs d, difference (pos 0) h, lt-yes r (pos 0 -ℤ h) e)
+
+  not-below : ltZ r (pos 0 -ℤ h) ≡ false → 2 * r ⁻ ≤ natAbs d
+  not-below e = omega (arith, abs d, difference (pos 0) h, apart r, lt-no r (pos 0 -ℤ h) e)
+
 module _ (s : tie.Start) where
   abbrev o : Operands
-  o = record { n = s .args .n; d = s .args .d; fits-n = s .fits .n; fits-d = s .fits .d; positive = s .pre .0 }
+  o = record { n = s .args .n; d = s .args .d; fits-n = s .fits .n; fits-d = s .fits .d; positive = s .pre }
 
   abbrev d : ℤ
   d = s .args .d
 
-  abbrev twice : ℤ
-  twice = pos 2 *ℤ r o
+  abbrev half : ℤ
+  half = shrZ d 2
 
-  d-is : d ≡ pos (natAbs d)
-  d-is = positive-is d (is-positive d (s .pre .0))
+  halves : Halved d half
+  halves = halved d (is-positive d (s .pre))
 
-  twice-fits : SFits w64 twice
-  twice-fits = abs-fits w64 twice (omega (arith, abs-mul (pos 2) (r o), t o .small, abs d, apart d, is-positive d (s .pre .0), ≤-parts d _ .0 (s .pre .1)))
+  half-fits : SFits w64 half
+  half-fits = fits w64 half (omega (arith, halves, within w64 d (s .fits .d))) (omega (arith, halves))
 
-  minus-fits : SFits w64 (pos 0 -ℤ d)
-  minus-fits = abs-fits w64 (pos 0 -ℤ d) (omega (arith, abs-sub (pos 0) d, abs d, apart d, is-positive d (s .pre .0), ≤-parts d _ .0 (s .pre .1)))
+  half-is : toZ w64 (ofZ w64 (shrZ (toZ w64 (ofZ w64 d)) 2)) ≡ half
+  half-is = simp (toZ-ofZ (s .fits .d), toZ-ofZ half-fits)
 
-div-q : tie.Need-div-q
-div-q s = asks (o s)
+  rest-fits : SFits w64 (d -ℤ half)
+  rest-fits =
+      fits w64 (d -ℤ half) (omega (arith, halves, difference d half, within w64 d (s .fits .d)))
+      (omega (arith, halves, difference d half, apart (d -ℤ half)))
 
-rem-r : tie.Need-rem-r
-rem-r s = asks (o s)
+  minus-fits : SFits w64 (pos 0 -ℤ half)
+  minus-fits =
+      fits w64 (pos 0 -ℤ half) (omega (arith, halves, difference (pos 0) half))
+      (omega (arith, halves, difference (pos 0) half, within w64 d (s .fits .d)))
 
-mul-t : tie.Need-mul-t
-mul-t s = rw (r-is (o s)) (twice-fits s)
-
--- d ≤ 2r
 module _ (c : tie.Then1) where
   abbrev s₁ : tie.Start
   s₁ = c .before
 
-  above : d s₁ ≤ℤ twice s₁
-  above = le-true (d s₁) (twice s₁) (rw (r-is (o s₁), toZ-ofZ (twice-fits s₁), toZ-ofZ (s₁ .fits .d)) at (c .if1 .taken))
+  at-above : natAbs (d s₁) ≤ 2 * r (o s₁) ⁺
+  at-above = above (d s₁) (half s₁) (r (o s₁)) (halves s₁) (rw (r-is (o s₁), half-is s₁, toZ-ofZ (s₁ .fits .d), toZ-ofZ (rest-fits s₁)) at (c .if1 .taken))
 
-  nonzero : 0 < natAbs (r (o s₁))
-  nonzero = omega (arith, abs (r (o s₁)), product (pos 2) (r (o s₁)), ≤-parts (d s₁) (twice s₁) .0 above, is-positive (d s₁) (s₁ .pre .0), apart (d s₁))
+  up-fits : SFits w64 (q (o s₁) +ℤ pos 1)
+  up-fits = q-up-fits (o s₁) (omega (arith, at-above, abs (d s₁), halves s₁))
 
-add-result : tie.Need-add-result
-add-result c = let o = o (c .before) in rw (q-is o) (q-up-fits o (nonzero c))
-
-sub-if2 : tie.Need-sub-if2
-sub-if2 c = let s = c .before in rw (toZ-ofZ (s .fits .d)) (minus-fits s)
-
--- 2r < d
-not-above : (c : tie.Else1) → twice (c .before) <ℤ pos (natAbs (d (c .before)))
-not-above c =
-    let s = c .before in
-    subst (λ z. twice s <ℤ z) (d-is s) (le-false (d s) (twice s) (rw (r-is (o s), toZ-ofZ (twice-fits s), toZ-ofZ (s .fits .d)) at (c .if1 .left)))
-
--- 2r < −d
 module _ (c : tie.Then2) where
   abbrev s₂ : tie.Start
   s₂ = c .before .before
 
-  below : twice s₂ <ℤ (pos 0 -ℤ d s₂)
-  below = lt-true (twice s₂) (pos 0 -ℤ d s₂) (rw (r-is (o s₂), toZ-ofZ (twice-fits s₂), toZ-ofZ (s₂ .fits .d), toZ-ofZ (minus-fits s₂)) at (c .if2 .taken))
+  at-below : natAbs (d s₂) < 2 * r (o s₂) ⁻
+  at-below = below (d s₂) (half s₂) (r (o s₂)) (halves s₂) (rw (r-is (o s₂), half-is s₂, toZ-ofZ (minus-fits s₂)) at (c .if2 .taken))
 
-  nonzero-below : 0 < natAbs (r (o s₂))
-  nonzero-below =
-      omega (
-        arith,
-        abs (r (o s₂)),
-        product (pos 2) (r (o s₂)),
-        <-parts (twice s₂) (pos 0 -ℤ d s₂) .0 below,
-        difference (pos 0) (d s₂),
-        is-positive (d s₂) (s₂ .pre .0),
-        apart (d s₂),
-      )
-
-sub-result : tie.Need-sub-result
-sub-result c = let o = o (c .before .before) in rw (q-is o) (q-down-fits o (nonzero-below c))
+  down-fits : SFits w64 (q (o s₂) -ℤ pos 1)
+  down-fits = q-down-fits (o s₂) (omega (arith, at-below))
 
 returns : tie.Need-returns
-returns c =
-    let s = c .before in
-    let o = o s in
-    rw (q-is o, toZ-ofZ (q-up-fits o (nonzero c))) (near-above (o .n) (natAbs (o .d)) (q o) (r o) (t o) (subst (λ z. z ≤ℤ twice s) (d-is s) (above c)))
+returns c = let o = o (c .before) in rw (q-is o, toZ-ofZ (up-fits c)) (near-above (o .n) (natAbs (o .d)) (q o) (r o) (t o) (at-above c))
 
 returns-2 : tie.Need-returns-2
-returns-2 c =
-    let s = c .before .before in
-    let o = o s in
-    rw (q-is o, toZ-ofZ (q-down-fits o (nonzero-below c))) (near-below (o .n) (natAbs (o .d)) (q o) (r o) (t o) (subst (λ z. twice s <ℤ (pos 0 -ℤ z)) (d-is s) (below c)))
+returns-2 c = let o = o (c .before .before) in rw (q-is o, toZ-ofZ (down-fits c)) (near-below (o .n) (natAbs (o .d)) (q o) (r o) (t o) (at-below c))
 
 returns-3 : tie.Need-returns-3
 returns-3 c =
     let s = c .before .before in
     let o = o s in
     rw (q-is o)
-    (near-at (o .n) (natAbs (o .d)) (q o) (r o) (t o) (not-above (c .before))
-    (subst (λ z. (pos 0 -ℤ z) ≤ℤ twice s) (d-is s)
-    (lt-false (twice s) (pos 0 -ℤ d s) (rw (r-is o, toZ-ofZ (twice-fits s), toZ-ofZ (s .fits .d), toZ-ofZ (minus-fits s)) at (c .if2 .left)))))
+    (near-at (o .n) (natAbs (o .d)) (q o) (r o) (t o)
+    (not-above (d s) (half s) (r o) (halves s) (rw (r-is o, half-is s, toZ-ofZ (s .fits .d), toZ-ofZ (rest-fits s)) at (c .before .if1 .left)))
+    (not-below (d s) (half s) (r o) (halves s) (rw (r-is o, half-is s, toZ-ofZ (minus-fits s)) at (c .if2 .left))))
 
 pub near-spec : {M : Type 1} → statement M
-near-spec = tie.close (tie.spec div-q rem-r mul-t add-result sub-if2 sub-result returns returns-2 returns-3)
+near-spec =
+    tie.close
+    (tie.spec (λ s. asks (o s)) (λ s. asks (o s)) (λ s. rw (half-is s, toZ-ofZ (s .fits .d)) (rest-fits s)) (λ c. rw (q-is (o (c .before))) (up-fits c))
+    (λ c. rw (half-is (c .before)) (minus-fits (c .before))) (λ c. rw (q-is (o (c .before .before))) (down-fits c)) returns returns-2 returns-3)

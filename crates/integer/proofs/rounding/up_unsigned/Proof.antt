@@ -3,15 +3,9 @@ use borrow.Author.Needs.{needs}
 use Prim.Native.Nat.{_+_, _*_, _/_, _≤_}
 use native.Mathlib.Omega.{arith}
 use native.Mathlib.Nat.{div-add-mod, mod-lt, mul-le-mul-left}
-use Rattle.integer.specs.RoundingLaws.{upℕ-unique}
+use Rattle.integer.specs.laws.RoundingLaws.{upℕ-unique}
 use Rattle.integer.proofs.rounding.up_unsigned.Statement.{statement}
 use Rattle.integer.proofs.rounding.up_unsigned.Tie as tie
-
-div-q : tie.Need-div-q
-div-q c = search needs
-
-rem-if1 : tie.Need-rem-if1
-rem-if1 c = search needs
 
 module _ (c : tie.Then1) where
   -- a remainder shows d ≥ 2
@@ -20,9 +14,6 @@ module _ (c : tie.Then1) where
       let n = c .before .args .n in
       let d = c .before .args .d in
       omega (arith, div-add-mod n d, mod-lt n {m = d} (c .before .pre), mul-le-mul-left {m = 2} {n = d} (n / d) (omega (arith, mod-lt n {m = d} (c .before .pre))))
-
-add-result : tie.Need-add-result
-add-result c = omega (arith, half c)
 
 returns : tie.Need-returns
 returns c =
@@ -37,4 +28,4 @@ returns-2 c =
     upℕ-unique n d (n / d) (c .before .pre) (omega (arith, div-add-mod n d)) (omega (arith, div-add-mod n d, c .before .pre))
 
 pub up-unsigned-spec : {M : Type 1} → statement M
-up-unsigned-spec = tie.close (tie.spec div-q rem-if1 add-result returns returns-2)
+up-unsigned-spec = tie.close (tie.spec (λ c. search needs) (λ c. search needs) (λ c. omega (arith, half c)) returns returns-2)

@@ -9,48 +9,24 @@ use lib.ListN.{length}
 use mir.Syntax.{w32}
 use mir.Facts.{toZ-ofZ}
 use denote.Ref.{now}
-use Rattle.model.specs.Models.{places}
-use Rattle.integer.specs.Filling.{Filling, begins, turn, ends}
-use Rattle.job.specs.Bytes.{signedsAt, signed, unsignedAt}
+use Rattle.model.specs.definitions.Models.{coefficientCount}
+use Rattle.integer.specs.laws.Filling.{Filling, begins, turn, ends}
+use Rattle.job.specs.definitions.Bytes.{signedsAt, signed, unsignedAt}
 use Rattle.job.proofs.ByteLaws.{length-signedsAt, getD-signedsAt}
 use Rattle.job.proofs.bytes.read_coefficients.Statement.{statement}
 use Rattle.job.proofs.bytes.read_coefficients.Tie as tie
 
 abbrev Inv-loop : tie.InvT-loop
 Inv-loop s i coefficients₀ k₀ coefficients k =
-    (i + 132 ≤ length s) × Filling (signedsAt s i places) coefficients₀ coefficients 0 places k
+    (i + 132 ≤ length s) × Filling (signedsAt s i coefficientCount) coefficients₀ coefficients 0 coefficientCount k
 
 abbrev μ-loop : tie.MeasureT-loop
-μ-loop s i coefficients₀ k₀ coefficients k = places - k
+μ-loop s i coefficients₀ k₀ coefficients k = coefficientCount - k
 
 loop-holds : tie.Need-loop-holds Inv-loop μ-loop
 loop-holds c =
     let g = c .before .args in
-    (search needs, begins _ _ 0 places (length-signedsAt (now (g .s)) (g .i) places) (search needs))
-
-mul-read-unsigned : tie.Need-mul-read-unsigned Inv-loop μ-loop
-mul-read-unsigned c = search needs
-
-add-read-unsigned : tie.Need-add-read-unsigned Inv-loop μ-loop
-add-read-unsigned c = search needs
-
-read-unsigned-requires : tie.Need-read-unsigned-requires Inv-loop μ-loop
-read-unsigned-requires c κs = search needs
-
-to-signed-requires : tie.Need-to-signed-requires Inv-loop μ-loop
-to-signed-requires c κs = search needs
-
-mul-coefficients : tie.Need-mul-coefficients Inv-loop μ-loop
-mul-coefficients c = search needs
-
-array-set-from-coefficients : tie.Need-array-set-from-coefficients Inv-loop μ-loop
-array-set-from-coefficients c = search needs
-
-add-k : tie.Need-add-k Inv-loop μ-loop
-add-k c = search needs
-
-loop-less : tie.Need-loop-less Inv-loop μ-loop
-loop-less c = search needs
+    (search needs, begins _ _ 0 coefficientCount (length-signedsAt (now (g .s)) (g .i) coefficientCount) (search needs))
 
 loop-again : tie.Need-loop-again Inv-loop μ-loop
 loop-again c =
@@ -61,29 +37,17 @@ loop-again c =
       l .inv .0,
       rw (toZ-ofZ {w = w32} {z = c .to-signed .result} (search needs))
           (turn (l .k) (c .to-signed .result) (pos 0) (l .inv .1) (omega arith) (omega arith)
-          (v ∙ sym (getD-signedsAt (now (g .s)) (g .i) places (l .k) (pos 0) (omega arith)))),
+          (v ∙ sym (getD-signedsAt (now (g .s)) (g .i) coefficientCount (l .k) (pos 0) (omega arith)))),
     )
 
 returns : tie.Need-returns Inv-loop μ-loop
 returns c =
     let l = c .before .loop in
     let g = c .before .before .before .args in
-    ends (l .inv .1) (c .loop-test .left) ∙ append-nil (signedsAt (now (g .s)) (g .i) places)
+    ends (l .inv .1) (c .loop-test .left) ∙ append-nil (signedsAt (now (g .s)) (g .i) coefficientCount)
 
 pub read-coefficients-spec : {M : Type 1} → statement M
 read-coefficients-spec =
-    tie.close
-    (tie.spec
-    Inv-loop
-    μ-loop
-    loop-holds
-    mul-read-unsigned
-    add-read-unsigned
-    read-unsigned-requires
-    to-signed-requires
-    mul-coefficients
-    array-set-from-coefficients
-    add-k
-    loop-less
-    loop-again
-    returns)
+    tie.close (tie.spec
+    Inv-loop μ-loop loop-holds (λ c. search needs) (λ c. search needs) (λ c κs. search needs) (λ c κs. search needs)
+    (λ c. search needs) (λ c. search needs) (λ c. search needs) (λ c. search needs) loop-again returns)

@@ -1,71 +1,28 @@
 -- `operations::load` meets its contract.
 use borrow.Author.Needs.{needs}
-use mathlib.Core.Path.{_≡_, ap, sym, _∙_}
-use mathlib.Core.List.{List}
+use mathlib.Core.Path.{ap, sym, _∙_}
+use Prim.Native.Nat.{_+_}
 use denote.Ref.{now}
-use Rattle.model.specs.Models.{outcomeOf}
-use Rattle.model.specs.declared.types.Model.{Model}
-use Rattle.job.specs.Bytes.{blockAt}
-use Rattle.job.specs.Commands.{commandAt}
-use Rattle.job.specs.Jobs.{operation}
-use Rattle.job.specs.declared.types.Kind.the-variants.{Load}
-use Rattle.job.proofs.OperationLaws.{performs, loaded, loaded-storable, loaded-good, loaded-bad}
+use Rattle.model.specs.definitions.Operations.{loading}
+use Rattle.job.specs.definitions.Bytes.{blockAt, unsignedAt}
+use Rattle.job.specs.definitions.Commands.{makerAt}
+use Rattle.job.specs.definitions.InnerContracts.{untestedOutcome}
+use Rattle.job.specs.laws.MakerLaws.{load-operation}
+use Rattle.job.proofs.OperationLaws.{performs-untested, loading-storable}
 use Rattle.job.proofs.operations.load.Statement.{statement}
 use Rattle.job.proofs.operations.load.Tie as tie
 
--- the model that was read is the one that the command loads
-module _ (c : tie.After-read-model) where
-  abbrev m : Model
-  m = c .read-model .result
-
-  loads : (rs : List Model)
-      → loaded m ≡ operation (commandAt Load (now (c .before .before .before .args .job)) (c .before .before .before .args .at)) rs
-  unfolding commandAt operation
-  loads rs = ap loaded (c .read-model .ensures ∙ ap (blockAt _ _) (c .before .read-unsigned .ensures))
-
-add-read-model : tie.Need-add-read-model
-add-read-model c = search needs
-
-add-read-unsigned : tie.Need-add-read-unsigned
-add-read-unsigned c = search needs
-
-read-unsigned-requires : tie.Need-read-unsigned-requires
-read-unsigned-requires c κs = search needs
-
-read-model-requires : tie.Need-read-model-requires
-read-model-requires c κs = search needs
-
-is-good-requires : tie.Need-is-good-requires
-is-good-requires c κs = search needs
-
-refused-requires : tie.Need-refused-requires
-refused-requires c κs = search needs
-
 returns : tie.Need-returns
+unfolding makerAt
 returns c =
-    let d = c .before .before in
-    λ w. performs
-    (loaded-good (m d) (sym (c .before .is-good .ensures) ∙ c .if1 .taken))
-    (loaded-storable (m d))
-    (λ count rs t h n. loads d rs)
-
-returns-2 : tie.Need-returns-2
-returns-2 c =
-    let d = c .before .before .before in
-    λ w. performs
-    (ap outcomeOf (c .refused .ensures) ∙ loaded-bad (m d) (sym (c .before .before .is-good .ensures) ∙ c .before .if1 .left))
-    (loaded-storable (m d))
-    (λ count rs t h n. loads d rs)
+    let l = c .before in
+    let r = l .before in
+    let u = r .before in
+    let g = u .before .before .args in
+    let m = blockAt (now (g .job)) (g .at + 1) (unsignedAt (now (g .job)) (g .at + 134)) in
+    let e = r .read-model .ensures ∙ ap (blockAt (now (g .job)) (g .at + 1)) (u .read-unsigned .ensures) in
+    λ w. performs-untested (loading m) (c .untested .ensures ∙ ap untestedOutcome (l .load .ensures ∙ ap loading e)) (loading-storable m)
+    (λ count rs t h n. sym (load-operation m rs))
 
 pub load-spec : {M : Type 1} → statement M
-load-spec =
-    tie.close
-    (tie.spec
-    add-read-model
-    add-read-unsigned
-    read-unsigned-requires
-    read-model-requires
-    is-good-requires
-    refused-requires
-    returns
-    returns-2)
+load-spec = tie.close (tie.spec (λ c. search needs) (λ c. search needs) (λ c κs. search needs) (λ c κs. search needs) (λ c κs. search needs) (λ c κs. search needs) returns)

@@ -1,54 +1,42 @@
 -- `operations::multiply` meets its contract.
-use mathlib.Core.Path.{ap, _∙_}
+use mathlib.Core.Path.{ap, sym, _∙_}
 use Prim.Native.Nat.{ℕ, _+_}
 use native.Mathlib.Omega.{arith}
 use denote.Ref.{now}
-use Rattle.model.specs.Operations.{multiplication}
-use Rattle.model.specs.OutcomeFits.{multiplication-storable}
-use Rattle.job.specs.Bytes.{byteAt}
-use Rattle.job.specs.Commands.{commandAt, keptByte}
-use Rattle.job.specs.Jobs.{operation}
-use Rattle.job.proofs.OperationLaws.{performs, held-two}
+use Rattle.model.specs.definitions.Operations.{multiplication}
+use Rattle.model.specs.laws.ResultLaws.{multiplication-storable}
+use Rattle.job.specs.definitions.Bytes.{byteAt}
+use Rattle.job.specs.definitions.Commands.{makerAt, keptByte}
+use Rattle.job.specs.definitions.InnerContracts.{untestedOutcome}
+use Rattle.job.specs.laws.MakerLaws.{multiply-operation}
+use Rattle.job.proofs.OperationLaws.{performs-untested, held-two}
 use borrow.Author.Needs.{needs}
 use Rattle.job.proofs.operations.multiply.Statement.{statement}
 use Rattle.job.proofs.operations.multiply.Tie as tie
 
 read-operands-requires : tie.Need-read-operands-requires
-unfolding commandAt
+unfolding makerAt
 read-operands-requires c κs = let p = c .before .pre in record { names = p .names; room = omega arith; long = p .long }
 
-add-kept-degree : tie.Need-add-kept-degree
-add-kept-degree c = search needs
-
-shared-slice-read-kept-degree : tie.Need-shared-slice-read-kept-degree
-shared-slice-read-kept-degree c = search needs
-
-kept-degree-requires : tie.Need-kept-degree-requires
-kept-degree-requires c κs = search needs
-
-multiply-requires : tie.Need-multiply-requires
-multiply-requires c κs = search needs
-
 returns : tie.Need-returns
-unfolding commandAt operation
+unfolding makerAt
 returns c =
-    let d = c .before .before .before in
+    let m = c .before in
+    let d = m .before .before .before in
     let o = d .read-operands in
     let g = d .before .before .args in
     let k = keptByte (byteAt (now (g .job)) (g .at + 3)) in
-    performs (c .multiply .ensures ∙ ap (λ (n : ℕ). multiplication n (o .result .first) (o .result .second)) (c .before .kept-degree .ensures))
-    (multiplication-storable k _ _)
+    let kept = ap (λ (n : ℕ). multiplication n (o .result .first) (o .result .second)) (m .before .kept-degree .ensures) in
+    let a = o .result .first in
+    let b = o .result .second in
+    performs-untested (multiplication k a b) (c .untested .ensures ∙ ap untestedOutcome (m .multiply .ensures ∙ kept))
+    (multiplication-storable k a b)
     (λ count rs t h n.
-    held-two h (multiplication k) _ _ (byteAt (now (g .job)) (g .at + 1)) (byteAt (now (g .job)) (g .at + 2))
-    (o .ensures .0) (o .ensures .1) n)
+    held-two h (λ f g. untestedOutcome (multiplication k f g)) a b (byteAt (now (g .job)) (g .at + 1)) (byteAt (now (g .job)) (g .at + 2))
+    (o .ensures .0) (o .ensures .1) n ∙ sym (multiply-operation _ _ k rs))
 
 pub multiply-spec : {M : Type 1} → statement M
 multiply-spec =
-    tie.close
-    (tie.spec
-    read-operands-requires
-    add-kept-degree
-    shared-slice-read-kept-degree
-    kept-degree-requires
-    multiply-requires
-    returns)
+    tie.close (tie.spec
+    read-operands-requires (λ c. search needs) (λ c. search needs) (λ c κs. search needs) (λ c κs. search needs)
+    (λ c κs. search needs) returns)

@@ -1,109 +1,25 @@
--- `operations::operate` meets its contract.
-use mathlib.Core.Path.{refl, sym, _∙_}
-use mathlib.Core.Bool.{false≢true}
+-- `operations::operate` meets its contract: in each arm the operation is the arm's.
 use native.Mathlib.Omega.{arith}
-use denote.Ref.{now}
-use Rattle.job.proofs.KindLaws.{makes-never}
 use borrow.Author.Needs.{needs}
+use Rattle.job.proofs.OperationLaws.{operable-told, performs-told}
 use Rattle.job.proofs.operations.operate.Statement.{statement}
 use Rattle.job.proofs.operations.operate.Tie as tie
-
-enum-told : tie.Need-enum-told
-enum-told c = search needs
 
 load-requires : tie.Need-load-requires
 load-requires c κs = let o = rw (c .enum-told .given .1) at (c .before .before .before .pre .0) in omega (arith, o .room)
 
-enum-told-2 : tie.Need-enum-told-2
-enum-told-2 c = search needs
-
-add-requires : tie.Need-add-requires
-add-requires c κs = rw (c .enum-told2 .given .1) at (c .before .before .before .pre .0)
-
-enum-told-3 : tie.Need-enum-told-3
-enum-told-3 c = search needs
-
-subtract-requires : tie.Need-subtract-requires
-subtract-requires c κs = rw (c .enum-told3 .given .1) at (c .before .before .before .pre .0)
-
-enum-told-4 : tie.Need-enum-told-4
-enum-told-4 c = search needs
-
-multiply-requires : tie.Need-multiply-requires
-multiply-requires c κs = rw (c .enum-told4 .given .1) at (c .before .before .before .pre .0)
-
-enum-told-5 : tie.Need-enum-told-5
-enum-told-5 c = search needs
-
-quotient-requires : tie.Need-quotient-requires
-quotient-requires c κs =
-    let p = c .before .before .before .before .pre in
-    (rw (c .before .enum-told5 .given .1) at (p .0), p .1)
-
-enum-told-6 : tie.Need-enum-told-6
-enum-told-6 c = search needs
-
-root-requires : tie.Need-root-requires
-root-requires c κs =
-    let p = c .before .before .before .before .pre in
-    (rw (c .before .enum-told6 .given .1) at (p .0), p .1)
-
-refused-requires : tie.Need-refused-requires
-refused-requires c κs = search needs
-
-returns : tie.Need-returns
-returns c = rw (c .before .enum-told .given .1) (c .load .ensures _, refl)
-
-returns-2 : tie.Need-returns-2
-returns-2 c = rw (c .before .enum-told2 .given .1) (c .add .ensures, refl)
-
-returns-3 : tie.Need-returns-3
-returns-3 c = rw (c .before .enum-told3 .given .1) (c .subtract .ensures, refl)
-
-returns-4 : tie.Need-returns-4
-returns-4 c = rw (c .before .enum-told4 .given .1) (c .multiply .ensures, refl)
-
-same-length : tie.Need-same-length
-same-length c = search needs
-
-returns-5 : tie.Need-returns-5
-returns-5 c = rw (c .before .before .before .enum-told5 .given .1) (c .before .quotient .ensures)
-
-same-length-2 : tie.Need-same-length-2
-same-length-2 c = search needs
-
-returns-6 : tie.Need-returns-6
-returns-6 c = rw (c .before .before .before .enum-told6 .given .1) (c .before .root .ensures)
-
-returns-7 : tie.Need-returns-7
-returns-7 c =
-    let g = c .before .before .before in
-    let n = makes-never (g .args .kind) (now (g .args .job)) (g .args .at) (c .before .match .keys7) in
-    absurd (false≢true (sym n ∙ g .pre .0 .makes))
-
 pub operate-spec : {M : Type 1} → statement M
 operate-spec =
-    tie.close
-    (tie.spec
-    enum-told
-    load-requires
-    enum-told-2
-    add-requires
-    enum-told-3
-    subtract-requires
-    enum-told-4
-    multiply-requires
-    enum-told-5
-    quotient-requires
-    enum-told-6
-    root-requires
-    refused-requires
-    returns
-    returns-2
-    returns-3
-    returns-4
-    same-length
-    returns-5
-    same-length-2
-    returns-6
-    returns-7)
+    tie.close (tie.spec
+    (λ c. search needs) load-requires
+    (λ c. search needs) (λ c κs. search (needs, operable-told))
+    (λ c. search needs) (λ c κs. search (needs, operable-told))
+    (λ c. search needs) (λ c κs. search (needs, operable-told))
+    (λ c. search needs) (λ c κs. search (needs, operable-told))
+    (λ c. search needs) (λ c κs. search (needs, operable-told))
+    (λ c. search (needs, performs-told, c .load .ensures))
+    (λ c. search (needs, performs-told))
+    (λ c. search (needs, performs-told))
+    (λ c. search (needs, performs-told))
+    (λ c. search needs) (λ c. search (needs, performs-told))
+    (λ c. search needs) (λ c. search (needs, performs-told)))

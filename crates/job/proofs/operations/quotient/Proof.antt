@@ -1,49 +1,28 @@
 -- `operations::quotient` meets its contract.
-use mathlib.Core.Path.{ap, ap₂, _∙_}
+use mathlib.Core.Path.{ap₂, sym, _∙_}
 use Prim.Native.Nat.{_+_}
 use native.Mathlib.Omega.{arith}
 use lib.ListN.{length}
 use denote.Ref.{now}
-use Rattle.certificate.specs.Tests.{scratchPlaces, quotientOf}
-use Rattle.certificate.specs.Stages.{quotient-room}
-use Rattle.certificate.specs.TestFits.{quotient-storable}
-use Rattle.job.specs.Bytes.{byteAt, blockAt}
-use Rattle.job.specs.Commands.{commandAt}
-use Rattle.job.specs.Jobs.{fromTest, operation}
+use Rattle.certificate.specs.definitions.Tests.{scratchSize, quotientOutcome}
+use Rattle.certificate.specs.laws.Stages.{quotient-room}
+use Rattle.certificate.specs.laws.TestFits.{quotient-storable}
+use Rattle.job.specs.definitions.Bytes.{byteAt, blockAt}
+use Rattle.job.specs.definitions.Commands.{makerAt}
+use Rattle.job.specs.laws.MakerLaws.{quotient-operation}
 use Rattle.job.proofs.OperationLaws.{performs, held-two}
 use borrow.Author.Needs.{needs}
 use Rattle.job.proofs.operations.quotient.Statement.{statement}
 use Rattle.job.proofs.operations.quotient.Tie as tie
 
 read-operands-requires : tie.Need-read-operands-requires
-unfolding commandAt
+unfolding makerAt
 read-operands-requires c κs = let p = c .before .pre .0 in record { names = p .names; room = omega arith; long = p .long }
 
-add-read-candidate : tie.Need-add-read-candidate
-add-read-candidate c = search needs
-
-read-candidate-requires : tie.Need-read-candidate-requires
-read-candidate-requires c κs = search needs
-
-add-read-candidate-2 : tie.Need-add-read-candidate-2
-add-read-candidate-2 c = search needs
-
-read-candidate-requires-2 : tie.Need-read-candidate-requires-2
-read-candidate-requires-2 c κs = search needs
-
-quotient-requires : tie.Need-quotient-requires
-quotient-requires c κs = search needs
-
-outcome-requires : tie.Need-outcome-requires
-outcome-requires c κs = search needs
-
-same-length : tie.Need-same-length
-same-length c = search needs
-
 returns : tie.Need-returns
-unfolding commandAt operation
+unfolding makerAt
 returns c =
-    let q = c .before .before in
+    let q = c .before in
     let d = q .before .before in
     let o = d .before .before in
     let s = o .before .before in
@@ -55,28 +34,19 @@ returns c =
     let h = blockAt job (at + 3) 0 in
     let w = blockAt job (at + 136) 0 in (
       performs
-          (c .outcome .ensures
-          ∙ ap fromTest
           (q .quotient .ensures .0
-          ∙ ap₂ (quotientOf len f g) (d .before .read-candidate .ensures) (d .read-candidate2 .ensures)
-          ∙ quotient-room len f g h w (s .pre .1 .long)))
-          (quotient-storable scratchPlaces f g h w)
+          ∙ ap₂ (quotientOutcome len f g) (d .before .read-candidate .ensures) (d .read-candidate2 .ensures)
+          ∙ quotient-room len f g h w (s .pre .1 .long))
+          (quotient-storable scratchSize f g h w)
           (λ count rs t z n.
-          held-two z (λ f g. fromTest (quotientOf scratchPlaces f g h w)) f g (byteAt job (at + 1)) (byteAt job (at + 2))
-          (o .read-operands .ensures .0) (o .read-operands .ensures .1) n),
+          held-two z (λ f g. quotientOutcome scratchSize f g h w) f g (byteAt job (at + 1)) (byteAt job (at + 2))
+          (o .read-operands .ensures .0) (o .read-operands .ensures .1) n
+          ∙ sym (quotient-operation _ _ h w rs)),
       q .quotient .ensures .1 ∙ s .pre .1 .clear,
     )
 
 pub quotient-spec : {M : Type 1} → statement M
 quotient-spec =
-    tie.close
-    (tie.spec
-    read-operands-requires
-    add-read-candidate
-    read-candidate-requires
-    add-read-candidate-2
-    read-candidate-requires-2
-    quotient-requires
-    outcome-requires
-    same-length
-    returns)
+    tie.close (tie.spec
+    read-operands-requires (λ c. search needs) (λ c κs. search needs) (λ c. search needs) (λ c κs. search needs)
+    (λ c κs. search needs) (λ c. search needs) returns)

@@ -3,9 +3,9 @@ use borrow.Author.Needs.{needs}
 use Prim.Native.Nat.{_+_, _<_}
 use native.Mathlib.Omega.{arith}
 use denote.Ref.{now}
-use Rattle.job.specs.Bytes.{byteAt}
-use Rattle.job.specs.Commands.{maxResults}
-use Rattle.job.specs.CommandLaws.{both-below}
+use Rattle.job.specs.definitions.Bytes.{byteAt}
+use Rattle.job.specs.definitions.Commands.{maxResults}
+use Rattle.job.specs.laws.CommandLaws.{both-below}
 use Rattle.job.proofs.operations.read_operands.Statement.{statement}
 use Rattle.job.proofs.operations.read_operands.Tie as tie
 
@@ -14,20 +14,18 @@ named : (c : tie.Start)
     → (byteAt (now (c .args .job)) (c .args .at + 1) < maxResults) × (byteAt (now (c .args .job)) (c .args .at + 2) < maxResults)
 named c = both-below maxResults (byteAt (now (c .args .job)) (c .args .at + 1)) (byteAt (now (c .args .job)) (c .args .at + 2)) (c .pre .names)
 
-add-named : tie.Need-add-named
-add-named c = search needs
-
 named-requires : tie.Need-named-requires
-named-requires c κs = let b = named (c .before) in omega arith
-
-add-named-2 : tie.Need-add-named-2
-add-named-2 c = search needs
+named-requires c κs =
+    let s = c .before in
+    record { inside = omega (arith, s .pre .room); name = named s .0; long = s .pre .long }
 
 named-requires-2 : tie.Need-named-requires-2
-named-requires-2 c κs = let b = named (c .before .before) in omega arith
+named-requires-2 c κs =
+    let s = c .before .before in
+    record { inside = omega (arith, s .pre .room); name = named s .1; long = s .pre .long }
 
 returns : tie.Need-returns
 returns c = (c .before .named .ensures, c .named2 .ensures)
 
 pub read-operands-spec : {M : Type 1} → statement M
-read-operands-spec = tie.close (tie.spec add-named named-requires add-named-2 named-requires-2 returns)
+read-operands-spec = tie.close (tie.spec (λ c. search needs) named-requires (λ c. search needs) named-requires-2 returns)

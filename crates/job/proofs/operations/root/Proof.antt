@@ -1,55 +1,36 @@
 -- `operations::root` meets its contract.
-use mathlib.Core.Path.{ap, ap₂, _∙_}
+use mathlib.Core.Path.{ap₂, sym, _∙_}
 use Prim.Native.Nat.{_+_}
 use native.Mathlib.Omega.{arith}
 use borrow.Author.Tests.{leb-false}
 use lib.ListN.{length}
 use denote.Ref.{now}
-use Rattle.certificate.specs.Tests.{scratchPlaces, rootOf}
-use Rattle.certificate.specs.TestFits.{root-storable}
-use Rattle.job.specs.Bytes.{byteAt, blockAt}
-use Rattle.job.specs.Commands.{maxResults, commandAt}
-use Rattle.job.specs.Jobs.{fromTest, operation}
-use Rattle.job.proofs.OperationLaws.{performs, held-one, root-room}
+use Rattle.certificate.specs.definitions.Tests.{scratchSize, byDiscriminant, rootOutcome}
+use Rattle.certificate.specs.laws.Stages.{root-room}
+use Rattle.certificate.specs.laws.TestFits.{root-storable}
+use Rattle.job.specs.definitions.Bytes.{byteAt, blockAt}
+use Rattle.job.specs.definitions.Commands.{maxResults, makerAt}
+use Rattle.job.specs.laws.MakerLaws.{root-operation}
+use Rattle.job.proofs.OperationLaws.{performs, held-one}
 use borrow.Author.Needs.{needs}
 use Rattle.job.proofs.operations.root.Statement.{statement}
 use Rattle.job.proofs.operations.root.Tie as tie
 
-add-named : tie.Need-add-named
-add-named c = search needs
-
 named-requires : tie.Need-named-requires
-unfolding commandAt
+unfolding makerAt
 named-requires c κs =
     let g = c .before .args in
-    let b = leb-false maxResults (byteAt (now (g .job)) (g .at + 1)) (c .before .pre .0 .names) in
-    omega (arith, b, c .before .pre .0 .room, c .before .pre .0 .long)
-
-add-read-candidate : tie.Need-add-read-candidate
-add-read-candidate c = search needs
-
-read-candidate-requires : tie.Need-read-candidate-requires
-read-candidate-requires c κs = search needs
-
-add-read-candidate-2 : tie.Need-add-read-candidate-2
-add-read-candidate-2 c = search needs
-
-read-candidate-requires-2 : tie.Need-read-candidate-requires-2
-read-candidate-requires-2 c κs = search needs
-
-root-requires : tie.Need-root-requires
-root-requires c κs = search needs
-
-outcome-requires : tie.Need-outcome-requires
-outcome-requires c κs = search needs
-
-same-length : tie.Need-same-length
-same-length c = search needs
+    let p = c .before .pre .0 in
+    record {
+      inside = omega (arith, p .room);
+      name = leb-false maxResults (byteAt (now (g .job)) (g .at + 1)) (p .names);
+      long = p .long;
+    }
 
 returns : tie.Need-returns
-unfolding commandAt operation
+unfolding makerAt
 returns c =
-    let q = c .before .before in
+    let q = c .before in
     let d = q .before .before in
     let e = d .before .before in
     let s = e .before .before in
@@ -60,27 +41,18 @@ returns c =
     let h = blockAt job (at + 2) 0 in
     let w = blockAt job (at + 135) 0 in (
       performs
-          (c .outcome .ensures
-          ∙ ap fromTest
           (q .root .ensures .0
-          ∙ ap₂ (rootOf len f) (d .before .read-candidate .ensures) (d .read-candidate2 .ensures)
-          ∙ root-room len f h w (s .pre .1 .long)))
-          (root-storable scratchPlaces f h w)
-          (λ count rs t z n. held-one z (λ f. fromTest (rootOf scratchPlaces f h w)) f (byteAt job (at + 1)) (e .named .ensures) n),
+          ∙ ap₂ (rootOutcome byDiscriminant len f) (d .before .read-candidate .ensures) (d .read-candidate2 .ensures)
+          ∙ root-room len f h w (s .pre .1 .long))
+          (root-storable scratchSize f h w)
+          (λ count rs t z n.
+          held-one z (λ f. rootOutcome byDiscriminant scratchSize f h w) f (byteAt job (at + 1)) (e .named .ensures) n
+          ∙ sym (root-operation byDiscriminant _ h w rs)),
       q .root .ensures .1 ∙ s .pre .1 .clear,
     )
 
 pub root-spec : {M : Type 1} → statement M
 root-spec =
-    tie.close
-    (tie.spec
-    add-named
-    named-requires
-    add-read-candidate
-    read-candidate-requires
-    add-read-candidate-2
-    read-candidate-requires-2
-    root-requires
-    outcome-requires
-    same-length
-    returns)
+    tie.close (tie.spec
+    (λ c. search needs) named-requires (λ c. search needs) (λ c κs. search needs) (λ c. search needs) (λ c κs. search needs)
+    (λ c κs. search needs) (λ c. search needs) returns)

@@ -4,15 +4,6 @@ use Rattle.job.proofs.KindLaws.{badKind-plain}
 use Rattle.job.proofs.reading.is_bad_kind.Statement.{statement}
 use Rattle.job.proofs.reading.is_bad_kind.Tie as tie
 
-enum-told : tie.Need-enum-told
-enum-told c = search needs
-
-enum-told-2 : tie.Need-enum-told-2
-enum-told-2 c = search needs
-
-returns : tie.Need-returns
-returns c = search needs
-
 returns-2 : tie.Need-returns-2
 returns-2 c = rw (c .enum-told2 .given .1)
 
@@ -20,4 +11,4 @@ returns-3 : tie.Need-returns-3
 returns-3 c = badKind-plain (c .before .args .k) (c .before .args .kind) (c .match .keys3)
 
 pub is-bad-kind-spec : {M : Type 1} → statement M
-is-bad-kind-spec = tie.close (tie.spec enum-told enum-told-2 returns returns-2 returns-3)
+is-bad-kind-spec = tie.close (tie.spec (λ c. search needs) (λ c. search needs) (λ c. search needs) returns-2 returns-3)

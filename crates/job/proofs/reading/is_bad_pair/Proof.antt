@@ -4,21 +4,6 @@ use borrow.Author.Needs.{needs}
 use Rattle.job.proofs.reading.is_bad_pair.Statement.{statement}
 use Rattle.job.proofs.reading.is_bad_pair.Tie as tie
 
-shared-slice-read-is-bad-name : tie.Need-shared-slice-read-is-bad-name
-shared-slice-read-is-bad-name c = search needs
-
-is-bad-name-requires : tie.Need-is-bad-name-requires
-is-bad-name-requires c κs = search needs
-
-add-is-bad-name : tie.Need-add-is-bad-name
-add-is-bad-name c = search needs
-
-shared-slice-read-is-bad-name-2 : tie.Need-shared-slice-read-is-bad-name-2
-shared-slice-read-is-bad-name-2 c = search needs
-
-is-bad-name-requires-2 : tie.Need-is-bad-name-requires-2
-is-bad-name-requires-2 c κs = search needs
-
 returns : tie.Need-returns
 returns c = rw (sym (c .before .is-bad-name .ensures) ∙ c .if1 .taken)
 
@@ -27,12 +12,6 @@ returns-2 c = rw (sym (c .before .before .before .is-bad-name .ensures) ∙ c .b
 
 pub is-bad-pair-spec : {M : Type 1} → statement M
 is-bad-pair-spec =
-    tie.close
-    (tie.spec
-    shared-slice-read-is-bad-name
-    is-bad-name-requires
-    add-is-bad-name
-    shared-slice-read-is-bad-name-2
-    is-bad-name-requires-2
-    returns
-    returns-2)
+    tie.close (tie.spec
+    (λ c. search needs) (λ c. search needs) (λ c κs. search needs) (λ c. search needs) (λ c. search needs)
+    (λ c κs. search needs) returns returns-2)

@@ -7,10 +7,12 @@ use Prim.Native.Nat.{ℕ, _+_, _≤_}
 use native.Mathlib.Omega.{arith}
 use lib.ListN.{length, drop}
 use denote.Ref.{now}
-use Rattle.model.specs.Models.{firstRefusal}
-use Rattle.job.specs.Commands.{widthOf, readOutcome, readingNumber, readingPlaces}
+use Rattle.model.specs.definitions.Outcomes.{passing}
+use Rattle.job.specs.definitions.Commands.{nameBytes, valueBytes, shapeAt, commandReading, readingPlaces}
+use Rattle.job.specs.declared.types.Kind.{Kind}
 use Rattle.job.specs.declared.types.Shape.{Shape}
-use Rattle.job.proofs.ReadingLaws.{read-with, placesWith, outcomeWith}
+use Rattle.job.proofs.KindLaws.{agrees}
+use Rattle.job.proofs.ReadingLaws.{read-with, placesWith, readingWith}
 use Rattle.job.proofs.reading.read_command.Statement.{statement}
 use Rattle.job.proofs.reading.read_command.Tie as tie
 
@@ -34,18 +36,18 @@ module _ (a : tie.After-shape-of) where
 
   -- the first n places are passed: what is read is what those behind say
   abbrev Left : ℕ → Type 0
-  Left n = readOutcome job k count at ≡ outcomeWith job k count at s (firstRefusal (drop n (placesWith job k count at s)))
+  Left n = commandReading job k count at ≡ readingWith job k count at s (drop n (placesWith job k count at s))
 
 -- ---- the tests that failed
 
 left1 : (a : tie.After-shape-of) → Left a 1
-unfolding firstRefusal
+unfolding passing
 left1 a =
     rw (read-with (job a) (k a) (count a) (at a) (s a) (a .shape-of .ensures))
     (simp (lt-leb (length (job a)) (at a) (a .before .before .if1 .left)))
 
 left2 : (c : tie.Else2) → Left (c .before .before) 2
-unfolding firstRefusal
+unfolding passing
 left2 c = rw (left1 (c .before .before)) (simp (sym (c .before .is-bad-kind .ensures) ∙ c .if2 .left))
 
 module _ (c : tie.Else3) where
@@ -55,116 +57,78 @@ module _ (c : tie.Else3) where
   room : at a3 + 1 + s a3 .width ≤ length (job a3)
   room = omega (arith, c .if3 .left, a3 .before .before .if1 .left)
 
-  fits : at a3 + 1 + widthOf (s a3 .kind) ≤ length (job a3)
-  fits = let w : s a3 .width ≡ widthOf (s a3 .kind) = rw (a3 .shape-of .ensures) in omega (arith, room)
+  abbrev kind3 : Kind
+  kind3 = shapeAt (job a3) (k a3) (count a3) (at a3) .kind
+
+  values-fit : at a3 + 1 + valueBytes (s a3 .values) ≤ length (job a3)
+  values-fit =
+      let i : valueBytes (s a3 .values) ≤ s a3 .width = rw (a3 .shape-of .ensures) (agrees kind3 .values-inside) in
+      omega (arith, room)
+
+  names-fit : at a3 + 1 + nameBytes (s a3 .names) ≤ length (job a3)
+  names-fit =
+      let i : nameBytes (s a3 .names) ≤ s a3 .width = rw (a3 .shape-of .ensures) (agrees kind3 .names-inside) in
+      omega (arith, room)
 
   left3 : Left a3 3
-  unfolding firstRefusal
+  unfolding passing
   left3 = rw (left2 (c .before .before)) (simp (le-ltb (length (job a3)) (at a3 + 1 + s a3 .width) room))
 
 left4 : (c : tie.Else4) → Left (a3 (c .before .before)) 4
-unfolding firstRefusal
+unfolding passing
 left4 c = rw (left3 (c .before .before)) (simp (sym (c .before .has-bad-values .ensures) ∙ c .if4 .left))
 
 left5 : (c : tie.Else5) → Left (a3 (c .before .before .before .before)) 5
-unfolding firstRefusal
+unfolding passing
 left5 c = rw (left4 (c .before .before)) (simp (sym (c .before .has-bad-names .ensures) ∙ c .if5 .left))
 
 left6 : (c : tie.Else6) → Left (a3 (c .before .before .before .before .before .before)) 6
-unfolding firstRefusal
+unfolding passing
 left6 c =
-    let a = a3 (c .before .before .before .before .before .before) in
-    rw (left5 (c .before .before)) (simp (sym (c .before .is-full .ensures (job a) (at a)) ∙ c .if6 .left))
+    rw (left5 (c .before .before)) (simp (sym (c .before .is-full .ensures) ∙ c .if6 .left))
 
 -- ---- the needs
 
 returns : tie.Need-returns
-unfolding readOutcome readingNumber readingPlaces firstRefusal
+unfolding commandReading readingPlaces passing
 returns c = simp (le-leb _ _ (c .if1 .taken))
 
-shared-slice-read-shape-of : tie.Need-shared-slice-read-shape-of
-shared-slice-read-shape-of c = search needs
-
-shape-of-requires : tie.Need-shape-of-requires
-shape-of-requires c κs = search needs
-
-is-bad-kind-requires : tie.Need-is-bad-kind-requires
-is-bad-kind-requires c κs = search needs
-
 returns-2 : tie.Need-returns-2
-unfolding firstRefusal
+unfolding passing
 returns-2 c = rw (left1 (c .before .before)) (simp (sym (c .before .is-bad-kind .ensures) ∙ c .if2 .taken))
 
-sub-if3 : tie.Need-sub-if3
-sub-if3 c = search needs
-
 returns-3 : tie.Need-returns-3
-unfolding firstRefusal
+unfolding passing
 returns-3 c =
     let d = c .before .before in
     let a = d .before .before in
     rw (left2 d)
     (simp (lt-ltb (length (job a)) (at a + 1 + s a .width) (omega (arith, c .if3 .taken, a .before .before .if1 .left))))
 
-has-bad-values-requires : tie.Need-has-bad-values-requires
-has-bad-values-requires c κs = fits c
-
 returns-4 : tie.Need-returns-4
-unfolding firstRefusal
+unfolding passing
 returns-4 c = rw (left3 (c .before .before)) (simp (sym (c .before .has-bad-values .ensures) ∙ c .if4 .taken))
 
-has-bad-names-requires : tie.Need-has-bad-names-requires
-has-bad-names-requires c κs = fits (c .before .before)
-
 returns-5 : tie.Need-returns-5
-unfolding firstRefusal
+unfolding passing
 returns-5 c = rw (left4 (c .before .before)) (simp (sym (c .before .has-bad-names .ensures) ∙ c .if5 .taken))
 
-is-full-requires : tie.Need-is-full-requires
-is-full-requires c κs = search needs
-
 returns-6 : tie.Need-returns-6
-unfolding firstRefusal
+unfolding passing
 returns-6 c =
-    let a = a3 (c .before .before .before .before .before .before) in
-    rw (left5 (c .before .before)) (simp (sym (c .before .is-full .ensures (job a) (at a)) ∙ c .if6 .taken))
-
-add-next : tie.Need-add-next
-add-next c = search needs
-
-add-next-2 : tie.Need-add-next-2
-add-next-2 c = search needs
-
-is-too-long-requires : tie.Need-is-too-long-requires
-is-too-long-requires c κs = search needs
+    rw (left5 (c .before .before)) (simp (sym (c .before .is-full .ensures) ∙ c .if6 .taken))
 
 returns-7 : tie.Need-returns-7
-unfolding firstRefusal
+unfolding passing
 returns-7 c = rw (left6 (c .before .before .before)) (simp (sym (c .before .is-too-long .ensures) ∙ c .if7 .taken))
 
 returns-8 : tie.Need-returns-8
-unfolding firstRefusal
+unfolding passing
 returns-8 c = rw (left6 (c .before .before .before)) (simp (sym (c .before .is-too-long .ensures) ∙ c .if7 .left))
 
 pub read-command-spec : {M : Type 1} → statement M
 read-command-spec =
-    tie.close
-    (tie.spec
-    returns
-    shared-slice-read-shape-of
-    shape-of-requires
-    is-bad-kind-requires
-    returns-2
-    sub-if3
-    returns-3
-    has-bad-values-requires
-    returns-4
-    has-bad-names-requires
-    returns-5
-    is-full-requires
-    returns-6
-    add-next
-    add-next-2
-    is-too-long-requires
-    returns-7
-    returns-8)
+    tie.close (tie.spec
+    returns (λ c. search needs) (λ c κs. search needs) (λ c κs. search needs) returns-2 (λ c. search needs) returns-3
+    (λ c κs. values-fit c) returns-4 (λ c κs. names-fit (c .before .before)) returns-5 (λ c κs. search needs) returns-6
+    (λ c. search needs) (λ c. search needs) (λ c κs. search needs) returns-7 returns-8)

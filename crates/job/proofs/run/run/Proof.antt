@@ -7,10 +7,11 @@ use native.Mathlib.Omega.{arith}
 use lib.IntN.{ℤ}
 use lib.ListN.{length, drop}
 use denote.Ref.{now}
-use Rattle.job.specs.Jobs.{Step, command}
-use Rattle.job.specs.Work.{workPlaces}
-use Rattle.job.specs.Steps.{Stepped, Clear}
-use Rattle.job.specs.declared.types.Done.{Done}
+use Rattle.model.specs.declared.types.Model.{Model}
+use Rattle.job.specs.definitions.Jobs.{Step, command}
+use Rattle.job.specs.definitions.Work.{workSize}
+use Rattle.job.specs.definitions.InnerContracts.{Stepped, Clear}
+use Rattle.job.specs.declared.types.Step.{Step as CodeStep}
 use Rattle.job.proofs.Loop.{Going, going-begins, going-again, going-ends, going-stops}
 use Rattle.job.proofs.run.run.Statement.{statement}
 use Rattle.job.proofs.run.run.Tie as tie
@@ -48,11 +49,11 @@ module _ (c : tie.After-scratch Inv-loop μ-loop) where
   abbrev going : Going job (now (begun .args .work)) (turn .before .before .before .loop .work) at k count
   going = turn .before .before .before .loop .inv .0
 
-  abbrev stepped : Step
+  abbrev stepped : Step (List Model)
   stepped = command job k (going .rs) at
 
-  abbrev Does : Done → Type 0
-  Does r = Stepped r work (going .rs) (drop workPlaces (now (begun .args .work))) stepped
+  abbrev Does : CodeStep → Type 0
+  Does r = Stepped r work (going .rs) (drop workSize (now (begun .args .work))) stepped
 
   does : Does (turn .step .result)
   does = turn .step .ensures .0 (going .rs) _ (going .holds)
@@ -63,28 +64,22 @@ module _ (c : tie.After-scratch Inv-loop μ-loop) where
 loop-holds : tie.Need-loop-holds Inv-loop μ-loop
 loop-holds c =
     let s = c .before in
-    (going-begins (now (s .args .job)) (now (s .args .work)) (s .pre .0) (s .pre .1 .0), (refl, s .pre .1 .1))
+    (going-begins (now (s .args .job)) (now (s .args .work)) (s .pre .long) (s .pre .zero), (refl, s .pre .clear))
 
 step-requires : tie.Need-step-requires Inv-loop μ-loop
 step-requires c κs =
     let i = c .before .before .loop .inv in
-    (omega (arith, i .0 .long, i .0 .same), (i .0 .few, subst⁻¹ Clear (i .1 .0) (i .1 .1)))
-
-enum-known-done : tie.Need-enum-known-done Inv-loop μ-loop
-enum-known-done c = search needs
-
-add-k : tie.Need-add-k Inv-loop μ-loop
-add-k c = search needs
+    record { long = omega (arith, i .0 .long, i .0 .same); few = i .0 .few; clear = subst⁻¹ Clear (i .1 .0) (i .1 .1) }
 
 again : (c : tie.After-known-told Inv-loop μ-loop)
-    → (at (c .before .before .before) < c .before .done .given .0 .0)
+    → (at (c .before .before .before) < c .before .done .given .0 .1 .0)
     × Going (job (c .before .before .before)) (now (begun (c .before .before .before) .args .work))
     (work (c .before .before .before))
-    (c .before .done .given .0 .0) (k (c .before .before .before) + 1) (c .before .done .given .0 .1 .0)
+    (c .before .done .given .0 .1 .0) (k (c .before .before .before) + 1) (c .before .done .given .0 .0)
 again c =
     let s = c .before .before .before in
     let d = c .before .done .given in
-    going-again (going s) (work s) (stepped s) (d .0 .0) (d .0 .1 .0) refl (subst (Does s) (d .1) (does s))
+    going-again (going s) (work s) (stepped s) (d .0 .1 .0) (d .0 .0) refl (subst (Does s) (d .1) (does s))
     (turn s .step .kept .1 .1 .1 .1 .0)
 
 loop-less : tie.Need-loop-less Inv-loop μ-loop
@@ -95,34 +90,16 @@ loop-again c =
     let s = c .before .before .before in
     (again c .1, (unchanged s, turn s .before .before .before .loop .inv .1 .1))
 
-enum-told : tie.Need-enum-told Inv-loop μ-loop
-enum-told c = search needs
-
-same-length : tie.Need-same-length Inv-loop μ-loop
-same-length c = search needs
-
-same-length-2 : tie.Need-same-length-2 Inv-loop μ-loop
-same-length-2 c = search needs
-
 returns : tie.Need-returns Inv-loop μ-loop
 returns c =
     let s = c .before .before in
     let r = going-ends (going s) (work s) (stepped s) refl (subst (Does s) (c .enum-told .given .1) (does s)) in
-    (r .answer, (r .work-is, (unchanged s, r .vouched)))
-
-enum-known-done-2 : tie.Need-enum-known-done-2 Inv-loop μ-loop
-enum-known-done-2 c = search needs
+    (r .answer, (r .work-is, (unchanged s, r .claim)))
 
 clear-work-requires : tie.Need-clear-work-requires Inv-loop μ-loop
 clear-work-requires c κs =
     let s = c .before .before .before .before in
     omega (arith, turn s .step .kept .1 .1 .1 .1 .0, going s .same, going s .long)
-
-same-length-3 : tie.Need-same-length-3 Inv-loop μ-loop
-same-length-3 c = search needs
-
-same-length-4 : tie.Need-same-length-4 Inv-loop μ-loop
-same-length-4 c = search needs
 
 returns-2 : tie.Need-returns-2 Inv-loop μ-loop
 returns-2 c =
@@ -131,26 +108,11 @@ returns-2 c =
     let r =
     going-stops (going s) (work s) (stepped s) (d .done2 .given .0 .0) (c .before .clear-work .last .0) refl
     (subst (Does s) (d .done2 .given .1) (does s)) (c .before .clear-work .ensures) in
-    (r .answer, (r .work-is, (unchanged s, r .vouched)))
+    (r .answer, (r .work-is, (unchanged s, r .claim)))
 
 pub run-spec : {M : Type 1} → statement M
 run-spec =
-    tie.close
-    (tie.spec
-    Inv-loop
-    μ-loop
-    loop-holds
-    step-requires
-    enum-known-done
-    add-k
-    loop-less
-    loop-again
-    enum-told
-    same-length
-    same-length-2
-    returns
-    enum-known-done-2
-    clear-work-requires
-    same-length-3
-    same-length-4
-    returns-2)
+    tie.close (tie.spec
+    Inv-loop μ-loop loop-holds step-requires (λ c. search needs) (λ c. search needs) loop-less loop-again (λ c. search needs)
+    (λ c. search needs) (λ c. search needs) returns (λ c. search needs) clear-work-requires (λ c. search needs)
+    (λ c. search needs) returns-2)

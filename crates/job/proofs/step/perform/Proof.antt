@@ -1,30 +1,39 @@
 -- `step::perform` meets its contract.
-use mathlib.Core.Path.{refl, ap, sym, subst⁻¹, _∙_}
+use mathlib.Core.Path.{_≡_, refl, ap, sym, subst⁻¹}
+use mathlib.Core.List.{List}
+use Prim.Native.Nat.{ℕ}
 use borrow.Author.Tests.{leb-false}
+use lib.IntN.{ℤ}
 use denote.Ref.{now}
-use Rattle.job.specs.Commands.{maxResults, commandAt}
-use Rattle.job.specs.Jobs.{resulting, performed}
-use Rattle.job.specs.Steps.{onward, Stepped}
-use Rattle.job.specs.declared.types.Done.the-variants.{More, Over}
+use Rattle.job.specs.definitions.Commands.{maxResults, makerAt, commandAt}
+use Rattle.job.specs.definitions.Jobs.{more, resulting, performed}
+use Rattle.job.specs.definitions.InnerContracts.{Stepped, StepsBy}
+use Rattle.job.specs.declared.types.Step.{Step}
+use Rattle.job.specs.declared.types.Step.the-variants.{More}
 use Rattle.job.specs.declared.types.Kind.{Kind}
-use Rattle.job.proofs.KindLaws.{makes-always, performed-lasts}
-use Rattle.job.proofs.Results.{counted}
-use Rattle.job.proofs.StepLaws.{names-below, performed-makes}
+use Rattle.job.specs.declared.types.Kind.the-variants.{End, Edition, Result, Unknown}
+use Rattle.job.proofs.Results.{holds-all}
+use Rattle.job.proofs.StepLaws.{names-below}
+use Rattle.job.proofs.OperationLaws.{model-storable}
 use borrow.Author.Needs.{needs}
 use Rattle.job.proofs.step.perform.Statement.{statement}
 use Rattle.job.proofs.step.perform.Tie as tie
 
-enum-told : tie.Need-enum-told
-enum-told c = search needs
+-- the step of the command, once its kind is known
+known : (c : tie.Start) (r : Step) (work : List ℤ) (kind : Kind) → c .args .kind ≡ kind
+    → StepsBy r (now (c .args .work)) work (c .args .count) (λ rs. performed (commandAt kind (now (c .args .job)) (c .args .at)) rs (c .args .next))
+    → StepsBy r (now (c .args .work)) work (c .args .count) (λ rs. performed (commandAt (c .args .kind) (now (c .args .job)) (c .args .at)) rs (c .args .next))
+known c r work kind e f = rw e f
 
 operate-requires : tie.Need-operate-requires
 operate-requires c κs =
-    let s = c .before .before .before .before in
+    let q = c .before .before .before in
+    let k = q .kind .given in
+    let s = q .before .before .before in
     let g = s .args in
-    let p = s .pre .0 in (
+    let p = rw (k .1) at (s .pre .0) in (
       record {
-        makes = makes-always (g .kind) (now (g .job)) (g .at) (c .before .before .match .keys3);
-        names = names-below (g .count) (p .few) (commandAt (g .kind) (now (g .job)) (g .at)) (p .names);
+        names = names-below (g .count) (p .few) (makerAt (k .0 .0) (now (g .job)) (g .at)) (p .names);
         room = p .room;
         long = p .long;
       },
@@ -34,61 +43,55 @@ operate-requires c κs =
 add-result-requires : tie.Need-add-result-requires
 add-result-requires c κs =
     let d = c .before .before in
-    let s = d .before .before .before .before .before in
+    let q = d .before .before .before .before in
+    let k = q .kind .given in
+    let s = q .before .before .before in
     let g = s .args in
-    let p = s .pre .0 in
-    let f = rw (makes-always (g .kind) (now (g .job)) (g .at) (d .before .before .before .match .keys3)) at (p .space) in
-    (p .long, (leb-false maxResults (g .count) f, d .operate .ensures .0 .storable))
+    let p = rw (k .1) at (s .pre .0) in
+    record {
+      long = p .long;
+      inside = leb-false maxResults (g .count) (p .space);
+      storable = model-storable (d .operate .result) (d .operate .ensures .0 .storable);
+    }
 
 returns : tie.Need-returns
 returns c =
-    let g = c .before .before .args in (
-      λ rs t h. subst⁻¹ (Stepped Over (now (g .work)) rs t)
-          (performed-lasts (g .kind) (now (g .job)) (g .at) rs (g .next) (c .match .keys1))
-          (record { answer = refl; holds = counted h }),
-      refl,
-    )
+    let s = c .before .before .before in
+    (known s _ (now (s .args .work)) End (c .enum-told .given .1) (λ rs t h. record { answer = refl; holds = holds-all h }), refl)
 
 returns-2 : tie.Need-returns-2
-unfolding commandAt
 returns-2 c =
-    let g = c .before .before .before .args in (
-      λ rs t h. subst⁻¹
-          (λ (k : Kind). Stepped (More (g .next) (g .count)) (now (g .work)) rs t (performed (commandAt k (now (g .job)) (g .at)) rs (g .next)))
-          (c .enum-told .given .1)
-          (record { answer = ap (onward (g .next)) (h .count-is); holds = counted h }),
+    let s = c .before .before .before in
+    let g = s .args in (
+      known s (More (g .count) (g .next)) (now (g .work)) Edition (c .enum-told2 .given .1)
+          (λ rs t h. record { answer = ap (λ (n : ℕ). more n (g .next)) (h .count-is); holds = holds-all h }),
       refl,
     )
-
-same-length : tie.Need-same-length
-same-length c = search needs
-
-same-length-2 : tie.Need-same-length-2
-same-length-2 c = search needs
 
 returns-3 : tie.Need-returns-3
 returns-3 c =
     let r = c .before in
     let d = r .before .before .before in
-    let s = d .before .before .before .before .before in
+    let q = d .before .before .before .before in
+    let k = q .kind .given in
+    let s = q .before .before .before in
     let g = s .args in
-    let k = commandAt (g .kind) (now (g .job)) (g .at) in (
-      λ rs t h. subst⁻¹ (Stepped (r .add-result .result) (r .add-result .last .0) rs t)
-          (performed-makes k rs (g .next) (makes-always (g .kind) (now (g .job)) (g .at) (d .before .before .before .match .keys3))
-          ∙ ap (resulting rs (g .next)) (sym (d .operate .ensures .0 .gives (g .count) rs t h (s .pre .0 .names))))
-          (r .add-result .ensures rs t h),
+    let p = rw (k .1) at (s .pre .0) in (
+      known s (r .add-result .result) (r .add-result .last .0) (Result (k .0 .0)) (k .1)
+          (λ rs t h.
+          subst⁻¹ (Stepped (r .add-result .result) (r .add-result .last .0) rs t)
+          (ap (resulting rs (g .next)) (sym (d .operate .ensures .0 .gives (g .count) rs t h (p .names))))
+          (r .add-result .ensures rs t h)),
       d .operate .ensures .1,
     )
 
+returns-4 : tie.Need-returns-4
+returns-4 c =
+    let s = c .before .before .before in
+    (known s _ (now (s .args .work)) Unknown (c .enum-told3 .given .1) (λ rs t h. record { answer = refl; holds = holds-all h }), refl)
+
 pub perform-spec : {M : Type 1} → statement M
 perform-spec =
-    tie.close
-    (tie.spec
-    enum-told
-    operate-requires
-    add-result-requires
-    returns
-    returns-2
-    same-length
-    same-length-2
-    returns-3)
+    tie.close (tie.spec
+    (λ c. search needs) (λ c. search needs) (λ c. search needs) operate-requires add-result-requires (λ c. search needs)
+    returns returns-2 (λ c. search needs) (λ c. search needs) returns-3 returns-4)

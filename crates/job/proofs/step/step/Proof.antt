@@ -1,24 +1,15 @@
 -- `step::step` meets its contract.
 use mathlib.Core.Path.{refl, ap, sym, subst⁻¹, _∙_}
 use denote.Ref.{now}
-use Rattle.model.specs.Models.{numberOf}
-use Rattle.job.specs.Commands.{readOutcomeOf}
-use Rattle.job.specs.Steps.{Stepped}
-use Rattle.job.specs.declared.types.Done.the-variants.{Refused}
-use Rattle.job.proofs.Results.{counted}
+use Rattle.model.specs.definitions.Outcomes.{numberOf}
+use Rattle.job.specs.definitions.Commands.{commandReadingOf}
+use Rattle.job.specs.definitions.InnerContracts.{Stepped}
+use Rattle.job.specs.declared.types.Step.the-variants.{Refused}
+use Rattle.job.proofs.Results.{holds-all}
 use Rattle.job.proofs.StepLaws.{read-refuses, read-performs, found-performable}
 use borrow.Author.Needs.{needs}
 use Rattle.job.proofs.step.step.Statement.{statement}
 use Rattle.job.proofs.step.step.Tie as tie
-
-read-next-requires : tie.Need-read-next-requires
-read-next-requires c κs = search needs
-
-enum-known-read : tie.Need-enum-known-read
-enum-known-read c = search needs
-
-enum-known-read-2 : tie.Need-enum-known-read-2
-enum-known-read-2 c = search needs
 
 perform-requires : tie.Need-perform-requires
 perform-requires c κs =
@@ -26,9 +17,9 @@ perform-requires c κs =
     let r = d .before .before in
     let s = r .before .before in
     let g = s .args in
-    let e = sym (r .read-next .ensures) ∙ ap readOutcomeOf (d .read2 .given .1) in
+    let e = sym (r .read-next .ensures) ∙ ap commandReadingOf (d .read2 .given .1) in
     let f = d .read2 .given .0 in
-    (found-performable (now (g .job)) (g .k) (g .count) (g .at) (f .0) (f .1 .0) (now (g .work)) e (s .pre .1 .0) (s .pre .0), s .pre .1 .1)
+    (found-performable (now (g .job)) (g .k) (g .count) (g .at) (f .0) (f .1 .0) (now (g .work)) e (s .pre .few) (s .pre .long), s .pre .clear)
 
 returns : tie.Need-returns
 returns c =
@@ -36,18 +27,12 @@ returns c =
     let r = d .before .before in
     let g = r .before .before .args in
     let v = d .read .given .0 .0 in
-    let e = sym (r .read-next .ensures) ∙ ap readOutcomeOf (d .read .given .1) in (
+    let e = sym (r .read-next .ensures) ∙ ap commandReadingOf (d .read .given .1) in (
       λ rs t h. subst⁻¹ (Stepped (Refused v) (now (g .work)) rs t)
           (read-refuses (now (g .job)) (g .k) (g .count) rs (g .at) (numberOf v) (h .count-is) e)
-          (record { answer = refl; holds = counted h }),
+          (record { answer = refl; holds = holds-all h }),
       refl,
     )
-
-same-length : tie.Need-same-length
-same-length c = search needs
-
-same-length-2 : tie.Need-same-length-2
-same-length-2 c = search needs
 
 returns-2 : tie.Need-returns-2
 returns-2 c =
@@ -55,7 +40,7 @@ returns-2 c =
     let d = p .before .before .before .before in
     let r = d .before .before in
     let g = r .before .before .args in
-    let e = sym (r .read-next .ensures) ∙ ap readOutcomeOf (d .read2 .given .1) in (
+    let e = sym (r .read-next .ensures) ∙ ap commandReadingOf (d .read2 .given .1) in (
       λ rs t h. subst⁻¹ (Stepped (p .perform .result) _ rs t)
           (read-performs (now (g .job)) (g .k) (g .count) rs (g .at) (d .read2 .given .0 .0) (d .read2 .given .0 .1 .0) (h .count-is) e)
           (p .perform .ensures .0 rs t h),
@@ -64,13 +49,6 @@ returns-2 c =
 
 pub step-spec : {M : Type 1} → statement M
 step-spec =
-    tie.close
-    (tie.spec
-    read-next-requires
-    enum-known-read
-    enum-known-read-2
-    perform-requires
-    returns
-    same-length
-    same-length-2
-    returns-2)
+    tie.close (tie.spec
+    (λ c κs. search needs) (λ c. search needs) (λ c. search needs) perform-requires returns (λ c. search needs)
+    (λ c. search needs) returns-2)

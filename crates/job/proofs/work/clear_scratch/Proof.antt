@@ -1,53 +1,29 @@
 -- `work::clear_scratch` meets its contract.
 use borrow.Author.Needs.{needs}
 use Prim.Native.Nat.{_-_}
-use Rattle.certificate.specs.Tests.{scratchPlaces}
-use Rattle.integer.specs.Filling.{ends}
-use Rattle.integer.specs.Clearing.{Clearing, clearing-begins, clearing-turn}
+use Rattle.certificate.specs.definitions.Tests.{scratchSize}
+use Rattle.integer.specs.laws.Filling.{ends}
+use Rattle.integer.specs.laws.Clearing.{Clearing, clearing-begins, clearing-turn}
 use Rattle.job.proofs.work.clear_scratch.Statement.{statement}
 use Rattle.job.proofs.work.clear_scratch.Tie as tie
 
 abbrev Inv-loop : tie.InvT-loop
-Inv-loop scratch₀ i₀ scratch i = Clearing scratchPlaces scratch₀ scratch i
+Inv-loop scratch₀ i₀ scratch i = Clearing scratchSize scratch₀ scratch i
 
 abbrev μ-loop : tie.MeasureT-loop
-μ-loop scratch₀ i₀ scratch i = scratchPlaces - i
+μ-loop scratch₀ i₀ scratch i = scratchSize - i
 
 loop-holds : tie.Need-loop-holds Inv-loop μ-loop
-loop-holds c = clearing-begins scratchPlaces _ (c .pre)
-
-mul-scratch : tie.Need-mul-scratch Inv-loop μ-loop
-mul-scratch c = search needs
-
-slice-set-of-scratch : tie.Need-slice-set-of-scratch Inv-loop μ-loop
-slice-set-of-scratch c = search needs
-
-add-i : tie.Need-add-i Inv-loop μ-loop
-add-i c = search needs
-
-loop-less : tie.Need-loop-less Inv-loop μ-loop
-loop-less c = search needs
+loop-holds c = clearing-begins scratchSize _ (c .pre)
 
 loop-again : tie.Need-loop-again Inv-loop μ-loop
 loop-again c = clearing-turn (c .before .loop .inv) (c .loop-test .taken)
-
-same-length : tie.Need-same-length Inv-loop μ-loop
-same-length c = c .before .loop .inv .same
 
 returns : tie.Need-returns Inv-loop μ-loop
 returns c = ends (c .before .loop .inv) (c .loop-test .left)
 
 pub clear-scratch-spec : {M : Type 1} → statement M
 clear-scratch-spec =
-    tie.close
-    (tie.spec
-    Inv-loop
-    μ-loop
-    loop-holds
-    mul-scratch
-    slice-set-of-scratch
-    add-i
-    loop-less
-    loop-again
-    same-length
-    returns)
+    tie.close (tie.spec
+    Inv-loop μ-loop loop-holds (λ c. search needs) (λ c. search needs) (λ c. search needs) (λ c. search needs) loop-again
+    (λ c. c .before .loop .inv .same) returns)

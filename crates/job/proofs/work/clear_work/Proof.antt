@@ -1,53 +1,29 @@
 -- `work::clear_work` meets its contract.
 use borrow.Author.Needs.{needs}
 use Prim.Native.Nat.{_-_}
-use Rattle.job.specs.Work.{workPlaces}
-use Rattle.integer.specs.Filling.{ends}
-use Rattle.integer.specs.Clearing.{Clearing, clearing-begins, clearing-turn}
+use Rattle.job.specs.definitions.Work.{workSize}
+use Rattle.integer.specs.laws.Filling.{ends}
+use Rattle.integer.specs.laws.Clearing.{Clearing, clearing-begins, clearing-turn}
 use Rattle.job.proofs.work.clear_work.Statement.{statement}
 use Rattle.job.proofs.work.clear_work.Tie as tie
 
 abbrev Inv-loop : tie.InvT-loop
-Inv-loop work₀ i₀ work i = Clearing workPlaces work₀ work i
+Inv-loop work₀ i₀ work i = Clearing workSize work₀ work i
 
 abbrev μ-loop : tie.MeasureT-loop
-μ-loop work₀ i₀ work i = workPlaces - i
+μ-loop work₀ i₀ work i = workSize - i
 
 loop-holds : tie.Need-loop-holds Inv-loop μ-loop
-loop-holds c = clearing-begins workPlaces _ (c .pre)
-
-mul-work : tie.Need-mul-work Inv-loop μ-loop
-mul-work c = search needs
-
-slice-set-of-work : tie.Need-slice-set-of-work Inv-loop μ-loop
-slice-set-of-work c = search needs
-
-add-i : tie.Need-add-i Inv-loop μ-loop
-add-i c = search needs
-
-loop-less : tie.Need-loop-less Inv-loop μ-loop
-loop-less c = search needs
+loop-holds c = clearing-begins workSize _ (c .pre)
 
 loop-again : tie.Need-loop-again Inv-loop μ-loop
 loop-again c = clearing-turn (c .before .loop .inv) (c .loop-test .taken)
-
-same-length : tie.Need-same-length Inv-loop μ-loop
-same-length c = c .before .loop .inv .same
 
 returns : tie.Need-returns Inv-loop μ-loop
 returns c = ends (c .before .loop .inv) (c .loop-test .left)
 
 pub clear-work-spec : {M : Type 1} → statement M
 clear-work-spec =
-    tie.close
-    (tie.spec
-    Inv-loop
-    μ-loop
-    loop-holds
-    mul-work
-    slice-set-of-work
-    add-i
-    loop-less
-    loop-again
-    same-length
-    returns)
+    tie.close (tie.spec
+    Inv-loop μ-loop loop-holds (λ c. search needs) (λ c. search needs) (λ c. search needs) (λ c. search needs) loop-again
+    (λ c. c .before .loop .inv .same) returns)

@@ -8,52 +8,20 @@ use native.Mathlib.Omega.{arith}
 use lib.IntN.{ℤ}
 use lib.ListN.{take}
 use denote.Ref.{now}
-use Rattle.model.specs.Areas.{modelPlaces, words}
+use Rattle.model.specs.definitions.Areas.{modelSize, words}
 use Rattle.job.proofs.work.store.Statement.{statement}
 use Rattle.job.proofs.work.store.Tie as tie
-
-mul-a : tie.Need-mul-a
-mul-a c = search needs
-
-add-write : tie.Need-add-write
-add-write c = search needs
-
-mul-write : tie.Need-mul-write
-mul-write c = search needs
-
-sub-write : tie.Need-sub-write
-sub-write c = search needs
-
-part-write-start : tie.Need-part-write-start
-part-write-start c = search needs
-
-part-write-end : tie.Need-part-write-end
-part-write-end c = search needs
-
-write-requires : tie.Need-write-requires
-write-requires c κs = search needs
-
-same-length : tie.Need-same-length
-same-length c = search needs
 
 returns : tie.Need-returns
 returns c =
     let g = c .before .before .before .args in
-    let a = modelPlaces * g .i in
+    let a = modelSize * g .i in
     let w = now (g .work) in
-    ap (putMid a (a + modelPlaces - a) w) (c .before .write .ensures)
-    ∙ ap (λ (t : List ℤ). take a w ++ (words (g .m) ++ t)) (post-is a (a + modelPlaces) w (omega arith))
+    ap (putMid a (a + modelSize - a) w) (c .before .write .ensures)
+    ∙ ap (λ (t : List ℤ). take a w ++ (words (g .m) ++ t)) (post-is a (a + modelSize) w (omega arith))
 
 pub store-spec : {M : Type 1} → statement M
 store-spec =
-    tie.close
-    (tie.spec
-    mul-a
-    add-write
-    mul-write
-    sub-write
-    part-write-start
-    part-write-end
-    write-requires
-    same-length
-    returns)
+    tie.close (tie.spec
+    (λ c. search needs) (λ c. search needs) (λ c. search needs) (λ c. search needs) (λ c. search needs) (λ c. search needs)
+    (λ c κs. search needs) (λ c. search needs) returns)

@@ -5,7 +5,7 @@ use Prim.Native.Nat.{ℕ, _*_}
 use native.Mathlib.Nat.{add-sub-cancel-left}
 use lib.ListN.{take, drop}
 use denote.Ref.{now}
-use Rattle.model.specs.Areas.{modelPlaces, areaModel}
+use Rattle.model.specs.definitions.Areas.{modelSize, areaModel}
 use Rattle.job.proofs.work.stretch_at.Statement.{statement}
 use Rattle.job.proofs.work.stretch_at.Tie as tie
 
@@ -34,8 +34,8 @@ returns : tie.Need-returns
 returns c =
     let g = c .before .before .args in
     c .read .ensures
-    ∙ ap (λ (n : ℕ). areaModel (take n (drop (modelPlaces * g .i) (now (g .work)))))
-    (add-sub-cancel-left (modelPlaces * g .i) modelPlaces)
+    ∙ ap (λ (n : ℕ). areaModel (take n (drop (modelSize * g .i) (now (g .work)))))
+    (add-sub-cancel-left (modelSize * g .i) modelSize)
 
 pub stretch-at-spec : {M : Type 1} → statement M
 stretch-at-spec =

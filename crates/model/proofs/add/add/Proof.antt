@@ -1,15 +1,12 @@
 -- `add::add` meets its contract.
 use borrow.Author.Needs.{needs}
 use mathlib.Core.Path.{_∙_}
-use Rattle.model.specs.Combination.{addition-is}
+use Rattle.model.specs.laws.CombinationLaws.{addition-is}
 use Rattle.model.proofs.add.add.Statement.{statement}
 use Rattle.model.proofs.add.add.Tie as tie
-
-combine-models-requires : tie.Need-combine-models-requires
-combine-models-requires c κs = search needs
 
 returns : tie.Need-returns
 returns c = c .combine-models .ensures ∙ addition-is (c .before .args .a) (c .before .args .b)
 
 pub add-spec : {M : Type 1} → statement M
-add-spec = tie.close (tie.spec combine-models-requires returns)
+add-spec = tie.close (tie.spec (λ c κs. search needs) returns)

@@ -8,14 +8,14 @@ use lib.ListN.{getD, drop, replicate, length-replicate}
 use mir.Syntax.{w32}
 use mir.Val.{SFits, toZ, ofZ}
 use mir.Facts.{toZ-ofZ}
-use Rattle.integer.specs.Parts.{abs-mul}
-use Rattle.integer.specs.Integer.{ℤ-ring}
-use Rattle.integer.specs.Machine.{signed-needs, abs-fits, fits-widens}
-use Rattle.integer.specs.Filling.{Filling, begins, turn, whole}
-use Rattle.chebyshev.specs.Coefficients.{weight, addLists, scaleList}
-use Rattle.chebyshev.specs.CoefficientLaws.{length-add, length-scale, getD-add, getD-scale}
-use Rattle.chebyshev.specs.Weight.{weight-at, weight-step, weight-end}
-use Rattle.model.specs.Combination.{combined-weight}
+use Rattle.integer.specs.laws.Parts.{abs-mul}
+use Rattle.integer.specs.definitions.Integer.{ℤ-ring}
+use Rattle.integer.specs.laws.Machine.{signed-needs, abs-fits, fits-widens}
+use Rattle.integer.specs.laws.Filling.{Filling, begins, turn, whole}
+use Rattle.chebyshev.specs.definitions.Coefficients.{weight, addLists, scaleList}
+use Rattle.chebyshev.specs.laws.CoefficientLaws.{length-add, length-scale, getD-add, getD-scale}
+use Rattle.chebyshev.specs.laws.Weight.{weight-at, weight-step, weight-end}
+use Rattle.model.specs.laws.CombinationLaws.{combined-weight}
 use Rattle.model.proofs.add.combine.Statement.{statement}
 use Rattle.model.proofs.add.combine.Tie as tie
 
@@ -34,22 +34,10 @@ Inv-loop a b sign coefficients₀ weight₀ i₀ coefficients total i = Walked (
 abbrev μ-loop : tie.MeasureT-loop
 μ-loop a b sign coefficients₀ weight₀ i₀ coefficients total i = 33 - i
 
-mul-c : tie.Need-mul-c Inv-loop μ-loop
-mul-c c = search signed-needs
-
-element-copy-out-c : tie.Need-element-copy-out-c Inv-loop μ-loop
-element-copy-out-c c = search signed-needs
-
-mul-c-2 : tie.Need-mul-c-2 Inv-loop μ-loop
-mul-c-2 c = search signed-needs
-
-element-copy-out-c-2 : tie.Need-element-copy-out-c-2 Inv-loop μ-loop
-element-copy-out-c-2 c = search signed-needs
-
 loop-holds : tie.Need-loop-holds Inv-loop μ-loop
 loop-holds c =
     rw (toZ-ofZ (c .fits .sign)) (record {
-      filled = begins (sum (c .args .a .now) (c .args .b .now) (c .args .sign)) _ 0 33 (simp (length-add ℤ-ring, length-scale ℤ-ring) (omega (arith, c .pre .0))) (omega arith);
+      filled = begins (sum (c .args .a .now) (c .args .b .now) (c .args .sign)) _ 0 33 (simp (length-add ℤ-ring, length-scale ℤ-ring) (omega (arith, c .pre))) (omega arith);
       rest = omega arith;
     })
 
@@ -74,7 +62,7 @@ module _ (l : tie.At-loop Inv-loop μ-loop) where
   inv = rw (toZ-ofZ (l .before .fits .sign)) at (l .loop .inv)
 
   z-weight : weight z ≤ 2 ^ 29
-  z-weight = omega (arith, combined-weight s a b (l .before .pre .1 .2), l .before .pre .1)
+  z-weight = omega (arith, combined-weight s a b (l .before .pre .unit), l .before .pre)
 
 -- in a turn
 module _ (c : tie.After-c2 Inv-loop μ-loop) where
@@ -103,7 +91,7 @@ module _ (c : tie.After-c2 Inv-loop μ-loop) where
   fits-y = record { sfits = c .c2 .given }
 
   fits-sy : SFits w32 (s l *ℤ y)
-  fits-sy = abs-fits w32 (s l *ℤ y) (omega (arith, abs-mul (s l) y, ap (λ (n : ℕ). n * natAbs y) (l .before .pre .1 .2), weight-at (b l) (i l), l .before .pre .1))
+  fits-sy = abs-fits w32 (s l *ℤ y) (omega (arith, abs-mul (s l) y, ap (λ (n : ℕ). n * natAbs y) (l .before .pre .unit), weight-at (b l) (i l), l .before .pre))
 
   fits-v : SFits w32 v
   fits-v = abs-fits w32 v (omega (arith, ap natAbs v-is, weight-at (z l) (i l), z-weight l))
@@ -112,23 +100,8 @@ module _ (c : tie.After-c2 Inv-loop μ-loop) where
   v-reads : toZ w32 (ofZ w32 (toZ w32 (ofZ w32 x) +ℤ toZ w32 (ofZ w32 (toZ w32 (ofZ w32 (s l)) *ℤ toZ w32 (ofZ w32 y))))) ≡ v
   v-reads = simp (toZ-ofZ fits-s, toZ-ofZ fits-x, toZ-ofZ fits-y, toZ-ofZ fits-sy, toZ-ofZ fits-v)
 
-mul-c-3 : tie.Need-mul-c-3 Inv-loop μ-loop
-mul-c-3 c = simp (toZ-ofZ (fits-s c), toZ-ofZ (fits-y c)) (fits-sy c)
-
 add-c : tie.Need-add-c Inv-loop μ-loop
 add-c c = simp (toZ-ofZ (fits-s c), toZ-ofZ (fits-x c), toZ-ofZ (fits-y c), toZ-ofZ (fits-sy c)) (fits-v c)
-
-mul-coefficients : tie.Need-mul-coefficients Inv-loop μ-loop
-mul-coefficients c = search signed-needs
-
-array-set-from-coefficients : tie.Need-array-set-from-coefficients Inv-loop μ-loop
-array-set-from-coefficients c = search signed-needs
-
-cast-magnitude : tie.Need-cast-magnitude Inv-loop μ-loop
-cast-magnitude c = rw (v-reads c) (fits-widens (fits-v c))
-
-magnitude-requires : tie.Need-magnitude-requires Inv-loop μ-loop
-magnitude-requires c κs = tt
 
 -- what the turn adds to the weight
 weighed : (m : tie.After-magnitude Inv-loop μ-loop) → let l = l (m .before) in weight (drop (i l) (z l)) ≡ m .magnitude .result + weight (drop (i l + 1) (z l))
@@ -139,12 +112,6 @@ weighed m =
 
 add-weight : tie.Need-add-weight Inv-loop μ-loop
 add-weight m = let l = l (m .before) in omega (arith, weighed m, z-weight l, inv l .rest)
-
-add-i : tie.Need-add-i Inv-loop μ-loop
-add-i c = omega arith
-
-loop-less : tie.Need-loop-less Inv-loop μ-loop
-loop-less c = omega arith
 
 loop-again : tie.Need-loop-again Inv-loop μ-loop
 loop-again m =
@@ -163,23 +130,8 @@ returns c =
 
 pub combine-spec : {M : Type 1} → statement M
 combine-spec =
-    tie.close
-    (tie.spec
-    Inv-loop
-    μ-loop
-    loop-holds
-    mul-c
-    element-copy-out-c
-    mul-c-2
-    element-copy-out-c-2
-    mul-c-3
-    add-c
-    mul-coefficients
-    array-set-from-coefficients
-    cast-magnitude
-    magnitude-requires
-    add-weight
-    add-i
-    loop-less
-    loop-again
-    returns)
+    tie.close (tie.spec
+    Inv-loop μ-loop loop-holds (λ c. search signed-needs) (λ c. search signed-needs) (λ c. search signed-needs)
+    (λ c. search signed-needs) (λ c. simp (toZ-ofZ (fits-s c), toZ-ofZ (fits-y c)) (fits-sy c)) add-c
+    (λ c. search signed-needs) (λ c. search signed-needs) (λ c. rw (v-reads c) (fits-widens (fits-v c))) (λ c κs. tt)
+    add-weight (λ c. omega arith) (λ c. omega arith) loop-again returns)

@@ -7,32 +7,22 @@ use mathlib.Core.Bool.{true}
 use native.Mathlib.Omega.{arith}
 use lib.ListN.{length}
 use mir.Facts.{toZ-ofZ}
-use Rattle.chebyshev.specs.Coefficients.{weight}
-use Rattle.model.specs.Models.{good, firstRefusal, outcome}
-use Rattle.model.specs.ModelLaws.{good-is}
-use Rattle.model.specs.Formed.{formedOutcome, formed-is}
-use Rattle.model.specs.Combination.{combinedModel, combination, combination-good}
+use Rattle.chebyshev.specs.definitions.Coefficients.{weight}
+use Rattle.model.specs.definitions.InnerContracts.{combination, combinedModel, formedOutcome}
+use Rattle.model.specs.definitions.Models.{good}
+use Rattle.model.specs.definitions.Outcomes.{passing}
+use Rattle.model.specs.laws.ModelLaws.{good-is}
+use Rattle.model.specs.laws.FormedLaws.{formed-is}
+use Rattle.model.specs.laws.CombinationLaws.{combination-of-good}
 use Rattle.model.specs.declared.types.Model.{Model}
 use Rattle.model.proofs.add.combine_models.Statement.{statement}
 use Rattle.model.proofs.add.combine_models.Tie as tie
 
-is-good-requires : tie.Need-is-good-requires
-is-good-requires c κs = search needs
-
-refused-requires : tie.Need-refused-requires
-refused-requires c κs = search needs
-
 returns : tie.Need-returns
-unfolding combination outcome firstRefusal
+unfolding combination passing
 returns c =
     let g = c .before .before .is-good in
     rw (c .refused .ensures, ← (g .ensures), not-true (g .result) (c .before .if1 .taken))
-
-is-good-requires-2 : tie.Need-is-good-requires-2
-is-good-requires-2 c κs = search needs
-
-refused-requires-2 : tie.Need-refused-requires-2
-refused-requires-2 c κs = search needs
 
 module _ (c : tie.Else1) where
   abbrev s : tie.Start
@@ -48,7 +38,7 @@ module _ (c : tie.Else1) where
   good-a = sym (c .before .is-good .ensures) ∙ not-false (c .before .is-good .result) (c .if1 .left)
 
 returns-2 : tie.Need-returns-2
-unfolding combination outcome firstRefusal
+unfolding combination passing
 returns-2 c =
     let g = c .before .before .is-good2 in
     rw (c .refused2 .ensures, good-a (c .before .before .before), ← (g .ensures), not-true (g .result) (c .before .if2 .taken))
@@ -62,19 +52,13 @@ combine-requires c κs =
     let e = d .before .before in
     let la : length (a e .coefficients) ≡ 33 = search needs in
     let lb : length (b e .coefficients) ≡ 33 = search needs in
-    simp (toZ-ofZ (s e .fits .sign)) ((la, lb), (good-is (a e) (good-a e) .weight-fits, good-is (b e) (good-b d) .weight-fits, s e .pre))
-
-cast-radius : tie.Need-cast-radius
-cast-radius c = search needs
-
-cast-radius-2 : tie.Need-cast-radius-2
-cast-radius-2 c = search needs
-
-add-radius : tie.Need-add-radius
-add-radius c = search needs
-
-formed-requires : tie.Need-formed-requires
-formed-requires c κs = search needs
+    simp (toZ-ofZ (s e .fits .sign)) (record {
+      first-all = la;
+      second-all = lb;
+      first-light = good-is (a e) (good-a e) .weight-fits;
+      second-light = good-is (b e) (good-b d) .weight-fits;
+      unit = s e .pre;
+    })
 
 returns-3 : tie.Need-returns-3
 unfolding combinedModel
@@ -90,21 +74,10 @@ returns-3 c =
     c .formed .ensures
     ∙ (λ t. formedOutcome (n t) (cs t) (w t) (m .radius))
     ∙ formed-is m (m .coefficients) (λ h. refl)
-    ∙ combination-good (s e .args .sign) (a e) (b e) (good-a e) (good-b d)
+    ∙ combination-of-good (s e .args .sign) (a e) (b e) (good-a e) (good-b d)
 
 pub combine-models-spec : {M : Type 1} → statement M
 combine-models-spec =
-    tie.close
-    (tie.spec
-    is-good-requires
-    refused-requires
-    returns
-    is-good-requires-2
-    refused-requires-2
-    returns-2
-    combine-requires
-    cast-radius
-    cast-radius-2
-    add-radius
-    formed-requires
-    returns-3)
+    tie.close (tie.spec
+    (λ c κs. search needs) (λ c κs. search needs) returns (λ c κs. search needs) (λ c κs. search needs) returns-2
+    combine-requires (λ c. search needs) (λ c. search needs) (λ c. search needs) (λ c κs. search needs) returns-3)

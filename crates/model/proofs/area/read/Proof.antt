@@ -6,42 +6,22 @@ use lib.ListN.{getD, length-take}
 use mir.Syntax.{w32}
 use mir.Facts.{toZ-ofZ}
 use denote.Ref.{now}
-use Rattle.model.specs.Areas.{candidatePlaces, unsignedOf, areaCandidate}
-use Rattle.model.specs.AreaLaws.{candidate-front}
+use Rattle.model.specs.definitions.Areas.{candidateSize, unsignedOf, areaCandidate}
+use Rattle.model.specs.laws.AreaLaws.{candidate-front}
 use Rattle.model.proofs.area.read.Statement.{statement}
 use Rattle.model.proofs.area.read.Tie as tie
-
-slice-aggregate-read-candidate : tie.Need-slice-aggregate-read-candidate
-slice-aggregate-read-candidate c = simp length-take (omega arith)
-
-read-candidate-requires : tie.Need-read-candidate-requires
-read-candidate-requires c κs = simp length-take (omega arith)
-
-shared-slice-copy-out-unsigned : tie.Need-shared-slice-copy-out-unsigned
-shared-slice-copy-out-unsigned c = search needs
-
-unsigned-requires : tie.Need-unsigned-requires
-unsigned-requires c κs = search needs
-
-new-requires : tie.Need-new-requires
-new-requires c κs = search needs
 
 returns : tie.Need-returns
 returns c =
     let d = c .before .before .before in
     let s = now (d .before .before .before .args .area) in
-    let e : d .before .read-candidate .result ≡ areaCandidate s = d .before .read-candidate .ensures ∙ candidate-front candidatePlaces s (omega arith) in
-    let r : c .before .unsigned .result ≡ unsignedOf (getD s candidatePlaces (pos 0)) =
-    c .before .unsigned .ensures ∙ ap unsignedOf (toZ-ofZ {w = w32} {z = getD s candidatePlaces (pos 0)} (sfits-of (c .before .before .unsigned-arg .given))) in
+    let e : d .before .read-candidate .result ≡ areaCandidate s = d .before .read-candidate .ensures ∙ candidate-front candidateSize s (omega arith) in
+    let r : c .before .unsigned .result ≡ unsignedOf (getD s candidateSize (pos 0)) =
+    c .before .unsigned .ensures ∙ ap unsignedOf (toZ-ofZ {w = w32} {z = getD s candidateSize (pos 0)} (sfits-of (c .before .before .unsigned-arg .given))) in
     c .new .ensures ∙ rw (e, r)
 
 pub read-spec : {M : Type 1} → statement M
 read-spec =
-    tie.close
-    (tie.spec
-    slice-aggregate-read-candidate
-    read-candidate-requires
-    shared-slice-copy-out-unsigned
-    unsigned-requires
-    new-requires
-    returns)
+    tie.close (tie.spec
+    (λ c. simp length-take (omega arith)) (λ c κs. simp length-take (omega arith)) (λ c. search needs) (λ c κs. search needs)
+    (λ c κs. search needs) returns)

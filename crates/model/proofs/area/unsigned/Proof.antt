@@ -9,17 +9,11 @@ use lib.Signed.{ltZ}
 use mir.Syntax.{w32}
 use mir.Val.{SFits, toZ, ofZ}
 use mir.Facts.{toZ-ofZ}
-use Rattle.integer.specs.Parts.{abs, apart, lt-yes, lt-no}
-use Rattle.integer.specs.Machine.{signed-needs, within, fits-widens}
-use Rattle.model.specs.Areas.{unsignedOf}
+use Rattle.integer.specs.laws.Parts.{abs, apart, lt-yes, lt-no}
+use Rattle.integer.specs.laws.Machine.{signed-needs, within, fits-widens}
+use Rattle.model.specs.definitions.Areas.{unsignedOf}
 use Rattle.model.proofs.area.unsigned.Statement.{statement}
 use Rattle.model.proofs.area.unsigned.Tie as tie
-
-cast-magnitude : tie.Need-cast-magnitude
-cast-magnitude c = search signed-needs
-
-magnitude-requires : tie.Need-magnitude-requires
-magnitude-requires c κs = search needs
 
 module _ (c : tie.After-magnitude) where
   abbrev x : ℤ
@@ -45,14 +39,8 @@ natural : (x : ℤ) → ltZ x (pos 0) ≡ false → natAbs x ≡ unsignedOf x
 natural (pos n) e = refl
 natural (negsuc n) e = absurd (omega (arith, lt-no (negsuc n) (pos 0) e))
 
-sub-result : tie.Need-sub-result
-sub-result c = omega (arith, size (c .before), small (c .before))
-
 cast-result : tie.Need-cast-result
 cast-result c = omega (arith, size (c .before), negative (x (c .before)) (sign (c .before) true (c .if1 .taken)))
-
-cast-result-2 : tie.Need-cast-result-2
-cast-result-2 c = omega (arith, size (c .before), small (c .before))
 
 returns : tie.Need-returns
 returns c = rw (size (c .before)) (negative (x (c .before)) (sign (c .before) true (c .if1 .taken)) .1 (omega (arith, small (c .before))))
@@ -62,12 +50,6 @@ returns-2 c = rw (size (c .before)) (natural (x (c .before)) (sign (c .before) f
 
 pub unsigned-spec : {M : Type 1} → statement M
 unsigned-spec =
-    tie.close
-    (tie.spec
-    cast-magnitude
-    magnitude-requires
-    sub-result
-    cast-result
-    cast-result-2
-    returns
-    returns-2)
+    tie.close (tie.spec
+    (λ c. search signed-needs) (λ c κs. search needs) (λ c. omega (arith, size (c .before), small (c .before))) cast-result
+    (λ c. omega (arith, size (c .before), small (c .before))) returns returns-2)

@@ -11,7 +11,7 @@ use lib.Seq.{drop-cons, set-at}
 use mir.Syntax.{w32}
 use mir.ValLaws.{toZ-pos}
 use denote.Ref.{now}
-use Rattle.model.specs.Models.{places}
+use Rattle.model.specs.definitions.Models.{coefficientCount}
 use Rattle.model.proofs.area.write.Statement.{statement}
 use Rattle.model.proofs.area.write.Tie as tie
 
@@ -25,41 +25,14 @@ written (x ∷ o) cs d r n hc ho =
     ∙ ap (λ (t : List ℤ). getD o n (pos 0) ∷ t) (drop-of-length-le o {i = suc n} (omega arith)) in
     ap (λ (t : List ℤ). set (d ∷ (cs ++ t)) (1 + n) r) last ∙ set-at (d ∷ cs) (getD o n (pos 0)) [] r (1 + n) (omega arith)
 
-long : (c : tie.Start) → length (c .args .m .coefficients) ≡ places
+long : (c : tie.Start) → length (c .args .m .coefficients) ≡ coefficientCount
 long c = search needs
-
-slice-aggregate-copy : tie.Need-slice-aggregate-copy
-slice-aggregate-copy c = search needs
-
-sub-copy : tie.Need-sub-copy
-sub-copy c = search needs
-
-part-copy-start : tie.Need-part-copy-start
-part-copy-start c = search needs
-
-part-copy-end : tie.Need-part-copy-end
-part-copy-end c = search needs
-
-copy-requires : tie.Need-copy-requires
-copy-requires c κs = simp (length-take, length-drop) (omega (arith, long (c .before .before .before)))
-
-cast-area : tie.Need-cast-area
-cast-area c = search needs
-
-slice-set-from-area : tie.Need-slice-set-from-area
-slice-set-from-area c = search needs
-
-cast-area-2 : tie.Need-cast-area-2
-cast-area-2 c = search needs
 
 slice-set-from-area-2 : tie.Need-slice-set-from-area-2
 slice-set-from-area-2 c =
     let b = c .before .before .before in
     let a = now (b .before .before .before .before .args .area) in
-    simp (length-set, same-len-mid 1 places a (b .copy .last .1 .0) (b .copy .kept .1 .0)) (search needs)
-
-same-length : tie.Need-same-length
-same-length c = search needs
+    simp (length-set, same-len-mid 1 coefficientCount a (b .copy .last .1 .0) (b .copy .kept .1 .0)) (search needs)
 
 returns : tie.Need-returns
 returns c =
@@ -67,20 +40,11 @@ returns c =
     let s = b .before .before .before .before in
     let a = s .args in
     rw (b .copy .ensures, toZ-pos w32 (a .m .degree) (omega arith), toZ-pos w32 (a .m .radius) (omega arith))
-    (written (now (a .area)) (a .m .coefficients) (pos (a .m .degree)) (pos (a .m .radius)) places (long s) (omega arith))
+    (written (now (a .area)) (a .m .coefficients) (pos (a .m .degree)) (pos (a .m .radius)) coefficientCount (long s) (omega arith))
 
 pub write-spec : {M : Type 1} → statement M
 write-spec =
-    tie.close
-    (tie.spec
-    slice-aggregate-copy
-    sub-copy
-    part-copy-start
-    part-copy-end
-    copy-requires
-    cast-area
-    slice-set-from-area
-    cast-area-2
-    slice-set-from-area-2
-    same-length
-    returns)
+    tie.close (tie.spec
+    (λ c. search needs) (λ c. search needs) (λ c. search needs) (λ c. search needs)
+    (λ c κs. simp (length-take, length-drop) (omega (arith, long (c .before .before .before)))) (λ c. search needs)
+    (λ c. search needs) (λ c. search needs) slice-set-from-area-2 (λ c. search needs) returns)

@@ -10,12 +10,13 @@ use lib.IntN.{ℤ, pos, natAbs, _+ℤ_, _-ℤ_, _*ℤ_}
 use mir.Syntax.{w64}
 use mir.Val.{SFits}
 use mir.Facts.{toZ-ofZ}
-use Rattle.integer.specs.Machine.{abs-fits, fits-widens, signed-needs}
-use Rattle.integer.specs.Rounding.{floor, up}
-use Rattle.model.specs.Models.{scale, good, firstRefusal}
-use Rattle.model.specs.ModelLaws.{Good, good-is}
-use Rattle.model.specs.Evaluation.{enclosure, evaluation}
-use Rattle.model.specs.EvaluationLaws.{evaluation-accepted}
+use Rattle.integer.specs.laws.Machine.{abs-fits, fits-widens, signed-needs}
+use Rattle.integer.specs.definitions.Rounding.{floor, up}
+use Rattle.model.specs.definitions.Models.{scale, good}
+use Rattle.model.specs.definitions.Outcomes.{accepted, passing}
+use Rattle.model.specs.laws.ModelLaws.{Good, good-is}
+use Rattle.model.specs.definitions.Evaluation.{evaluation}
+use Rattle.model.specs.laws.EvaluationLaws.{evaluation-accepted}
 use Rattle.model.specs.declared.types.Model.{Model}
 use Rattle.model.proofs.EvaluationBounds.{Sums, error-small, error-word, radius-word, fits-value, fits-fourfold, fits-below, fits-above, low, high}
 use Rattle.model.proofs.evaluate.evaluate.Statement.{statement}
@@ -85,48 +86,24 @@ module _ (u : tie.After-up) where
   up-is : u .up .result ≡ up (pos 4 *ℤ v k₂ +ℤ pos (w k₂)) (2 ^ 32)
   up-is = let n = sums k₂ in simp (toZ-ofZ (fits-value n), toZ-ofZ (fits-fourfold n), error-word n, toZ-ofZ (fits-above n)) at (u .up .ensures)
 
-is-good-requires : tie.Need-is-good-requires
-is-good-requires c κs = search needs
-
-cast-point : tie.Need-cast-point
-cast-point c = search signed-needs
-
-magnitude-requires : tie.Need-magnitude-requires
-magnitude-requires c κs = search needs
-
-cast-if2 : tie.Need-cast-if2
-cast-if2 c = search needs
-
 point-sums-requires : tie.Need-point-sums-requires
 point-sums-requires k κs =
     let m = k .before .before .before in
     let c = m .before in
     simp (toZ-ofZ (s c .fits .p), toZ-ofZ (fits-p c))
-    ((search needs, is-good c .degree-fits), (is-good c .weight-fits, omega (arith, point-is m)))
+    (record { all = search needs; degree-fits = is-good c .degree-fits; light = is-good c .weight-fits; inside = omega (arith, point-is m) })
 
 mul-value : tie.Need-mul-value
 mul-value c = let n = sums (c .before .before) in simp (toZ-ofZ (fits-value n)) (fits-fourfold n)
 
-cast-error : tie.Need-cast-error
-cast-error c = abs-fits w64 _ (omega (arith, error-small (sums (c .before .before .before))))
-
-cast-radius : tie.Need-cast-radius
-cast-radius c = search needs
-
 sub-floor : tie.Need-sub-floor
 sub-floor c = let n = sums (c .before .before .before) in simp (toZ-ofZ (fits-value n), toZ-ofZ (fits-fourfold n), error-word n) (fits-below n)
-
-floor-requires : tie.Need-floor-requires
-floor-requires c κs = search needs
 
 sub-low : tie.Need-sub-low
 sub-low c = let n = sums (k₁ c) in simp (toZ-ofZ (fits-floor c), radius-word n) (low n _ (floor-is c) .0)
 
 add-up : tie.Need-add-up
 add-up c = let n = sums (k₁ c) in simp (toZ-ofZ (fits-value n), toZ-ofZ (fits-fourfold n), error-word n) (fits-above n)
-
-up-requires : tie.Need-up-requires
-up-requires c κs = search needs
 
 add-high : tie.Need-add-high
 add-high c = let n = sums (k₂ c) in simp (toZ-ofZ (fits-up c), radius-word n) (high n _ (up-is c) .0)
@@ -138,34 +115,19 @@ returns u =
     let (fits-high, high-is) = high n _ (up-is u) in
     let c = c (k₂ u) in
     simp (toZ-ofZ (fits-floor (u .before)), toZ-ofZ (fits-up u), radius-word n, toZ-ofZ fits-low, toZ-ofZ fits-high, evaluation-accepted (a c) (p c) (passed c) (n .inside))
-    (λ i. record { number = 0; low = low-is i; high = high-is i })
+    (λ i. accepted (record { low = low-is i; high = high-is i }))
 
 returns-2 : tie.Need-returns-2
-unfolding evaluation enclosure firstRefusal
+unfolding evaluation passing
 returns-2 c = rw (passed (c .before .before), lt-ltb scale (natAbs (p (c .before .before))) (omega (arith, point-is (c .before))))
 
 returns-3 : tie.Need-returns-3
-unfolding evaluation enclosure firstRefusal
+unfolding evaluation passing
 returns-3 c = rw (sym (c .before .is-good .ensures) ∙ c .if1 .left)
 
 pub evaluate-spec : {M : Type 1} → statement M
 evaluate-spec =
-    tie.close
-    (tie.spec
-    is-good-requires
-    cast-point
-    magnitude-requires
-    cast-if2
-    point-sums-requires
-    mul-value
-    cast-error
-    cast-radius
-    sub-floor
-    floor-requires
-    sub-low
-    add-up
-    up-requires
-    add-high
-    returns
-    returns-2
-    returns-3)
+    tie.close (tie.spec
+    (λ c κs. search needs) (λ c. search signed-needs) (λ c κs. search needs) (λ c. search needs) point-sums-requires mul-value
+    (λ c. abs-fits w64 _ (omega (arith, error-small (sums (c .before .before .before))))) (λ c. search needs) sub-floor
+    (λ c κs. search needs) sub-low add-up (λ c κs. search needs) add-high returns returns-2 returns-3)

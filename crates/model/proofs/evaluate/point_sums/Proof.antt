@@ -3,21 +3,19 @@
 use mathlib.Core.Path.{_≡_, refl, sym}
 use mathlib.Core.List.{List}
 use Prim.Native.Nat.{ℕ, suc, _+_, _*_, _-_, _^_, _≤_, _<_}
-use native.Mathlib.Nat.{mul-le-mul}
 use native.Mathlib.Omega.{arith}
 use lib.IntN.{ℤ, pos, natAbs, _+ℤ_, _-ℤ_, _*ℤ_}
 use lib.ListN.{length, getD, take, length-take}
 use lib.Seq.{getD-take}
-use lib.Signed.{ltZ-yes, leZ-yes}
+use lib.Signed.{ltZ-yes}
 use mir.Syntax.{w32, w64}
 use mir.Val.{SFits, toZ}
 use mir.Facts.{toZ-ofZ}
-use Rattle.integer.specs.Parts.{mul-within}
-use Rattle.integer.specs.Rounding.{near}
-use Rattle.integer.specs.Machine.{abs-fits, fits-widens, signed-needs}
-use Rattle.chebyshev.specs.Weight.{weight-at, weight-take}
-use Rattle.model.specs.Models.{scale}
-use Rattle.model.proofs.EvaluationWalk.{Walk, begins, pairs-is, turn, ends, Small, small}
+use Rattle.integer.specs.definitions.Rounding.{near}
+use Rattle.integer.specs.laws.Machine.{abs-fits, fits-widens, signed-needs}
+use Rattle.chebyshev.specs.laws.Weight.{weight-at, weight-take}
+use Rattle.model.specs.definitions.Models.{scale}
+use Rattle.model.proofs.EvaluationWalk.{Walk, begins, pairs-is, square-small, turn, ends, Small, small, term-fits, first-fits, twice-fits, numerator-fits}
 use Rattle.model.proofs.evaluate.point_sums.Statement.{statement}
 use Rattle.model.proofs.evaluate.point_sums.Tie as tie
 
@@ -34,13 +32,13 @@ module _ (s : tie.Start Inv-loop μ-loop) where
   cs = take (suc (s .args .degree)) (s .args .coefficients .now)
 
   length-cs : length cs ≡ suc (s .args .degree)
-  length-cs = rw length-take (omega (arith, s .pre .0))
+  length-cs = rw length-take (omega (arith, s .pre))
 
   bounded : {value : ℤ} {error : ℕ} {t next : ℤ} {k : ℕ} → Walk (s .args .p) cs value error t next k → Small value error t next
-  bounded w = small w (s .pre .1 .1) (omega (arith, length-cs, s .pre .0)) (omega (arith, weight-take (suc (s .args .degree)) (s .args .coefficients .now), s .pre .1))
+  bounded w = small w (s .pre .inside) (omega (arith, length-cs, s .pre)) (omega (arith, weight-take (suc (s .args .degree)) (s .args .coefficients .now), s .pre))
 
   fits-first : SFits w64 (pos 1024 *ℤ s .args .p)
-  fits-first = abs-fits w64 (pos 1024 *ℤ s .args .p) (omega (arith, mul-within 1024 (2 ^ 20) (pos 1024) (s .args .p) (omega arith) (s .pre .1 .1)))
+  fits-first = first-fits (s .args .p) (s .pre .inside)
 
 -- at the loop's head
 module _ (l : tie.At-loop Inv-loop μ-loop) where
@@ -91,23 +89,16 @@ module _ (c : tie.After-c Inv-loop μ-loop) where
       (sym (getD-take (suc (s l .args .degree)) (s l .args .coefficients .now) (k l) (pos 0) (omega arith)))
 
   fits-term : SFits w64 (x *ℤ t l)
-  fits-term =
-      abs-fits w64 (x *ℤ t l)
-      (omega (arith, mul-within (2 ^ 28) (2 ^ 31) x (t l) (omega (arith, weight-at (s l .args .coefficients .now) (k l), s l .pre .1)) (bounded (s l) (walk l) .t-small)))
+  fits-term = term-fits x (t l) (omega (arith, weight-at (s l .args .coefficients .now) (k l), s l .pre)) (bounded (s l) (walk l) .t-small)
 
   fits-sum : SFits w64 (value l +ℤ x *ℤ t l)
   fits-sum = abs-fits w64 (value l +ℤ x *ℤ t l) (omega (arith, bounded (s l) (after (natAbs x) _ refl refl) .value-small))
 
-  twice-size : natAbs (pos 2 *ℤ p l) ≤ 2 * 2 ^ 20
-  twice-size = mul-within 2 (2 ^ 20) (pos 2) (p l) (omega arith) (s l .pre .1 .1)
-
   fits-twice : SFits w64 (pos 2 *ℤ p l)
-  fits-twice = abs-fits w64 (pos 2 *ℤ p l) (omega (arith, twice-size))
+  fits-twice = twice-fits (p l) (s l .pre .inside)
 
   fits-numerator : SFits w64 (pos 2 *ℤ p l *ℤ next l)
-  fits-numerator =
-      abs-fits w64 (pos 2 *ℤ p l *ℤ next l)
-      (omega (arith, mul-within (2 * 2 ^ 20) (2 ^ 31) (pos 2 *ℤ p l) (next l) twice-size (bounded (s l) (walk l) .next-small)))
+  fits-numerator = numerator-fits (p l) (s l .pre .inside) (next l) (bounded (s l) (walk l) .next-small)
 
 module _ (m : tie.After-magnitude Inv-loop μ-loop) where
   x-abs : m .magnitude .result ≡ natAbs (x (m .before))
@@ -132,61 +123,8 @@ module _ (n : tie.After-near Inv-loop μ-loop) where
   fits-after : SFits w64 (n .near .result -ℤ t (l c))
   fits-after = abs-fits w64 (n .near .result -ℤ t (l c)) (omega (arith, bounded (s (l c)) (after c _ _ (x-abs m) near-is) .next-small))
 
-mul-next : tie.Need-mul-next Inv-loop μ-loop
-mul-next c = simp (toZ-ofZ (c .fits .p)) (fits-first c)
-
 loop-holds : tie.Need-loop-holds Inv-loop μ-loop
 loop-holds c = simp (toZ-ofZ (c .fits .p), toZ-ofZ (fits-first c)) (refl, begins (c .args .p) (cs c))
-
-mul-c : tie.Need-mul-c Inv-loop μ-loop
-mul-c c = omega (arith, s (c .before) .pre .0)
-
-element-copy-out-c : tie.Need-element-copy-out-c Inv-loop μ-loop
-element-copy-out-c c = omega (arith, s (c .before) .pre .0)
-
-cast-c : tie.Need-cast-c Inv-loop μ-loop
-cast-c c = search signed-needs
-
-mul-value : tie.Need-mul-value Inv-loop μ-loop
-mul-value c = simp (toZ-ofZ (fits-32 c), toZ-ofZ (fits-64 c)) (fits-term c)
-
-add-value : tie.Need-add-value Inv-loop μ-loop
-add-value c = simp (toZ-ofZ (fits-32 c), toZ-ofZ (fits-64 c), toZ-ofZ (fits-term c)) (fits-sum c)
-
-magnitude-requires : tie.Need-magnitude-requires Inv-loop μ-loop
-magnitude-requires c κs = tt
-
-mul-error : tie.Need-mul-error Inv-loop μ-loop
-mul-error m =
-    let l = l (m .before) in
-    omega (arith, mul-le-mul {n₁ = k l} {m₁ = k l} {n₂ = 33} {m₂ = 33} (omega (arith, inside l, s l .pre .0)) (omega (arith, inside l, s l .pre .0)))
-
-sub-error : tie.Need-sub-error Inv-loop μ-loop
-sub-error c = pairs-is (k (l (c .before))) .0
-
-mul-error-2 : tie.Need-mul-error-2 Inv-loop μ-loop
-mul-error-2 m = omega (arith, error-small m)
-
-add-error : tie.Need-add-error Inv-loop μ-loop
-add-error m = omega (arith, error-small m)
-
-mul-near : tie.Need-mul-near Inv-loop μ-loop
-mul-near m = simp (toZ-ofZ (fits-p (l (m .before)))) (fits-twice (m .before))
-
-mul-near-2 : tie.Need-mul-near-2 Inv-loop μ-loop
-mul-near-2 m = simp (toZ-ofZ (fits-p (l (m .before))), toZ-ofZ (fits-twice (m .before))) (fits-numerator (m .before))
-
-near-requires : tie.Need-near-requires Inv-loop μ-loop
-near-requires c κs = (ltZ-yes tt, leZ-yes tt)
-
-sub-after : tie.Need-sub-after Inv-loop μ-loop
-sub-after n = simp (toZ-ofZ (fits-near n)) (fits-after n)
-
-add-k : tie.Need-add-k Inv-loop μ-loop
-add-k n = omega (arith, s (l (c n)) .pre .0)
-
-loop-less : tie.Need-loop-less Inv-loop μ-loop
-loop-less c = omega arith
 
 loop-again : tie.Need-loop-again Inv-loop μ-loop
 loop-again n =
@@ -198,27 +136,14 @@ returns c = ends (walk (c .before)) (omega (arith, length-cs (s (c .before))))
 
 pub point-sums-spec : {M : Type 1} → statement M
 point-sums-spec =
-    tie.close
-    (tie.spec
-    Inv-loop
-    μ-loop
-    mul-next
-    loop-holds
-    mul-c
-    element-copy-out-c
-    cast-c
-    mul-value
-    add-value
-    magnitude-requires
-    mul-error
-    sub-error
-    mul-error-2
-    add-error
-    mul-near
-    mul-near-2
-    near-requires
-    sub-after
-    add-k
-    loop-less
-    loop-again
-    returns)
+    tie.close (tie.spec
+    Inv-loop μ-loop (λ c. simp (toZ-ofZ (c .fits .p)) (fits-first c)) loop-holds (λ c. omega (arith, s (c .before) .pre))
+    (λ c. omega (arith, s (c .before) .pre)) (λ c. search signed-needs)
+    (λ c. simp (toZ-ofZ (fits-32 c), toZ-ofZ (fits-64 c)) (fits-term c))
+    (λ c. simp (toZ-ofZ (fits-32 c), toZ-ofZ (fits-64 c), toZ-ofZ (fits-term c)) (fits-sum c)) (λ c κs. tt)
+    (λ m. let l = l (m .before) in omega (arith, square-small (k l) (omega (arith, inside l, s l .pre))))
+    (λ c. pairs-is (k (l (c .before))) .0) (λ m. omega (arith, error-small m)) (λ m. omega (arith, error-small m))
+    (λ m. simp (toZ-ofZ (fits-p (l (m .before)))) (fits-twice (m .before)))
+    (λ m. simp (toZ-ofZ (fits-p (l (m .before))), toZ-ofZ (fits-twice (m .before))) (fits-numerator (m .before)))
+    (λ c κs. ltZ-yes tt) (λ n. simp (toZ-ofZ (fits-near n)) (fits-after n))
+    (λ n. omega (arith, s (l (c n)) .pre)) (λ c. omega arith) loop-again returns)

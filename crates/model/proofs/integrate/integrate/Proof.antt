@@ -8,14 +8,15 @@ use lib.ListN.{getD, length-set}
 use mir.Syntax.{w32}
 use mir.Val.{SFits}
 use mir.Facts.{toZ-ofZ}
-use Rattle.integer.specs.Parts.{abs-mul}
-use Rattle.integer.specs.Machine.{abs-fits}
-use Rattle.chebyshev.specs.Coefficients.{weight}
-use Rattle.chebyshev.specs.Weight.{weight-at}
-use Rattle.model.specs.Models.{good, firstRefusal, outcomeOf, outcome}
-use Rattle.model.specs.ModelLaws.{Good, good-is}
-use Rattle.model.specs.Integral.{integralModel, integration}
-use Rattle.model.specs.IntegralLaws.{integral-doubled, weight-doubled, integration-formed, integration-degree}
+use Rattle.integer.specs.laws.Parts.{abs-mul}
+use Rattle.integer.specs.laws.Machine.{abs-fits}
+use Rattle.chebyshev.specs.definitions.Coefficients.{weight}
+use Rattle.chebyshev.specs.laws.Weight.{weight-at}
+use Rattle.model.specs.definitions.Models.{good}
+use Rattle.model.specs.definitions.Outcomes.{passing}
+use Rattle.model.specs.laws.ModelLaws.{Good, good-is}
+use Rattle.model.specs.definitions.Integral.{integralModel, integration}
+use Rattle.model.specs.laws.IntegralLaws.{integral-doubled, weight-doubled, integration-formed, integration-degree}
 use Rattle.model.specs.declared.types.Model.{Model}
 use Rattle.model.proofs.integrate.integrate.Statement.{statement}
 use Rattle.model.proofs.integrate.integrate.Tie as tie
@@ -56,53 +57,14 @@ module _ (r : tie.After-rounded-integral) where
   weight-is : r .rounded-integral .result .weight ≡ weight (integralModel (a (c d)) .coefficients)
   weight-is = (simp (toZ-ofZ (fits-x d), toZ-ofZ (fits-double d)) at (r .rounded-integral .ensures .1)) ∙ ap weight (integral-doubled (a (c d)))
 
-is-good-requires : tie.Need-is-good-requires
-is-good-requires c κs = search needs
-
-array-copy-out-doubled : tie.Need-array-copy-out-doubled
-array-copy-out-doubled c = search needs
-
-mul-doubled : tie.Need-mul-doubled
-mul-doubled d = simp (toZ-ofZ (fits-x d)) (fits-double d)
-
-array-set-from-doubled : tie.Need-array-set-from-doubled
-array-set-from-doubled c = search needs
-
 rounded-integral-requires : tie.Need-rounded-integral-requires
 rounded-integral-requires k κs =
     let d = k .before in
-    simp (toZ-ofZ (fits-x d), toZ-ofZ (fits-double d)) (
-      length-set (a (c d) .coefficients) 0 (pos 2 *ℤ x d) ∙ search needs,
-      omega arith,
-      omega (arith, weight-doubled (a (c d) .coefficients), is-good (c d) .weight-fits),
-    )
-
-cast-radius : tie.Need-cast-radius
-cast-radius c = search needs
-
-mul-radius : tie.Need-mul-radius
-mul-radius c = search needs
-
-cast-radius-2 : tie.Need-cast-radius-2
-cast-radius-2 c = search needs
-
-add-radius : tie.Need-add-radius
-add-radius c = search needs
-
-add-radius-2 : tie.Need-add-radius-2
-add-radius-2 c = search needs
-
-add-formed : tie.Need-add-formed
-add-formed c = search needs
-
-formed-requires : tie.Need-formed-requires
-formed-requires c κs = search needs
-
-refused-requires : tie.Need-refused-requires
-refused-requires c κs = search needs
-
-refused-requires-2 : tie.Need-refused-requires-2
-refused-requires-2 c κs = search needs
+    simp (toZ-ofZ (fits-x d), toZ-ofZ (fits-double d)) (record {
+      all = length-set (a (c d) .coefficients) 0 (pos 2 *ℤ x d) ∙ search needs;
+      degree-fits = omega arith;
+      light = omega (arith, weight-doubled (a (c d) .coefficients), is-good (c d) .weight-fits);
+    })
 
 returns : tie.Need-returns
 returns k =
@@ -111,30 +73,16 @@ returns k =
     k .formed .ensures ∙ integration-formed (a c) _ _ (passed c) (coefficients-are r) (weight-is r)
 
 returns-2 : tie.Need-returns-2
-returns-2 c = ap outcomeOf (c .refused .ensures) ∙ integration-degree (a (c .before .before .before)) (passed (c .before .before .before)) (omega arith)
+returns-2 c = c .refused .ensures ∙ integration-degree (a (c .before .before .before)) (passed (c .before .before .before)) (omega arith)
 
 returns-3 : tie.Need-returns-3
-unfolding integration outcome firstRefusal
-returns-3 c = ap outcomeOf (c .refused2 .ensures) ∙ rw (sym (c .before .before .is-good .ensures) ∙ c .before .if1 .left)
+unfolding integration passing
+returns-3 c = c .refused2 .ensures ∙ rw (sym (c .before .before .is-good .ensures) ∙ c .before .if1 .left)
 
 pub integrate-spec : {M : Type 1} → statement M
 integrate-spec =
-    tie.close
-    (tie.spec
-    is-good-requires
-    array-copy-out-doubled
-    mul-doubled
-    array-set-from-doubled
-    rounded-integral-requires
-    cast-radius
-    mul-radius
-    cast-radius-2
-    add-radius
-    add-radius-2
-    add-formed
-    formed-requires
-    refused-requires
-    refused-requires-2
-    returns
-    returns-2
-    returns-3)
+    tie.close (tie.spec
+    (λ c κs. search needs) (λ c. search needs) (λ d. simp (toZ-ofZ (fits-x d)) (fits-double d)) (λ c. search needs)
+    rounded-integral-requires (λ c. search needs) (λ c. search needs) (λ c. search needs) (λ c. search needs)
+    (λ c. search needs) (λ c. search needs) (λ c κs. search needs) (λ c κs. search needs) (λ c κs. search needs) returns
+    returns-2 returns-3)

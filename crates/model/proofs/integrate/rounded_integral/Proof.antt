@@ -10,12 +10,11 @@ use lib.Seq.{getD-take}
 use mir.Syntax.{w32, w64}
 use mir.Val.{SFits, toZ}
 use mir.Facts.{toZ-ofZ, toZ-pos}
-use Rattle.integer.specs.Parts.{abs-sub}
-use Rattle.integer.specs.Difference.{<-parts}
-use Rattle.integer.specs.Order.{pos-le}
-use Rattle.integer.specs.Machine.{abs-fits, fits-widens, signed-needs}
-use Rattle.chebyshev.specs.Coefficients.{weight as weightOf}
-use Rattle.chebyshev.specs.Weight.{weight-at, weight-take}
+use Rattle.integer.specs.laws.Parts.{abs-sub}
+use Rattle.integer.specs.laws.Difference.{<-parts}
+use Rattle.integer.specs.laws.Machine.{abs-fits, fits-widens, signed-needs}
+use Rattle.chebyshev.specs.definitions.Coefficients.{weight as weightOf}
+use Rattle.chebyshev.specs.laws.Weight.{weight-at, weight-take}
 use Rattle.model.proofs.IntegralWalk.{Walk, begins, turn, ends, Small, small}
 use Rattle.model.proofs.integrate.rounded_integral.Statement.{statement}
 use Rattle.model.proofs.integrate.rounded_integral.Tie as tie
@@ -111,59 +110,11 @@ module _ (n : tie.After-near Inv-loop μ-loop) where
 size-is : (m : tie.After-magnitude Inv-loop μ-loop) → m .magnitude .result ≡ natAbs (c (m .before))
 size-is m = simp (toZ-ofZ (fits-c (m .before))) at (m .magnitude .ensures)
 
-add-k : tie.Need-add-k Inv-loop μ-loop
-add-k c = omega (arith, c .pre)
-
 loop-holds : tie.Need-loop-holds Inv-loop μ-loop
 loop-holds c = begins (ds c) (c .args .degree + 1) (length-ds c) (omega (arith, c .pre))
 
-sub-below : tie.Need-sub-below Inv-loop μ-loop
-sub-below c = omega arith
-
-mul-below : tie.Need-mul-below Inv-loop μ-loop
-mul-below c = omega (arith, inside (c .before), s (c .before) .pre)
-
-element-copy-out-below : tie.Need-element-copy-out-below Inv-loop μ-loop
-element-copy-out-below c = omega (arith, inside (c .before), s (c .before) .pre)
-
-cast-below : tie.Need-cast-below Inv-loop μ-loop
-cast-below c = search signed-needs
-
-sub-near : tie.Need-sub-near Inv-loop μ-loop
-sub-near b = simp (toZ-ofZ (fits-32 b), toZ-ofZ (fits-64 b)) (fits-numerator b)
-
-mul-near : tie.Need-mul-near Inv-loop μ-loop
-mul-near b = omega (arith, inside (l b), s (l b) .pre)
-
-cast-near : tie.Need-cast-near Inv-loop μ-loop
-cast-near b = abs-fits w64 _ (omega (arith, inside (l b), s (l b) .pre))
-
 near-requires : tie.Need-near-requires Inv-loop μ-loop
-near-requires b κs = rw (divisor-is b) (<-parts (pos 0) (pos (2 * k (l b))) .1 (omega arith), pos-le _ _ (omega (arith, inside (l b), s (l b) .pre)))
-
-cast-coefficients : tie.Need-cast-coefficients Inv-loop μ-loop
-cast-coefficients n = simp (toZ-ofZ (fits-c n)) (fits-c-32 n)
-
-mul-coefficients : tie.Need-mul-coefficients Inv-loop μ-loop
-mul-coefficients n = omega (arith, inside (at n), s (at n) .pre)
-
-array-set-from-coefficients : tie.Need-array-set-from-coefficients Inv-loop μ-loop
-array-set-from-coefficients n = omega (arith, inside (at n), s (at n) .pre)
-
-magnitude-requires : tie.Need-magnitude-requires Inv-loop μ-loop
-magnitude-requires c κs = tt
-
-add-weight : tie.Need-add-weight Inv-loop μ-loop
-add-weight m = let n = m .before in omega (arith, small (after n _ (size-is m)) (light (s (at n))) .total-small)
-
-sub-first : tie.Need-sub-first Inv-loop μ-loop
-sub-first m = simp (toZ-ofZ (fits-c (m .before))) (fits-first (m .before))
-
-sub-k : tie.Need-sub-k Inv-loop μ-loop
-sub-k m = omega arith
-
-loop-less : tie.Need-loop-less Inv-loop μ-loop
-loop-less m = omega arith
+near-requires b κs = rw (divisor-is b) (<-parts (pos 0) (pos (2 * k (l b))) .1 (omega arith))
 
 loop-again : tie.Need-loop-again Inv-loop μ-loop
 loop-again m =
@@ -173,21 +124,8 @@ loop-again m =
     (after n _ (size-is m))
 
 -- after the loop
-module _ (e : tie.After-loop Inv-loop μ-loop) where
-  fits-first-32 : SFits w32 (first (e .before))
-  fits-first-32 = abs-fits w32 (first (e .before)) (omega (arith, now-small (e .before) .first-small))
-
-cast-coefficients-2 : tie.Need-cast-coefficients-2 Inv-loop μ-loop
-cast-coefficients-2 e = fits-first-32 e
-
-array-set-from-coefficients-2 : tie.Need-array-set-from-coefficients-2 Inv-loop μ-loop
-array-set-from-coefficients-2 e = omega arith
-
-magnitude-requires-2 : tie.Need-magnitude-requires-2 Inv-loop μ-loop
-magnitude-requires-2 c κs = tt
-
-add-weight-2 : tie.Need-add-weight-2 Inv-loop μ-loop
-add-weight-2 z = omega (arith, now-small (z .before .before), z .magnitude2 .ensures)
+fits-first-32 : (e : tie.After-loop Inv-loop μ-loop) → SFits w32 (first (e .before))
+fits-first-32 e = abs-fits w32 (first (e .before)) (omega (arith, now-small (e .before) .first-small))
 
 returns : tie.Need-returns Inv-loop μ-loop
 returns z =
@@ -197,31 +135,14 @@ returns z =
 
 pub rounded-integral-spec : {M : Type 1} → statement M
 rounded-integral-spec =
-    tie.close
-    (tie.spec
-    Inv-loop
-    μ-loop
-    add-k
-    loop-holds
-    sub-below
-    mul-below
-    element-copy-out-below
-    cast-below
-    sub-near
-    mul-near
-    cast-near
-    near-requires
-    cast-coefficients
-    mul-coefficients
-    array-set-from-coefficients
-    magnitude-requires
-    add-weight
-    sub-first
-    sub-k
-    loop-less
-    loop-again
-    cast-coefficients-2
-    array-set-from-coefficients-2
-    magnitude-requires-2
-    add-weight-2
-    returns)
+    tie.close (tie.spec
+    Inv-loop μ-loop (λ c. omega (arith, c .pre)) loop-holds (λ c. omega arith)
+    (λ c. omega (arith, inside (c .before), s (c .before) .pre)) (λ c. omega (arith, inside (c .before), s (c .before) .pre))
+    (λ c. search signed-needs) (λ b. simp (toZ-ofZ (fits-32 b), toZ-ofZ (fits-64 b)) (fits-numerator b))
+    (λ b. omega (arith, inside (l b), s (l b) .pre)) (λ b. abs-fits w64 _ (omega (arith, inside (l b), s (l b) .pre)))
+    near-requires (λ n. simp (toZ-ofZ (fits-c n)) (fits-c-32 n)) (λ n. omega (arith, inside (at n), s (at n) .pre))
+    (λ n. omega (arith, inside (at n), s (at n) .pre)) (λ c κs. tt)
+    (λ m. let n = m .before in omega (arith, small (after n _ (size-is m)) (light (s (at n))) .total-small))
+    (λ m. simp (toZ-ofZ (fits-c (m .before))) (fits-first (m .before))) (λ m. omega arith) (λ m. omega arith) loop-again
+    (λ e. fits-first-32 e) (λ e. omega arith) (λ c κs. tt)
+    (λ z. omega (arith, now-small (z .before .before), z .magnitude2 .ensures)) returns)

@@ -4,15 +4,9 @@ use borrow.Author.Tests.{le-leb, lt-leb}
 use mathlib.Core.Path.{refl}
 use mathlib.Core.Bool.{and-false}
 use native.Mathlib.Omega.{arith}
-use Rattle.model.specs.Models.{good}
+use Rattle.model.specs.definitions.Models.{good}
 use Rattle.model.proofs.measure.measure.Statement.{statement}
 use Rattle.model.proofs.measure.measure.Tie as tie
-
-measure-parts-requires : tie.Need-measure-parts-requires
-measure-parts-requires c κs = search needs
-
-cast-if1 : tie.Need-cast-if1
-cast-if1 c = search needs
 
 returns : tie.Need-returns
 unfolding good
@@ -23,4 +17,4 @@ unfolding good
 returns-2 c = simp (lt-leb (c .before .before .before .before .args .t1 .radius) 268435456 (omega arith), and-false) (refl, c .before .measure-parts .ensures .1)
 
 pub measure-spec : {M : Type 1} → statement M
-measure-spec = tie.close (tie.spec measure-parts-requires cast-if1 returns returns-2)
+measure-spec = tie.close (tie.spec (λ c κs. search needs) (λ c. search needs) returns returns-2)

@@ -12,11 +12,11 @@ use borrow.Author.Tests.{le-leb, lt-leb}
 use mir.Syntax.{w32}
 use mir.Val.{SFits}
 use mir.Facts.{toZ-ofZ}
-use Rattle.integer.specs.Parts.{abs}
-use Rattle.integer.specs.Machine.{signed-needs, within, fits-widens}
-use Rattle.chebyshev.specs.Coefficients.{weight}
-use Rattle.chebyshev.specs.Weight.{weight-step, weight-end}
-use Rattle.model.specs.Models.{good}
+use Rattle.integer.specs.laws.Parts.{abs}
+use Rattle.integer.specs.laws.Machine.{signed-needs, within, fits-widens}
+use Rattle.chebyshev.specs.definitions.Coefficients.{weight}
+use Rattle.chebyshev.specs.laws.Weight.{weight-step, weight-end}
+use Rattle.model.specs.definitions.Models.{good}
 use Rattle.model.proofs.measure.measure_parts.Statement.{statement}
 use Rattle.model.proofs.measure.measure_parts.Tie as tie
 
@@ -39,21 +39,6 @@ beyond-degree n i cs l h =
     let e : max i (suc n) ≡ i = omega arith in
     let f : max (i + 1) (suc n) ≡ i + 1 = omega arith in
     rw (e, f) (weight-step cs i l)
-
-loop-holds : tie.Need-loop-holds Inv-loop μ-loop
-loop-holds c = omega arith
-
-mul-magnitude : tie.Need-mul-magnitude Inv-loop μ-loop
-mul-magnitude c = search signed-needs
-
-element-copy-out-magnitude : tie.Need-element-copy-out-magnitude Inv-loop μ-loop
-element-copy-out-magnitude c = search signed-needs
-
-cast-magnitude : tie.Need-cast-magnitude Inv-loop μ-loop
-cast-magnitude c = search signed-needs
-
-magnitude-requires : tie.Need-magnitude-requires Inv-loop μ-loop
-magnitude-requires c κs = tt
 
 module _ (l : tie.At-loop Inv-loop μ-loop) where
   abbrev cs : List ℤ
@@ -80,18 +65,6 @@ module _ (c : tie.After-magnitude Inv-loop μ-loop) where
 
   size-small : c .magnitude .result ≤ 2 ^ 32
   size-small = omega (arith, size-is, within w32 x fits-x, abs x)
-
-add-total : tie.Need-add-total Inv-loop μ-loop
-add-total c = omega (arith, size-small c)
-
-add-beyond : tie.Need-add-beyond Inv-loop μ-loop
-add-beyond c = omega (arith, size-small (c .before))
-
-add-i : tie.Need-add-i Inv-loop μ-loop
-add-i c = omega arith
-
-loop-less : tie.Need-loop-less Inv-loop μ-loop
-loop-less c = omega arith
 
 loop-again : tie.Need-loop-again Inv-loop μ-loop
 loop-again j =
@@ -136,20 +109,7 @@ returns-3 k = rw (lt-leb (n (e (k .before))) 32 (omega arith)) (refl, total-is (
 
 pub measure-parts-spec : {M : Type 1} → statement M
 measure-parts-spec =
-    tie.close
-    (tie.spec
-    Inv-loop
-    μ-loop
-    loop-holds
-    mul-magnitude
-    element-copy-out-magnitude
-    cast-magnitude
-    magnitude-requires
-    add-total
-    add-beyond
-    add-i
-    loop-less
-    loop-again
-    returns
-    returns-2
-    returns-3)
+    tie.close (tie.spec
+    Inv-loop μ-loop (λ c. omega arith) (λ c. search signed-needs) (λ c. search signed-needs) (λ c. search signed-needs)
+    (λ c κs. tt) (λ c. omega (arith, size-small c)) (λ c. omega (arith, size-small (c .before))) (λ c. omega arith)
+    (λ c. omega arith) loop-again returns returns-2 returns-3)

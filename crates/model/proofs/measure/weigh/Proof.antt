@@ -7,9 +7,9 @@ use lib.ListN.{length, getD, drop}
 use mir.Syntax.{w64}
 use mir.Val.{SFits}
 use mir.Facts.{toZ-ofZ}
-use Rattle.integer.specs.Machine.{signed-needs}
-use Rattle.chebyshev.specs.Coefficients.{weight}
-use Rattle.chebyshev.specs.Weight.{weight-step, weight-end}
+use Rattle.integer.specs.laws.Machine.{signed-needs}
+use Rattle.chebyshev.specs.definitions.Coefficients.{weight}
+use Rattle.chebyshev.specs.laws.Weight.{weight-step, weight-end}
 use Rattle.model.proofs.measure.weigh.Statement.{statement}
 use Rattle.model.proofs.measure.weigh.Tie as tie
 
@@ -18,18 +18,6 @@ Inv-loop c total₀ i₀ total i = (i ≤ length c) × (total + weight (drop i c
 
 abbrev μ-loop : tie.MeasureT-loop
 μ-loop c total₀ i₀ total i = length c - i
-
-loop-holds : tie.Need-loop-holds Inv-loop μ-loop
-loop-holds c = omega arith
-
-mul-magnitude : tie.Need-mul-magnitude Inv-loop μ-loop
-mul-magnitude c = search signed-needs
-
-shared-slice-copy-out-magnitude : tie.Need-shared-slice-copy-out-magnitude Inv-loop μ-loop
-shared-slice-copy-out-magnitude c = search signed-needs
-
-magnitude-requires : tie.Need-magnitude-requires Inv-loop μ-loop
-magnitude-requires c κs = tt
 
 -- what a turn adds
 turn : (c : tie.After-magnitude Inv-loop μ-loop) →
@@ -42,15 +30,6 @@ turn c =
     let e : c .magnitude .result ≡ natAbs (getD cs (l .loop .i) (pos 0)) = simp (toZ-ofZ fits) at (c .magnitude .ensures) in
     omega (arith, weight-step cs (l .loop .i) (omega arith))
 
-add-total : tie.Need-add-total Inv-loop μ-loop
-add-total c = omega (arith, turn c, c .before .before .before .before .pre)
-
-add-i : tie.Need-add-i Inv-loop μ-loop
-add-i c = omega arith
-
-loop-less : tie.Need-loop-less Inv-loop μ-loop
-loop-less c = omega arith
-
 loop-again : tie.Need-loop-again Inv-loop μ-loop
 loop-again c = omega (arith, turn c)
 
@@ -59,16 +38,7 @@ returns c = let l = c .before in omega (arith, weight-end (l .before .args .c .n
 
 pub weigh-spec : {M : Type 1} → statement M
 weigh-spec =
-    tie.close
-    (tie.spec
-    Inv-loop
-    μ-loop
-    loop-holds
-    mul-magnitude
-    shared-slice-copy-out-magnitude
-    magnitude-requires
-    add-total
-    add-i
-    loop-less
-    loop-again
+    tie.close (tie.spec
+    Inv-loop μ-loop (λ c. omega arith) (λ c. search signed-needs) (λ c. search signed-needs) (λ c κs. tt)
+    (λ c. omega (arith, turn c, c .before .before .before .before .pre)) (λ c. omega arith) (λ c. omega arith) loop-again
     returns)

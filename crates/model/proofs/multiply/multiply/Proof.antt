@@ -4,33 +4,22 @@ use borrow.Author.Tests.{not-true, not-false, lt-leb, eq-eqb, ne-eqb}
 use mathlib.Core.Path.{_≡_, sym, _∙_, ap, subst}
 use mathlib.Core.Logic.{⊎-elim}
 use mathlib.Core.Bool.{true}
-use mathlib.Core.List.{[], _∷_}
 use Prim.Native.Nat.{ℕ, _≤_}
 use native.Mathlib.Omega.{arith}
-use Rattle.model.specs.Models.{maxDegree, good, tooLarge, firstRefusal, outcome}
-use Rattle.model.specs.Operations.{keptDegree, productModel, multiplication}
-use Rattle.model.specs.MultiplicationLaws.{multiplication-good}
+use Rattle.model.specs.definitions.InnerContracts.{unlessLarge}
+use Rattle.model.specs.definitions.Models.{maxDegree, good}
+use Rattle.model.specs.definitions.Outcomes.{passing}
+use Rattle.model.specs.definitions.Operations.{keptDegree, productModel, multiplication}
+use Rattle.model.specs.laws.MultiplicationLaws.{multiplication-of-good}
 use Rattle.model.specs.declared.types.Model.{Model}
 use Rattle.model.proofs.multiply.multiply.Statement.{statement}
 use Rattle.model.proofs.multiply.multiply.Tie as tie
 
-measure-requires : tie.Need-measure-requires
-measure-requires c κs = search needs
-
-refused-requires : tie.Need-refused-requires
-refused-requires c κs = search needs
-
 returns : tie.Need-returns
-unfolding multiplication outcome firstRefusal
+unfolding multiplication passing
 returns c =
     let m = c .before .before .before .measure in
     rw (c .refused .ensures, ← (m .ensures .0), not-true (m .result .good) (c .before .if1 .taken))
-
-measure-requires-2 : tie.Need-measure-requires-2
-measure-requires-2 c κs = search needs
-
-refused-requires-2 : tie.Need-refused-requires-2
-refused-requires-2 c κs = search needs
 
 module _ (c : tie.Else1) where
   abbrev s : tie.Start
@@ -46,7 +35,7 @@ module _ (c : tie.Else1) where
   good-a = let m = c .before .before .measure in sym (m .ensures .0) ∙ not-false (m .result .good) (c .if1 .left)
 
 returns-2 : tie.Need-returns-2
-unfolding multiplication outcome firstRefusal
+unfolding multiplication passing
 returns-2 c =
     let m = c .before .before .before .measure2 in
     rw (c .refused2 .ensures, good-a (c .before .before .before .before), ← (m .ensures .0), not-true (m .result .good) (c .before .if2 .taken))
@@ -64,11 +53,8 @@ degree-is j =
     let d = s (e (j .before)) .args .kept in
     ⊎-elim (λ w. rw (eq-eqb d 255 (w .0 .taken)) (w .1)) (λ w. rw (ne-eqb d 255 (w .0 .left)) (w .1)) (j .if3 .came)
 
-refused-requires-3 : tie.Need-refused-requires-3
-refused-requires-3 c κs = search needs
-
 returns-3 : tie.Need-returns-3
-unfolding multiplication outcome firstRefusal
+unfolding multiplication passing
 returns-3 c =
     let j = c .before .before in
     let d = keptDegree (s (e (j .before)) .args .kept) in
@@ -78,7 +64,13 @@ multiply-good-requires : tie.Need-multiply-good-requires
 multiply-good-requires c κs =
     let k = c .before .before in
     let x = e k in
-    ((good-a x, good-b k, c .if4 .left), (x .before .before .measure .ensures .1, k .before .before .measure2 .ensures .1))
+    record {
+      first-good = good-a x;
+      second-good = good-b k;
+      first-weight = x .before .before .measure .ensures .1;
+      second-weight = k .before .before .measure2 .ensures .1;
+      kept-fits = c .if4 .left;
+    }
 
 returns-4 : tie.Need-returns-4
 returns-4 c =
@@ -86,20 +78,11 @@ returns-4 c =
     let x = e (j .before) in
     let d = s x .args .kept in
     c .multiply-good .ensures
-    ∙ ap (λ (n : ℕ). outcome ((tooLarge (productModel n (a x) (b x)), 3) ∷ []) (productModel n (a x) (b x))) (degree-is j)
-    ∙ multiplication-good d (a x) (b x) (good-a x) (good-b (j .before)) (subst (λ (n : ℕ). n ≤ maxDegree) (degree-is j) (c .before .if4 .left))
+    ∙ ap (λ (n : ℕ). unlessLarge (productModel n (a x) (b x))) (degree-is j)
+    ∙ multiplication-of-good d (a x) (b x) (good-a x) (good-b (j .before)) (subst (λ (n : ℕ). n ≤ maxDegree) (degree-is j) (c .before .if4 .left))
 
 pub multiply-spec : {M : Type 1} → statement M
 multiply-spec =
-    tie.close
-    (tie.spec
-    measure-requires
-    refused-requires
-    returns
-    measure-requires-2
-    refused-requires-2
-    returns-2
-    refused-requires-3
-    returns-3
-    multiply-good-requires
-    returns-4)
+    tie.close (tie.spec
+    (λ c κs. search needs) (λ c κs. search needs) returns (λ c κs. search needs) (λ c κs. search needs) returns-2
+    (λ c κs. search needs) returns-3 multiply-good-requires returns-4)

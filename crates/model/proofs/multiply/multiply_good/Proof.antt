@@ -7,15 +7,15 @@ use native.Mathlib.Omega.{arith}
 use native.Mathlib.Numerals.{add-one}
 use lib.ListN.{length, take}
 use lib.Seq.{length-take-le}
-use Rattle.integer.specs.Rounding.{upℕ}
-use Rattle.chebyshev.specs.Weight.{weight-take}
-use Rattle.model.specs.Models.{scale}
-use Rattle.model.specs.ModelLaws.{Good, good-is}
-use Rattle.model.specs.Operations.{productDegree, productList}
-use Rattle.model.specs.GoodLaws.{weight-productList}
-use Rattle.model.specs.MultiplicationLaws.{kept-is, radiusLoss, product-formed}
-use Rattle.model.specs.Formed.{formedOutcome}
-use Rattle.model.specs.RoundingPass.{RoundedFrom, rounded-loss}
+use Rattle.integer.specs.definitions.Rounding.{upℕ}
+use Rattle.chebyshev.specs.laws.Weight.{weight-take}
+use Rattle.model.specs.definitions.InnerContracts.{RoundedFrom, formedOutcome}
+use Rattle.model.specs.definitions.Models.{scale}
+use Rattle.model.specs.laws.ModelLaws.{Good, good-is}
+use Rattle.model.specs.definitions.Operations.{productDegree, productList}
+use Rattle.model.specs.laws.GoodLaws.{weight-productList}
+use Rattle.model.specs.laws.MultiplicationLaws.{kept-is, radiusLoss, product-formed}
+use Rattle.model.specs.laws.RoundingPassLaws.{rounded-loss}
 use Rattle.model.specs.declared.types.Model.{Model}
 use Rattle.model.proofs.multiply.multiply_good.Statement.{statement}
 use Rattle.model.proofs.multiply.multiply_good.Tie as tie
@@ -28,10 +28,10 @@ module _ (s : tie.Start) where
   b = s .args .b
 
   good-a : Good a
-  good-a = good-is a (s .pre .0 .0)
+  good-a = good-is a (s .pre .first-good)
 
   good-b : Good b
-  good-b = good-is b (s .pre .0 .1)
+  good-b = good-is b (s .pre .second-good)
 
   length-a : length (a .coefficients) ≡ 33
   length-a = search needs
@@ -48,32 +48,14 @@ module _ (s : tie.Start) where
 add-top : tie.Need-add-top
 add-top c = let s = c .before .before in omega (arith, good-a s, good-b s)
 
-cast-first : tie.Need-cast-first
-cast-first c = search needs
-
-add-first : tie.Need-add-first
-add-first c = search needs
-
 array-share-prefix-first : tie.Need-array-share-prefix-first
 array-share-prefix-first c = let s = c .before .before .before .before .before .before in omega (arith, good-a s, length-a s)
-
-slice-aggregate-round-product : tie.Need-slice-aggregate-round-product
-slice-aggregate-round-product c = sym (first-length (c .before .before .before .before .before .before .before))
-
-cast-second : tie.Need-cast-second
-cast-second c = search needs
-
-add-second : tie.Need-add-second
-add-second c = search needs
 
 array-share-prefix-second : tie.Need-array-share-prefix-second
 array-share-prefix-second c = let s = c .before .before .before .before .before .before .before .before in omega (arith, good-b s, length-b s)
 
 slice-aggregate-round-product-2 : tie.Need-slice-aggregate-round-product-2
 slice-aggregate-round-product-2 c = sym (second-length (c .before .before .before .before .before .before .before .before .before))
-
-add-round-product : tie.Need-add-round-product
-add-round-product c = search needs
 
 -- the degree of the result
 module _ (j : tie.Joined1) where
@@ -82,7 +64,7 @@ module _ (j : tie.Joined1) where
 
   degree-is : j .if1 .degree ≡ productDegree (s .args .kept) (a s) (b s)
   degree-is =
-      let e = kept-is (s .args .kept) (s .pre .0 .2) in
+      let e = kept-is (s .args .kept) (s .pre .kept-fits) in
       ⊎-elim (λ w. omega (arith, w .0, w .1)) (λ w. omega (arith, w .0, w .1)) (j .if1 .came)
 
 round-product-requires : tie.Need-round-product-requires
@@ -92,8 +74,8 @@ round-product-requires c κs =
     omega (
       arith,
       degree-is j,
-      kept-is (s .args .kept) (s .pre .0 .2),
-      s .pre .0 .2,
+      kept-is (s .args .kept) (s .pre .kept-fits),
+      s .pre .kept-fits,
       first-length s,
       second-length s,
       weight-take (a s .degree + 1) (a s .coefficients),
@@ -114,29 +96,14 @@ module _ (c : tie.After-round-product) where
   unfolding productList
   rounded-from = simp (add-one, degree-is at) at (c .round-product .ensures)
 
-cast-radius-loss : tie.Need-cast-radius-loss
-cast-radius-loss c = search needs
-
-cast-radius-loss-2 : tie.Need-cast-radius-loss-2
-cast-radius-loss-2 c = search needs
-
 radius-loss-requires : tie.Need-radius-loss-requires
-radius-loss-requires c κs = let s = start (c .before .before .before) in omega (arith, s .pre .1, good-a s, good-b s)
+radius-loss-requires c κs = let s = start (c .before .before .before) in omega (arith, s .pre, good-a s, good-b s)
 
 add-loss : tie.Need-add-loss
 add-loss c =
     let r = c .before .before .before .before .before in
     let s = start r in
-    omega (arith, c .before .radius-loss .ensures .1, rounded-loss (productList (a s) (b s)) _ (r .round-product .result) (rounded-from r), weight-productList (a s) (b s) (s .pre .0 .0) (s .pre .0 .1))
-
-cast-up-unsigned : tie.Need-cast-up-unsigned
-cast-up-unsigned c = search needs
-
-up-unsigned-requires : tie.Need-up-unsigned-requires
-up-unsigned-requires c κs = search needs
-
-formed-requires : tie.Need-formed-requires
-formed-requires c κs = search needs
+    omega (arith, c .before .radius-loss .ensures .1, rounded-loss (productList (a s) (b s)) _ (r .round-product .result) (rounded-from r), weight-productList (a s) (b s) (s .pre .first-good) (s .pre .second-good))
 
 returns : tie.Need-returns
 returns c =
@@ -145,7 +112,7 @@ returns c =
     let r = l .before .before .before .before in
     let s = start r in
     let p = r .round-product .result in
-    let n : l .radius-loss .result ≡ radiusLoss (a s) (b s) = l .radius-loss .ensures .0 ∙ (λ t. 2 * (s .pre .1 .0 t * b s .radius + s .pre .1 .1 t * a s .radius + a s .radius * b s .radius)) in
+    let n : l .radius-loss .result ≡ radiusLoss (a s) (b s) = l .radius-loss .ensures .0 ∙ (λ t. 2 * (s .pre .first-weight t * b s .radius + s .pre .second-weight t * a s .radius + a s .radius * b s .radius)) in
     let e : u .up-unsigned .result ≡ upℕ (p .loss + radiusLoss (a s) (b s)) (2 * scale) = u .up-unsigned .ensures ∙ ap (λ m. upℕ (p .loss + m) (2 * scale)) n in
     c .formed .ensures
     ∙ (λ t. formedOutcome (degree-is (at r) t) (p .coefficients) (p .weight) (e t))
@@ -153,24 +120,9 @@ returns c =
 
 pub multiply-good-spec : {M : Type 1} → statement M
 multiply-good-spec =
-    tie.close
-    (tie.spec
-    add-top
-    cast-first
-    add-first
-    array-share-prefix-first
-    slice-aggregate-round-product
-    cast-second
-    add-second
-    array-share-prefix-second
-    slice-aggregate-round-product-2
-    add-round-product
-    round-product-requires
-    cast-radius-loss
-    cast-radius-loss-2
-    radius-loss-requires
-    add-loss
-    cast-up-unsigned
-    up-unsigned-requires
-    formed-requires
-    returns)
+    tie.close (tie.spec
+    add-top (λ c. search needs) (λ c. search needs) array-share-prefix-first
+    (λ c. sym (first-length (c .before .before .before .before .before .before .before))) (λ c. search needs)
+    (λ c. search needs) array-share-prefix-second slice-aggregate-round-product-2 (λ c. search needs) round-product-requires
+    (λ c. search needs) (λ c. search needs) radius-loss-requires add-loss (λ c. search needs) (λ c κs. search needs)
+    (λ c κs. search needs) returns)

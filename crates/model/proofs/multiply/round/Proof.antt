@@ -8,15 +8,15 @@ use native.Mathlib.Omega.{arith}
 use lib.IntN.{ℤ, pos, natAbs, _-ℤ_, _*ℤ_}
 use lib.ListN.{length, getD, take, drop, set, length-drop}
 use lib.Seq.{length-take-le, getD-take, take-all}
-use lib.Signed.{leZ-yes, ltZ-yes}
+use lib.Signed.{ltZ-yes}
 use mir.Syntax.{w64, w32}
 use mir.Val.{SFits}
 use mir.Facts.{toZ-ofZ}
-use Rattle.integer.specs.Machine.{signed-needs, abs-fits}
-use Rattle.chebyshev.specs.Coefficients.{weight}
-use Rattle.chebyshev.specs.Weight.{weight-at, weight-drop, weight-split}
-use Rattle.model.specs.Models.{maxWeight, scale}
-use Rattle.model.specs.RoundingPass.{roundedAt, lossAt, loss-small, product-small}
+use Rattle.integer.specs.laws.Machine.{signed-needs, abs-fits}
+use Rattle.chebyshev.specs.definitions.Coefficients.{weight}
+use Rattle.chebyshev.specs.laws.Weight.{weight-at, weight-drop, weight-split}
+use Rattle.model.specs.definitions.Models.{maxWeight, scale}
+use Rattle.model.specs.laws.RoundingPassLaws.{roundedAt, lossAt, loss-small, product-small}
 use Rattle.model.proofs.RoundingWalk.{Walk, begins, turn, ends, small}
 use Rattle.model.proofs.multiply.round.Statement.{statement}
 use Rattle.model.proofs.multiply.round.Tie as tie
@@ -39,26 +39,14 @@ module _ (s : tie.Start Inv-loop μ-loop) where
   cs = take n all
 
   cs-length : length cs ≡ n
-  cs-length = length-take-le n all (s .pre .1)
+  cs-length = length-take-le n all (s .pre .there)
 
   -- what is lent to `weigh`
   rest-is : take (length all - n) (drop n all) ≡ drop n all
   rest-is = take-all (length all - n) (drop n all) (omega (arith, length-drop n all))
 
   bounded : {out : List ℤ} {total loss k : ℕ} → Walk cs (weight (drop n all)) out total loss k → (total < 2 ^ 62) × (loss < 2 ^ 62)
-  bounded w = let h = small w in omega (arith, weight-split n all, s .pre .2)
-
-mul-weigh : tie.Need-mul-weigh Inv-loop μ-loop
-mul-weigh c = search signed-needs
-
-sub-weigh : tie.Need-sub-weigh Inv-loop μ-loop
-sub-weigh c = search signed-needs
-
-part-weigh-start : tie.Need-part-weigh-start Inv-loop μ-loop
-part-weigh-start c = search signed-needs
-
-part-weigh-end : tie.Need-part-weigh-end Inv-loop μ-loop
-part-weigh-end c = search signed-needs
+  bounded w = let h = small w in omega (arith, weight-split n all, s .pre .light)
 
 weigh-requires : tie.Need-weigh-requires Inv-loop μ-loop
 weigh-requires c κs = let s = c .before in rw (rest-is s) (omega (arith, weight-drop (n s) (all s), s .pre))
@@ -66,16 +54,7 @@ weigh-requires c κs = let s = c .before in rw (rest-is s) (omega (arith, weight
 loop-holds : tie.Need-loop-holds Inv-loop μ-loop
 loop-holds c =
     let s = c .before .before in
-    rw (rw (rest-is s) at (c .weigh .ensures)) (begins (cs s) (weight (drop (n s) (all s))) (omega (arith, cs-length s, s .pre .0)))
-
-mul-exact : tie.Need-mul-exact Inv-loop μ-loop
-mul-exact c = search signed-needs
-
-shared-slice-copy-out-exact : tie.Need-shared-slice-copy-out-exact Inv-loop μ-loop
-shared-slice-copy-out-exact c = omega (arith, c .before .before .before .before .pre)
-
-near-requires : tie.Need-near-requires Inv-loop μ-loop
-near-requires c κs = (ltZ-yes tt, leZ-yes tt)
+    rw (rw (rest-is s) at (c .weigh .ensures)) (begins (cs s) (weight (drop (n s) (all s))) (omega (arith, cs-length s, s .pre)))
 
 -- in a turn, with q rounded
 module _ (c : tie.After-near Inv-loop μ-loop) where
@@ -104,7 +83,7 @@ module _ (c : tie.After-near Inv-loop μ-loop) where
   fits-q = record { sfits = c .near .ok }
 
   x-small : natAbs x < 2 ^ 62
-  x-small = omega (arith, weight-at (all s) k, s .pre .2)
+  x-small = omega (arith, weight-at (all s) k, s .pre .light)
 
   fits-product : SFits w64 (pos (2 * scale) *ℤ q)
   fits-product = abs-fits w64 (pos (2 * scale) *ℤ q) (omega (arith, ap (λ (z : ℤ). natAbs (pos (2 * scale) *ℤ z)) q-is, product-small x, x-small))
@@ -120,23 +99,11 @@ module _ (c : tie.After-near Inv-loop μ-loop) where
   after m n out =
       turn x q m n out (l .loop .inv) (omega (arith, cs-length s)) (sym (getD-take (s .args .kept) (all s) k (pos 0) (omega arith))) q-is
 
-mul-magnitude : tie.Need-mul-magnitude Inv-loop μ-loop
-mul-magnitude c = simp (toZ-ofZ (fits-q c)) (fits-product c)
-
-sub-magnitude : tie.Need-sub-magnitude Inv-loop μ-loop
-sub-magnitude c = simp (toZ-ofZ (fits-x c), toZ-ofZ (fits-q c), toZ-ofZ (fits-product c)) (fits-loss c)
-
-magnitude-requires : tie.Need-magnitude-requires Inv-loop μ-loop
-magnitude-requires c κs = tt
-
 lost : (m : tie.After-magnitude Inv-loop μ-loop) → m .magnitude .result ≡ lossAt (x (m .before))
 lost m = let c = m .before in (simp (toZ-ofZ (fits-x c), toZ-ofZ (fits-q c), toZ-ofZ (fits-product c), toZ-ofZ (fits-loss c)) at (m .magnitude .ensures)) ∙ loss-is c
 
 add-loss : tie.Need-add-loss Inv-loop μ-loop
 add-loss m = let c = m .before in omega (arith, bounded (s c) (after c (natAbs (q c)) (m .magnitude .result) _ refl (lost m) (λ _. refl)) .1)
-
-magnitude-requires-2 : tie.Need-magnitude-requires-2 Inv-loop μ-loop
-magnitude-requires-2 c κs = tt
 
 module _ (r : tie.After-magnitude2 Inv-loop μ-loop) where
   abbrev c : tie.After-near Inv-loop μ-loop
@@ -151,21 +118,6 @@ module _ (r : tie.After-magnitude2 Inv-loop μ-loop) where
 add-weight : tie.Need-add-weight Inv-loop μ-loop
 add-weight r = let c = c r in omega (arith, bounded (s c) (after c (r .magnitude2 .result) (r .before .magnitude .result) _ (size-is r) (lost (r .before)) (λ _. refl)) .0)
 
-cast-coefficients : tie.Need-cast-coefficients Inv-loop μ-loop
-cast-coefficients t = simp (toZ-ofZ (fits-q (c (t .before)))) (narrows (t .before) (t .if1 .taken))
-
-mul-coefficients : tie.Need-mul-coefficients Inv-loop μ-loop
-mul-coefficients c = search signed-needs
-
-array-set-from-coefficients : tie.Need-array-set-from-coefficients Inv-loop μ-loop
-array-set-from-coefficients c = search signed-needs
-
-add-k : tie.Need-add-k Inv-loop μ-loop
-add-k c = search signed-needs
-
-loop-less : tie.Need-loop-less Inv-loop μ-loop
-loop-less c = search signed-needs
-
 loop-again : tie.Need-loop-again Inv-loop μ-loop
 loop-again j =
     let r = j .before in
@@ -173,33 +125,15 @@ loop-again j =
     (λ h. ⊎-elim (λ w. w .1 ∙ simp (toZ-ofZ (fits-q (c r)), toZ-ofZ (narrows r h))) (λ w. absurd (omega (arith, w .0))) (j .if1 .came))
 
 returns : tie.Need-returns Inv-loop μ-loop
-returns c = let s = c .before .before .before .before in ends (all s) (n s) (s .pre .1) (c .before .loop .inv) (omega arith)
+returns c = let s = c .before .before .before .before in ends (all s) (n s) (s .pre .there) (c .before .loop .inv) (omega arith)
 
 pub round-spec : {M : Type 1} → statement M
 round-spec =
-    tie.close
-    (tie.spec
-    Inv-loop
-    μ-loop
-    mul-weigh
-    sub-weigh
-    part-weigh-start
-    part-weigh-end
-    weigh-requires
-    loop-holds
-    mul-exact
-    shared-slice-copy-out-exact
-    near-requires
-    mul-magnitude
-    sub-magnitude
-    magnitude-requires
-    add-loss
-    magnitude-requires-2
-    add-weight
-    cast-coefficients
-    mul-coefficients
-    array-set-from-coefficients
-    add-k
-    loop-less
-    loop-again
+    tie.close (tie.spec
+    Inv-loop μ-loop (λ c. search signed-needs) (λ c. search signed-needs) (λ c. search signed-needs) (λ c. search signed-needs)
+    weigh-requires loop-holds (λ c. search signed-needs) (λ c. omega (arith, c .before .before .before .before .pre))
+    (λ c κs. ltZ-yes tt) (λ c. simp (toZ-ofZ (fits-q c)) (fits-product c))
+    (λ c. simp (toZ-ofZ (fits-x c), toZ-ofZ (fits-q c), toZ-ofZ (fits-product c)) (fits-loss c)) (λ c κs. tt) add-loss
+    (λ c κs. tt) add-weight (λ t. simp (toZ-ofZ (fits-q (c (t .before)))) (narrows (t .before) (t .if1 .taken)))
+    (λ c. search signed-needs) (λ c. search signed-needs) (λ c. search signed-needs) (λ c. search signed-needs) loop-again
     returns)

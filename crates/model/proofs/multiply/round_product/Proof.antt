@@ -8,15 +8,15 @@ use native.Mathlib.Nat.{mul-le-mul}
 use lib.IntN.{ℤ}
 use lib.ListN.{length, take}
 use lib.Seq.{length-take-le}
-use Rattle.integer.specs.Integer.{ℤ-ring}
-use Rattle.chebyshev.specs.Coefficients.{weight}
-use Rattle.chebyshev.specs.Weight.{weight-take, weight-zeros}
-use Rattle.chebyshev.specs.Product.{product}
-use Rattle.chebyshev.specs.ProductLaws.{length-product}
-use Rattle.chebyshev.specs.ProductWeight.{weight-product}
-use Rattle.chebyshev.specs.ProductEnd.{product-end}
-use Rattle.model.specs.Models.{productPlaces}
-use Rattle.model.specs.RoundingPass.{rounded-prefix}
+use Rattle.integer.specs.definitions.Integer.{ℤ-ring}
+use Rattle.chebyshev.specs.definitions.Coefficients.{weight}
+use Rattle.chebyshev.specs.laws.Weight.{weight-take, weight-zeros}
+use Rattle.chebyshev.specs.definitions.Product.{product}
+use Rattle.chebyshev.specs.laws.ProductLaws.{length-product}
+use Rattle.chebyshev.specs.laws.ProductWeight.{weight-product}
+use Rattle.chebyshev.specs.laws.ProductEnd.{product-end}
+use Rattle.model.specs.definitions.Models.{productSize}
+use Rattle.model.specs.laws.RoundingPassLaws.{rounded-prefix}
 use Rattle.model.proofs.multiply.round_product.Statement.{statement}
 use Rattle.model.proofs.multiply.round_product.Tie as tie
 
@@ -31,28 +31,13 @@ module _ (s : tie.Start) where
   end = length a + length b - 1
 
   abbrev C : List ℤ
-  C = product ℤ-ring productPlaces a b
+  C = product ℤ-ring productSize a b
 
   weights : weight a * weight b ≤ 2 ^ 56
-  weights = mul-le-mul (s .pre .0 .2) (s .pre .0 .3)
+  weights = mul-le-mul (s .pre .0 .first-light) (s .pre .0 .second-light)
 
   prefix-length : length (take end C) ≡ end
-  prefix-length = length-take-le end C (omega (arith, length-product ℤ-ring productPlaces a b, s .pre))
-
-slice-aggregate-add-products : tie.Need-slice-aggregate-add-products
-slice-aggregate-add-products c = search needs
-
-add-products-requires : tie.Need-add-products-requires
-add-products-requires c κs = omega (arith, weight-zeros 65, weights (c .before), c .before .pre)
-
-add-end : tie.Need-add-end
-add-end c = search needs
-
-sub-end : tie.Need-sub-end
-sub-end c = search needs
-
-array-share-prefix-c : tie.Need-array-share-prefix-c
-array-share-prefix-c c = search needs
+  prefix-length = length-take-le end C (omega (arith, length-product ℤ-ring productSize a b, s .pre))
 
 -- the list that was formed
 formed : (c : tie.After-add-products) → c .add-products .last .0 ≡ C (c .before .before)
@@ -66,23 +51,16 @@ round-requires : tie.Need-round-requires
 round-requires c κs =
     let s = c .before .before .before .before in
     rw (formed (c .before .before))
-    (omega (arith, prefix-length s, weight-take (end s) (C s), weight-product productPlaces (a s) (b s), weights s, s .pre))
+    (omega (arith, prefix-length s, weight-take (end s) (C s), weight-product productSize (a s) (b s), weights s, s .pre))
 
 returns : tie.Need-returns
 returns c =
     let s = c .before .before .before .before .before in
-    rounded-prefix (C s) (end s) (s .args .kept) (c .round .result) (product-end productPlaces (end s) (a s) (b s) (omega arith)) (omega (arith, s .pre))
+    rounded-prefix (C s) (end s) (s .args .kept) (c .round .result) (product-end productSize (end s) (a s) (b s) (omega arith)) (omega (arith, s .pre))
     (rw (formed (c .before .before .before)) at (c .round .ensures))
 
 pub round-product-spec : {M : Type 1} → statement M
 round-product-spec =
-    tie.close
-    (tie.spec
-    slice-aggregate-add-products
-    add-products-requires
-    add-end
-    sub-end
-    array-share-prefix-c
-    slice-aggregate-round
-    round-requires
-    returns)
+    tie.close (tie.spec
+    (λ c. search needs) (λ c κs. omega (arith, weight-zeros 65, weights (c .before), c .before .pre)) (λ c. search needs)
+    (λ c. search needs) (λ c. search needs) slice-aggregate-round round-requires returns)

@@ -7,11 +7,11 @@ use lib.ListN.{getD}
 use mir.Syntax.{w64}
 use mir.Val.{SFits}
 use mir.Facts.{toZ-ofZ}
-use Rattle.integer.specs.Parts.{abs-add}
-use Rattle.integer.specs.Integer.{ℤ-ring}
-use Rattle.integer.specs.Machine.{abs-fits}
-use Rattle.chebyshev.specs.Weight.{weight-at}
-use Rattle.chebyshev.specs.ProductLaws.{addAt-set}
+use Rattle.integer.specs.laws.Parts.{abs-add}
+use Rattle.integer.specs.definitions.Integer.{ℤ-ring}
+use Rattle.integer.specs.laws.Machine.{abs-fits}
+use Rattle.chebyshev.specs.laws.Weight.{weight-at}
+use Rattle.chebyshev.specs.laws.ProductLaws.{addAt-set}
 use Rattle.model.proofs.products.add_at.Statement.{statement}
 use Rattle.model.proofs.products.add_at.Tie as tie
 
@@ -28,26 +28,11 @@ module _ (c : tie.After-c) where
   fits-sum : SFits w64 (x +ℤ s .args .v)
   fits-sum = abs-fits w64 (x +ℤ s .args .v) (omega (arith, abs-add x (s .args .v), weight-at (s .args .c .now) (s .args .k), s .pre))
 
-mul-c : tie.Need-mul-c
-mul-c c = search needs
-
-slice-copy-out-c : tie.Need-slice-copy-out-c
-slice-copy-out-c c = search needs
-
-add-c : tie.Need-add-c
-add-c c = simp (toZ-ofZ (fits-x c), toZ-ofZ (s c .fits .v)) (fits-sum c)
-
-mul-t8 : tie.Need-mul-t8
-mul-t8 c = search needs
-
-slice-set-from-c : tie.Need-slice-set-from-c
-slice-set-from-c c = search needs
-
-same-length : tie.Need-same-length
-same-length c = search needs
-
 returns : tie.Need-returns
 returns c = simp (toZ-ofZ (fits-x c), toZ-ofZ (s c .fits .v), toZ-ofZ (fits-sum c)) (sym (addAt-set ℤ-ring (s c .args .c .now) (s c .args .k) (s c .args .v)))
 
 pub add-at-spec : {M : Type 1} → statement M
-add-at-spec = tie.close (tie.spec mul-c slice-copy-out-c add-c mul-t8 slice-set-from-c same-length returns)
+add-at-spec =
+    tie.close (tie.spec
+    (λ c. search needs) (λ c. search needs) (λ c. simp (toZ-ofZ (fits-x c), toZ-ofZ (s c .fits .v)) (fits-sum c))
+    (λ c. search needs) (λ c. search needs) (λ c. search needs) returns)

@@ -6,18 +6,12 @@ use Prim.Native.Nat.{_+_}
 use native.Mathlib.Omega.{arith}
 use lib.IntN.{ℤ}
 use mir.Facts.{toZ-ofZ}
-use Rattle.integer.specs.Integer.{ℤ-ring}
-use Rattle.chebyshev.specs.Product.{addAt, addPair}
-use Rattle.chebyshev.specs.ProductLaws.{length-addAt}
-use Rattle.chebyshev.specs.ProductWeight.{weight-addAt}
+use Rattle.integer.specs.definitions.Integer.{ℤ-ring}
+use Rattle.chebyshev.specs.definitions.Product.{addAt, addPair}
+use Rattle.chebyshev.specs.laws.ProductLaws.{length-addAt}
+use Rattle.chebyshev.specs.laws.ProductWeight.{weight-addAt}
 use Rattle.model.proofs.products.add_pair.Statement.{statement}
 use Rattle.model.proofs.products.add_pair.Tie as tie
-
-add-add-at : tie.Need-add-add-at
-add-add-at c = search needs
-
-add-at-requires : tie.Need-add-at-requires
-add-at-requires c κs = simp (toZ-ofZ (c .before .fits .v)) (omega (arith, c .before .pre))
 
 module _ (c : tie.After-add-at) where
   abbrev s : tie.Start
@@ -35,17 +29,11 @@ module _ (c : tie.After-add-at) where
   first-is : c .add-at .last .0 ≡ first
   first-is = rw (toZ-ofZ (s .fits .v)) at (c .add-at .ensures)
 
-distance-requires : tie.Need-distance-requires
-distance-requires c κs = search needs
-
 add-at-requires-2 : tie.Need-add-at-requires-2
 add-at-requires-2 c κs =
     let a = c .before .before .before in
     simp (toZ-ofZ (s a .fits .v), first-is a)
     (omega (arith, length-addAt ℤ-ring (cs a) (s a .args .i + s a .args .j) (v a), weight-addAt (cs a) (s a .args .i + s a .args .j) (v a), s a .pre))
-
-same-length : tie.Need-same-length
-same-length c = search needs
 
 returns : tie.Need-returns
 unfolding addPair
@@ -55,4 +43,7 @@ returns k =
     (rw (toZ-ofZ (s a .fits .v), first-is a, c .before .distance .ensures) at (c .add-at2 .ensures))
 
 pub add-pair-spec : {M : Type 1} → statement M
-add-pair-spec = tie.close (tie.spec add-add-at add-at-requires distance-requires add-at-requires-2 same-length returns)
+add-pair-spec =
+    tie.close (tie.spec
+    (λ c. search needs) (λ c κs. simp (toZ-ofZ (c .before .fits .v)) (omega (arith, c .before .pre))) (λ c κs. search needs)
+    add-at-requires-2 (λ c. search needs) returns)

@@ -9,14 +9,14 @@ use lib.ListN.{length, getD, drop}
 use mir.Syntax.{w64, w32}
 use mir.Val.{SFits, toZ}
 use mir.Facts.{toZ-ofZ}
-use Rattle.integer.specs.Parts.{abs-mul}
-use Rattle.integer.specs.Integer.{ℤ-ring}
-use Rattle.integer.specs.Machine.{signed-needs, abs-fits, fits-widens}
-use Rattle.chebyshev.specs.Coefficients.{weight}
-use Rattle.chebyshev.specs.Weight.{weight-step}
-use Rattle.chebyshev.specs.Product.{addPair, addRow}
-use Rattle.chebyshev.specs.ProductLaws.{length-addPair, row-step, row-end}
-use Rattle.chebyshev.specs.ProductWeight.{weight-addPair}
+use Rattle.integer.specs.laws.Parts.{abs-mul}
+use Rattle.integer.specs.definitions.Integer.{ℤ-ring}
+use Rattle.integer.specs.laws.Machine.{signed-needs, abs-fits, fits-widens}
+use Rattle.chebyshev.specs.definitions.Coefficients.{weight}
+use Rattle.chebyshev.specs.laws.Weight.{weight-step}
+use Rattle.chebyshev.specs.definitions.Product.{addPair, addRow}
+use Rattle.chebyshev.specs.laws.ProductLaws.{length-addPair, row-step, row-end}
+use Rattle.chebyshev.specs.laws.ProductWeight.{weight-addPair}
 use Rattle.model.proofs.products.add_pairs.Statement.{statement}
 use Rattle.model.proofs.products.add_pairs.Tie as tie
 
@@ -54,18 +54,6 @@ loop-holds c =
       rest = rw e;
       bound = omega arith;
     }
-
-add-add-pair : tie.Need-add-add-pair Inv-loop μ-loop
-add-add-pair c = search signed-needs
-
-mul-add-pair : tie.Need-mul-add-pair Inv-loop μ-loop
-mul-add-pair c = search signed-needs
-
-shared-slice-copy-out-add-pair : tie.Need-shared-slice-copy-out-add-pair Inv-loop μ-loop
-shared-slice-copy-out-add-pair c = search signed-needs
-
-cast-add-pair : tie.Need-cast-add-pair Inv-loop μ-loop
-cast-add-pair c = search signed-needs
 
 -- at the loop's head
 module _ (l : tie.At-loop Inv-loop μ-loop) where
@@ -107,21 +95,12 @@ add-pair-requires c κs =
     simp (toZ-ofZ (s h .fits .x), toZ-ofZ (fits-y c), toZ-ofZ (fits-widens (fits-y c)), toZ-ofZ (fits-v c))
     (omega (arith, inv h, part (x h) (b h) (k h) (omega arith), s h .pre))
 
-add-k : tie.Need-add-k Inv-loop μ-loop
-add-k c = omega arith
-
-loop-less : tie.Need-loop-less Inv-loop μ-loop
-loop-less c = omega arith
-
 loop-again : tie.Need-loop-again Inv-loop μ-loop
 loop-again m =
     let c = m .before .before in
     let h = l c in
     let e = simp (toZ-ofZ (s h .fits .x), toZ-ofZ (fits-y c), toZ-ofZ (fits-widens (fits-y c)), toZ-ofZ (fits-v c)) at (m .before .add-pair .ensures) in
     rw (toZ-ofZ (s h .fits .x), e) (walk (s h .args .c .now) (x h) (s h .args .i) (s h .args .j) (b h) (h .loop .c) (k h) (inv h) (omega arith))
-
-same-length : tie.Need-same-length Inv-loop μ-loop
-same-length c = c .before .loop .inv .size
 
 returns : tie.Need-returns Inv-loop μ-loop
 returns c =
@@ -130,19 +109,7 @@ returns c =
 
 pub add-pairs-spec : {M : Type 1} → statement M
 add-pairs-spec =
-    tie.close
-    (tie.spec
-    Inv-loop
-    μ-loop
-    loop-holds
-    add-add-pair
-    mul-add-pair
-    shared-slice-copy-out-add-pair
-    cast-add-pair
-    mul-add-pair-2
-    add-pair-requires
-    add-k
-    loop-less
-    loop-again
-    same-length
-    returns)
+    tie.close (tie.spec
+    Inv-loop μ-loop loop-holds (λ c. search signed-needs) (λ c. search signed-needs) (λ c. search signed-needs)
+    (λ c. search signed-needs) mul-add-pair-2 add-pair-requires (λ c. omega arith) (λ c. omega arith) loop-again
+    (λ c. c .before .loop .inv .size) returns)

@@ -9,13 +9,13 @@ use lib.ListN.{length, getD, drop}
 use mir.Syntax.{w32}
 use mir.Val.{SFits}
 use mir.Facts.{toZ-ofZ}
-use Rattle.integer.specs.Integer.{ℤ-ring}
-use Rattle.integer.specs.Machine.{signed-needs, fits-widens}
-use Rattle.chebyshev.specs.Coefficients.{weight}
-use Rattle.chebyshev.specs.Weight.{weight-step}
-use Rattle.chebyshev.specs.Product.{addRow, addRows}
-use Rattle.chebyshev.specs.ProductLaws.{length-addRow, rows-step, rows-end}
-use Rattle.chebyshev.specs.ProductWeight.{weight-addRow}
+use Rattle.integer.specs.definitions.Integer.{ℤ-ring}
+use Rattle.integer.specs.laws.Machine.{signed-needs, fits-widens}
+use Rattle.chebyshev.specs.definitions.Coefficients.{weight}
+use Rattle.chebyshev.specs.laws.Weight.{weight-step}
+use Rattle.chebyshev.specs.definitions.Product.{addRow, addRows}
+use Rattle.chebyshev.specs.laws.ProductLaws.{length-addRow, rows-step, rows-end}
+use Rattle.chebyshev.specs.laws.ProductWeight.{weight-addRow}
 use Rattle.model.proofs.products.add_products.Statement.{statement}
 use Rattle.model.proofs.products.add_products.Tie as tie
 
@@ -46,15 +46,6 @@ abbrev μ-loop : tie.MeasureT-loop
 loop-holds : tie.Need-loop-holds Inv-loop μ-loop
 loop-holds c = record { within = omega arith; size = refl; rest = refl; bound = omega arith }
 
-mul-add-row : tie.Need-mul-add-row Inv-loop μ-loop
-mul-add-row c = search signed-needs
-
-shared-slice-copy-out-add-row : tie.Need-shared-slice-copy-out-add-row Inv-loop μ-loop
-shared-slice-copy-out-add-row c = search signed-needs
-
-cast-add-row : tie.Need-cast-add-row Inv-loop μ-loop
-cast-add-row c = search signed-needs
-
 -- at the loop's head
 module _ (l : tie.At-loop Inv-loop μ-loop) where
   abbrev s : tie.Start Inv-loop μ-loop
@@ -83,21 +74,12 @@ add-row-requires c κs =
     simp (toZ-ofZ (fits-x c), toZ-ofZ (fits-widens (fits-x c)))
     (omega (arith, k .loop .inv, part (a k) (b k) (i k) (omega arith), s k .pre))
 
-add-i : tie.Need-add-i Inv-loop μ-loop
-add-i c = omega arith
-
-loop-less : tie.Need-loop-less Inv-loop μ-loop
-loop-less c = omega arith
-
 loop-again : tie.Need-loop-again Inv-loop μ-loop
 loop-again m =
     let c = m .before .before in
     let k = l c in
     let e = simp (toZ-ofZ (fits-x c), toZ-ofZ (fits-widens (fits-x c))) at (m .before .add-row .ensures) in
     rw e (walk (s k .args .c .now) (a k) (b k) (k .loop .c) (i k) (k .loop .inv) (omega arith))
-
-same-length : tie.Need-same-length Inv-loop μ-loop
-same-length c = c .before .loop .inv .size
 
 returns : tie.Need-returns Inv-loop μ-loop
 returns c =
@@ -106,17 +88,6 @@ returns c =
 
 pub add-products-spec : {M : Type 1} → statement M
 add-products-spec =
-    tie.close
-    (tie.spec
-    Inv-loop
-    μ-loop
-    loop-holds
-    mul-add-row
-    shared-slice-copy-out-add-row
-    cast-add-row
-    add-row-requires
-    add-i
-    loop-less
-    loop-again
-    same-length
-    returns)
+    tie.close (tie.spec
+    Inv-loop μ-loop loop-holds (λ c. search signed-needs) (λ c. search signed-needs) (λ c. search signed-needs)
+    add-row-requires (λ c. omega arith) (λ c. omega arith) loop-again (λ c. c .before .loop .inv .size) returns)

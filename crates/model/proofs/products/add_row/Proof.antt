@@ -8,12 +8,12 @@ use lib.IntN.{ℤ, natAbs}
 use lib.ListN.{length, take, drop, length-drop}
 use lib.Seq.{length-take-le, take-all}
 use mir.Facts.{toZ-ofZ}
-use Rattle.integer.specs.Integer.{ℤ-ring}
-use Rattle.chebyshev.specs.Coefficients.{weight}
-use Rattle.chebyshev.specs.Weight.{weight-split}
-use Rattle.chebyshev.specs.Product.{addRow}
-use Rattle.chebyshev.specs.ProductLaws.{length-addRow, row-cut}
-use Rattle.chebyshev.specs.ProductWeight.{weight-addRow}
+use Rattle.integer.specs.definitions.Integer.{ℤ-ring}
+use Rattle.chebyshev.specs.definitions.Coefficients.{weight}
+use Rattle.chebyshev.specs.laws.Weight.{weight-split}
+use Rattle.chebyshev.specs.definitions.Product.{addRow}
+use Rattle.chebyshev.specs.laws.ProductLaws.{length-addRow, row-cut}
+use Rattle.chebyshev.specs.laws.ProductWeight.{weight-addRow}
 use Rattle.model.proofs.products.add_row.Statement.{statement}
 use Rattle.model.proofs.products.add_row.Tie as tie
 
@@ -46,18 +46,6 @@ add-pairs-requires c κs =
     let t = c .before .before in
     simp (toZ-ofZ (s t .fits .x)) (omega (arith, length-take-le (i t) (b t) (omega arith), parts t, s t .pre))
 
-mul-add-pairs : tie.Need-mul-add-pairs
-mul-add-pairs c = search needs
-
-sub-add-pairs : tie.Need-sub-add-pairs
-sub-add-pairs c = search needs
-
-part-add-pairs-start : tie.Need-part-add-pairs-start
-part-add-pairs-start c = search needs
-
-part-add-pairs-end : tie.Need-part-add-pairs-end
-part-add-pairs-end c = search needs
-
 -- the first part is done
 module _ (c : tie.After-add-pairs) where
   abbrev t : tie.Then1
@@ -76,12 +64,6 @@ add-pairs-requires-2 c κs =
     simp (toZ-ofZ (s h .fits .x), first-is f, rest-is f)
     (omega (arith, length-addRow ℤ-ring (s h .args .c .now) (x h) (i h) 0 (take (i h) (b h)), weight-addRow (s h .args .c .now) (x h) (i h) 0 (take (i h) (b h)), length-drop (i h) (b h), parts h, s h .pre))
 
-add-pairs-requires-3 : tie.Need-add-pairs-requires-3
-add-pairs-requires-3 c κs = search needs
-
-same-length : tie.Need-same-length
-same-length c = search needs
-
 returns : tie.Need-returns
 returns c =
     let f = c .before .before .before .before .before in
@@ -90,25 +72,11 @@ returns c =
     (rw (toZ-ofZ (s h .fits .x), first-is f, rest-is f) at (c .before .add-pairs2 .ensures))
     ∙ (rw e at (row-cut ℤ-ring (s h .args .c .now) (x h) (i h) 0 (i h) (b h) (omega arith)))
 
-same-length-2 : tie.Need-same-length-2
-same-length-2 c = search needs
-
 returns-2 : tie.Need-returns-2
 returns-2 c = let d = c .before .before .before .before in rw (toZ-ofZ (d .fits .x)) at (c .before .add-pairs3 .ensures)
 
 pub add-row-spec : {M : Type 1} → statement M
 add-row-spec =
-    tie.close
-    (tie.spec
-    slice-aggregate-add-pairs
-    add-pairs-requires
-    mul-add-pairs
-    sub-add-pairs
-    part-add-pairs-start
-    part-add-pairs-end
-    add-pairs-requires-2
-    add-pairs-requires-3
-    same-length
-    returns
-    same-length-2
-    returns-2)
+    tie.close (tie.spec
+    slice-aggregate-add-pairs add-pairs-requires (λ c. search needs) (λ c. search needs) (λ c. search needs)
+    (λ c. search needs) add-pairs-requires-2 (λ c κs. search needs) (λ c. search needs) returns (λ c. search needs) returns-2)

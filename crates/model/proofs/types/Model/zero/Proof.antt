@@ -1,15 +1,12 @@
 -- `Model::zero` meets its contract.
 use borrow.Author.Needs.{needs}
-use Rattle.model.specs.Models.{zeroModel}
+use Rattle.model.specs.definitions.Models.{zeroModel}
 use Rattle.model.proofs.types.Model.zero.Statement.{statement}
 use Rattle.model.proofs.types.Model.zero.Tie as tie
-
-new-requires : tie.Need-new-requires
-new-requires c κs = search needs
 
 returns : tie.Need-returns
 unfolding zeroModel
 returns c = c .new .ensures
 
 pub zero-spec : {M : Type 1} → statement M
-zero-spec = tie.close (tie.spec new-requires returns)
+zero-spec = tie.close (tie.spec (λ c κs. search needs) returns)

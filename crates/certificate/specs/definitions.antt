@@ -1,0 +1,4 @@
+pub mod Tests
+pub mod InnerContracts
+pub mod TwoSums
+pub mod RootBounds

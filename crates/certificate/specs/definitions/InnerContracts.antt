@@ -1,0 +1,136 @@
+-- What inner functions ask of their callers and answer to them. The contracts of the entries do not speak of this.
+use mathlib.Core.Path.{_≡_}
+use mathlib.Core.Bool.{Bool, true}
+use mathlib.Core.List.{List, [], _∷_}
+use Prim.Native.Nat.{ℕ, suc, _*_, _-_, _^_, _≤_, _<_}
+use lib.IntN.{ℤ, pos}
+use lib.ListN.{length, take, drop}
+use Rattle.integer.specs.definitions.Integer.{ℤ-ring}
+use Rattle.integer.specs.definitions.Lists.{zeros}
+use Rattle.chebyshev.specs.definitions.Coefficients.{weight, subtractLists, scaleList}
+use Rattle.chebyshev.specs.definitions.Product.{product}
+use Rattle.model.specs.definitions.Models.{scale, coefficientCount, productSize, maxDegree, maxWeight}
+use Rattle.model.specs.definitions.Models.{good, candidateModel, largePlace}
+use Rattle.model.specs.definitions.Outcomes.{Outcome, accepted, refused, outcome, numberOf}
+use Rattle.model.specs.declared.types.Model.{Model}
+use Rattle.model.specs.declared.types.Candidate.{Candidate}
+use Rattle.certificate.specs.definitions.Tests.{Certificate, makeCertificate, zeroCertificate, withRadius}
+use Rattle.certificate.specs.definitions.Tests.{rootPlaces, rootLastPlaces, rootModel, rootContraction}
+use Rattle.certificate.specs.definitions.Tests.{rootResidual, displacement}
+use Rattle.certificate.specs.declared.types.RootNumbers.{RootNumbers}
+use Rattle.certificate.specs.declared.types.RootNumbers.the-variants.{Refused, Reached}
+
+-- ---- what is asked
+
+-- a part of the scratch to form C in: zero, and as long as C
+pub record Lent (part : List ℤ) : Type 0 where
+  pub clear : part ≡ zeros (length part)
+  pub long : length part ≡ productSize
+
+-- all coefficients of two good models, with their degrees
+pub record FactorsUpTo (a : List ℤ) (n : ℕ) (b : List ℤ) (k : ℕ) : Type 0 where
+  pub first-all : length a ≡ coefficientCount
+  pub second-all : length b ≡ coefficientCount
+  pub first-degree : n ≤ maxDegree
+  pub second-degree : k ≤ maxDegree
+  pub weights : weight a * weight b ≤ 2 ^ 56
+
+-- a lent part, and two good models whose list C is formed in it
+pub record Ready (part : List ℤ) (a b : Model) : Type 0 where
+  pub lent : Lent part
+  pub first-good : good a ≡ true
+  pub second-good : good b ≡ true
+
+-- a lent part, and good models and candidates of a quotient test
+pub record QuotientReady (part : List ℤ) (f g h w : Model) : Type 0 where
+  pub lent : Lent part
+  pub good-f : good f ≡ true
+  pub good-g : good g ≡ true
+  pub good-h : good h ≡ true
+  pub good-w : good w ≡ true
+
+-- the same for a root test
+pub record RootReady (part : List ℤ) (f h w : Model) : Type 0 where
+  pub lent : Lent part
+  pub good-f : good f ≡ true
+  pub good-h : good h ≡ true
+  pub good-w : good w ≡ true
+
+-- what the last places of a root test are given, where M is the weight of w
+pub record RootLast (h : Model) (M m b : ℕ) : Type 0 where
+  pub good-h : good h ≡ true
+  pub positive : 0 < M
+  pub weight-fits : M ≤ maxWeight
+  pub contracting : m < scale
+  pub displaced : b ≤ 2 ^ 36
+  pub square : (scale - m) * scale ≤ 2 ^ 29 * M
+
+-- ---- lists and their weights
+
+-- the list C of a up to degree n and b up to degree k
+abbrev pub productUpTo : List ℤ → ℕ → List ℤ → ℕ → List ℤ
+productUpTo a n b k = product ℤ-ring productSize (take (suc n) a) (take (suc k) b)
+
+-- C − 2S·f
+abbrev pub residualList : List ℤ → List ℤ → List ℤ
+residualList c f = subtractLists ℤ-ring c (scaleList ℤ-ring (pos (2 * scale)) f)
+
+-- the same over the part c of C from place `start` on
+abbrev pub residualFrom : ℕ → List ℤ → List ℤ → List ℤ
+residualFrom start c f = residualList c (take (length c) (drop start f))
+
+-- z − C over the part c of C from place `start` on; z stands at place 0
+abbrev pub constantResidual : ℕ → ℤ → List ℤ → List ℤ
+constantResidual start z c = subtractLists ℤ-ring (drop start (z ∷ [])) c
+
+-- the weight of D is summed, and the part, which was `start`, is zero
+pub record Drained (D start part : List ℤ) (sum : ℕ) : Type 0 where
+  pub sum-is : sum ≡ weight D
+  pub cleared : part ≡ zeros (length start)
+
+-- ---- the answer of a test by its parts
+
+abbrev pub tested : List (Bool × ℕ) → Model → ℕ → ℕ → ℕ → Outcome Certificate
+tested ps r m n b = outcome ps (makeCertificate r m n b) zeroCertificate
+
+-- refused with number k
+abbrev pub refusedTest : ℕ → Outcome Certificate
+refusedTest k = refused k zeroCertificate
+
+-- passed
+abbrev pub passedTest : Model → ℕ → ℕ → ℕ → Outcome Certificate
+passedTest r m n b = accepted (makeCertificate r m n b)
+
+-- of a test that passes unless h with radius e is too large
+abbrev pub formedTest : Model → ℕ → ℕ → ℕ → ℕ → Outcome Certificate
+formedTest h e m n b = tested (largePlace (withRadius h e) ∷ []) (withRadius h e) m n b
+
+-- of a root test after N and b, where M is the weight of w
+abbrev pub rootEnd : Model → ℕ → ℕ → ℕ → ℕ → Outcome Certificate
+rootEnd h M m n b = tested (rootLastPlaces h M m b) (rootModel h m b) m n b
+
+-- ---- the root test up to N and b: refused with a number, or M, m, N and b
+
+pub record Reach : Type 0 where
+  pub M : ℕ
+  pub m : ℕ
+  pub N : ℕ
+  pub b : ℕ
+
+abbrev pub makeReach : ℕ → ℕ → ℕ → ℕ → Reach
+makeReach k m n b = record { M = k; m = m; N = n; b = b }
+
+abbrev pub zeroReach : Reach
+zeroReach = makeReach 0 0 0 0
+
+abbrev pub reachOf : RootNumbers → Outcome Reach
+reachOf (Refused v) = refused (numberOf v) zeroReach
+reachOf (Reached k m n b) = accepted (makeReach k m n b)
+
+unfoldable pub rootReach : ℕ → Model → Model → Model → Outcome Reach
+rootReach len f h w =
+    let n = rootResidual f h in
+    outcome (rootPlaces len f h w) (makeReach (weight (w .coefficients)) (rootContraction h w) n (displacement w n)) zeroReach
+
+abbrev pub numbersOutcome : ℕ → Model → Candidate → Candidate → Outcome Reach
+numbersOutcome len f h w = rootReach len f (candidateModel h) (candidateModel w)

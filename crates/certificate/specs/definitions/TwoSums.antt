@@ -1,0 +1,82 @@
+-- Document 01, "The two tests", once more, with the list C( , ) formed by its two sums, place by place.
+use mathlib.Core.List.{List, [], _∷_}
+use Prim.Native.Nat.{ℕ, zero, suc, _+_, _*_, _-_, _^_, _≤_, _<_}
+use lib.IntN.{ℤ, pos}
+use lib.Signed.{_<ℤ_}
+use Rattle.integer.specs.definitions.Integer.{ℤ-ring}
+use Rattle.integer.specs.definitions.Rounding.{upℕ}
+use Rattle.chebyshev.specs.definitions.Coefficients.{weight, subtractLists, scaleList, coefficientSum}
+use Rattle.chebyshev.specs.definitions.TwoSums.{twoSums}
+use Rattle.model.specs.definitions.Models.{scale, productSize}
+use Rattle.model.specs.declared.types.Model.{Model}
+
+-- f 0, f 1, …, f (n − 1)
+unfoldable pub tabulate : ℕ → (ℕ → ℤ) → List ℤ
+tabulate zero f = []
+tabulate (suc n) f = f 0 ∷ tabulate n (λ k. f (suc k))
+
+-- C_0, …, C_64: "C_k = Σ a_i·b_j over i+j = k, plus Σ a_i·b_j over |i−j| = k; a pair that meets both conditions counts twice."
+unfoldable pub twoSumsList : List ℤ → List ℤ → List ℤ
+twoSumsList a b = tabulate productSize (λ k. twoSums ℤ-ring k a b)
+
+-- ---- the quotient test
+
+-- "m = up((weight(2S² − C(w,g)) + 2·M·e_g)/(2S))"
+unfoldable pub quotientM : Model → Model → ℕ
+quotientM g w =
+    upℕ
+    (weight (subtractLists ℤ-ring (pos (2 * scale * scale) ∷ []) (twoSumsList (w .coefficients) (g .coefficients)))
+    + 2 * weight (w .coefficients) * g .radius)
+    (2 * scale)
+
+-- "N = up((weight(C(g,h) − 2S·f) + 2S·e_f + 2·H·e_g)/(2S))"
+unfoldable pub quotientN : Model → Model → Model → ℕ
+quotientN f g h =
+    upℕ
+    (weight
+    (subtractLists ℤ-ring
+    (twoSumsList (g .coefficients) (h .coefficients))
+    (scaleList ℤ-ring (pos (2 * scale)) (f .coefficients)))
+    + 2 * scale * f .radius
+    + 2 * weight (h .coefficients) * g .radius)
+    (2 * scale)
+
+-- "b = up(M·N/S)"
+unfoldable pub quotientB : Model → Model → Model → Model → ℕ
+quotientB f g h w = upℕ (weight (w .coefficients) * quotientN f g h) scale
+
+-- "radius up(b·S/(S−m))"
+unfoldable pub quotientRadius : Model → Model → Model → Model → ℕ
+quotientRadius f g h w = upℕ (quotientB f g h w * scale) (scale - quotientM g w)
+
+-- ---- the root test
+
+-- "m = up(weight(S² − C(w,h))/S)"
+unfoldable pub rootM : Model → Model → ℕ
+rootM h w =
+    upℕ (weight (subtractLists ℤ-ring (pos (scale * scale) ∷ []) (twoSumsList (w .coefficients) (h .coefficients)))) scale
+
+-- "N = up((weight(C(h,h) − 2S·f) + 2S·e_f)/(2S))"
+unfoldable pub rootN : Model → Model → ℕ
+rootN f h =
+    upℕ
+    (weight
+    (subtractLists ℤ-ring
+    (twoSumsList (h .coefficients) (h .coefficients))
+    (scaleList ℤ-ring (pos (2 * scale)) (f .coefficients)))
+    + 2 * scale * f .radius)
+    (2 * scale)
+
+-- "b = up(M·N/S)"
+unfoldable pub rootB : Model → Model → Model → ℕ
+rootB f h w = upℕ (weight (w .coefficients) * rootN f h) scale
+
+-- "radius up(2·b·S/(S−m))"
+unfoldable pub rootRadius : Model → Model → Model → ℕ
+rootRadius f h w = upℕ (2 * rootB f h w * scale) (scale - rootM h w)
+
+-- "The test: Σ w_k > 0, m < S, N ≤ 2^28, (S−m)² ≥ 8·b·M."
+abbrev pub RootHolds : Model → Model → Model → Type 0
+RootHolds f h w =
+    (pos 0 <ℤ coefficientSum (w .coefficients)) × (rootM h w < scale) × (rootN f h ≤ 2 ^ 28)
+    × (8 * rootB f h w * weight (w .coefficients) ≤ (scale - rootM h w) * (scale - rootM h w))

@@ -1,0 +1,34 @@
+-- P7 to P10 of document 01, computed from the definitions: whole outcomes, with all 33 coefficients.
+use mathlib.Core.Path.{_≡_, refl}
+use mathlib.Core.List.{_∷_}
+use lib.IntN.{pos}
+use lib.ListN.{replicate}
+use Rattle.integer.specs.definitions.Rounding.{upℕ}
+use Rattle.chebyshev.specs.definitions.Coefficients.{weight, addLists, subtractLists, scaleList, coefficientSum}
+use Rattle.chebyshev.specs.definitions.Product.{addAt, addPair, addRow, addRows, product}
+use Rattle.model.specs.definitions.Models.{good, tooLarge, makeModel, constantModel, zeroModel}
+use Rattle.model.specs.definitions.Outcomes.{accepted, refused, passing}
+use Rattle.model.specs.declared.types.Model.{Model}
+use Rattle.model.specs.definitions.Operations.{productList}
+use Rattle.certificate.specs.definitions.Tests.{makeCertificate, zeroCertificate, byDiscriminant}
+use Rattle.certificate.specs.definitions.Tests.{quotientOutcome, rootOutcome, rootPlaces, quotientContraction, quotientResidual, quotientModel, rootContraction, rootResidual, rootModel, displacement}
+
+abbrev h : Model
+h = constantModel (pos 2097152)
+
+abbrev w : Model
+w = constantModel (pos 262144)
+
+-- a quotient; a root whose discriminant is 0; one less under the root; S under the root
+abbrev pub Benchmarks : Type 0
+Benchmarks =
+    (quotientOutcome 65 (constantModel (pos 1048576)) (constantModel (pos 3145728)) (constantModel (pos 349525)) (constantModel (pos 349525))
+    ≡ accepted (makeCertificate (makeModel 0 (pos 349525 ∷ replicate 32 (pos 0)) 2) 1 1 1))
+    × (rootOutcome byDiscriminant 65 (constantModel (pos 2097152)) h w
+    ≡ accepted (makeCertificate (makeModel 0 (pos 2097152 ∷ replicate 32 (pos 0)) 1048576) 0 2097152 524288))
+    × (rootOutcome byDiscriminant 65 (constantModel (pos 2097151)) h w ≡ refused 8 zeroCertificate)
+    × (rootOutcome byDiscriminant 65 (constantModel (pos 1048576)) h w ≡ refused 8 zeroCertificate)
+
+pub benchmarks : Benchmarks
+unfolding quotientOutcome rootOutcome rootPlaces quotientContraction quotientResidual quotientModel rootContraction rootResidual rootModel displacement coefficientSum productList passing good tooLarge constantModel zeroModel weight addLists subtractLists scaleList addAt addPair addRow addRows product upℕ
+benchmarks = (refl, refl, refl, refl)

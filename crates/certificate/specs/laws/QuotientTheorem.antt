@@ -1,0 +1,67 @@
+-- The quotient test in 01's whole numbers, with C( , ) formed by its two sums: for good models, good candidates and enough
+-- scratch, a candidate is accepted exactly where the test holds and the stated radius is within 2^28, with exactly that radius.
+use mathlib.Core.Path.{_≡_, sym, _∙_, ap}
+use mathlib.Core.Logic.{_↔_}
+use mathlib.Core.Bool.{true}
+use Prim.Native.Nat.{ℕ, _^_, _≤_, _<_}
+use borrow.Author.Tests.{ltb-false, le-ltb}
+use Rattle.model.specs.definitions.Models.{scale, maxRadius, good, makeModel}
+use Rattle.model.specs.definitions.Outcomes.{accepted}
+use Rattle.model.specs.declared.types.Model.{Model}
+use Rattle.certificate.specs.definitions.Tests.{scratchSize, quotientOutcome, quotientContraction, quotientResidual, quotientModel, displacement}
+use Rattle.certificate.specs.definitions.Tests.{Certificate, makeCertificate, quotientCertificate}
+use Rattle.certificate.specs.definitions.TwoSums.{quotientM, quotientN, quotientB, quotientRadius}
+use Rattle.certificate.specs.laws.TwoSumsLaws.{productList-good}
+use Rattle.certificate.specs.laws.Stages.{large-radius}
+use Rattle.certificate.specs.laws.QuotientConditions.{QuotientConditions, quotientResult, quotient-passes, quotient-result}
+
+contraction-is : (g w : Model) → good g ≡ true → good w ≡ true → quotientContraction g w ≡ quotientM g w
+unfolding quotientM quotientContraction
+contraction-is g w gg gw = rw (productList-good w g gw gg)
+
+residual-is : (f g h : Model) → good g ≡ true → good h ≡ true → quotientResidual f g h ≡ quotientN f g h
+unfolding quotientN quotientResidual
+residual-is f g h gg gh = rw (productList-good g h gg gh)
+
+module _ (len : ℕ) (f g h w : Model) (enough : scratchSize ≤ len)
+    (gf : good f ≡ true) (gg : good g ≡ true) (gh : good h ≡ true) (gw : good w ≡ true) where
+  -- "The test: m < S and N ≤ 2^28.", and the result's radius is within 2^28
+  abbrev pub QuotientHolds : Type 0
+  QuotientHolds = (quotientM g w < scale) × (quotientN f g h ≤ 2 ^ 28) × (quotientRadius f g h w ≤ 2 ^ 28)
+
+  -- "Result h with radius up(b·S/(S−m))", and 01's m, N and b
+  abbrev pub quotientGiven : Certificate
+  quotientGiven =
+      makeCertificate (makeModel (h .degree) (h .coefficients) (quotientRadius f g h w)) (quotientM g w) (quotientN f g h) (quotientB f g h w)
+
+  given-is : quotientCertificate f g h w ≡ quotientGiven
+  unfolding quotientRadius quotientB displacement quotientModel
+  given-is = rw (← contraction-is g w gg gw, ← residual-is f g h gg gh)
+
+  conditions-holds : QuotientConditions len f g h w ↔ QuotientHolds
+  unfolding quotientRadius quotientB displacement quotientModel
+  conditions-holds =
+      let radius = (quotientResult f g h w) .radius in
+      let large = large-radius h radius gh in
+      rw (← contraction-is g w gg gw, ← residual-is f g h gg gh) (
+        λ c. (c .contraction, c .residual, ltb-false maxRadius radius (sym large ∙ c .result)),
+        λ t. record {
+          scratch = enough;
+          good-f = gf;
+          good-g = gg;
+          good-h = gh;
+          good-w = gw;
+          contraction = t .0;
+          residual = t .1;
+          result = large ∙ le-ltb maxRadius radius (t .2);
+        },
+      )
+
+  -- accepted where the test holds
+  pub quotient-accepted : QuotientHolds → quotientOutcome len f g h w ≡ accepted quotientGiven
+  quotient-accepted t = quotient-result len f g h w (conditions-holds .1 t) ∙ ap accepted given-is
+
+  -- and only there
+  pub quotient-accepted-only : {c : Certificate} → quotientOutcome len f g h w ≡ accepted c → QuotientHolds × (c ≡ quotientGiven)
+  quotient-accepted-only e =
+      let (conditions, same) = quotient-passes len f g h w e in (conditions-holds .0 conditions, same ∙ given-is)

@@ -1,0 +1,165 @@
+-- The root test is sound: where it passes, every value v that f allows at a fraction x of [−1, 1] is above 0, and its root
+-- lies between y − ρ and y + ρ, where y is h(x) and ρ the radius. No square root is taken: squares are compared.
+use mathlib.Core.Path.{_≡_, sym, _∙_, ap}
+use mathlib.Core.Logic.{_⊎_, inl, inr}
+use mathlib.Core.List.{List, [], _∷_}
+use Prim.Native.Nat.{ℕ, _+_, _*_, _-_}
+use native.Mathlib.Omega.{arith}
+use lib.IntN.{ℤ, pos}
+use Rattle.integer.specs.laws.Embedding.{ι-nonneg}
+use Rattle.integer.specs.definitions.Integer.{ℤ-ring}
+use Rattle.integer.specs.laws.OrderedRingLaws.{_⟨≼⟩_, by-certificate, gap, abs-le, abs-upper, abs-lower, le-of-eq}
+use Rattle.integer.specs.laws.Order.{le-pos}
+use Rattle.integer.specs.definitions.Fraction.{ℚ, whole, _+ℚ_, _-ℚ_, -ℚ_, _*ℚ_, _≤ℚ_, _<ℚ_, ∣_∣ℚ}
+use Rattle.integer.specs.laws.FractionLaws.{*ℚ-comm}
+use Rattle.integer.specs.definitions.FractionRing.{ℚ-ring}
+use Rattle.integer.specs.laws.FractionSolver.{reifyℚ, solveℚ}
+use Rattle.integer.specs.laws.FractionOrder.{ℚ-ordered, whole-le}
+use Rattle.integer.specs.laws.FractionInverse.{quotient-mul}
+use Rattle.integer.specs.laws.FractionRounding.{natural-add, natural-mul, natural-le, natural-positive, up-bound}
+use Rattle.integer.specs.laws.RoundingLaws.{le-upℕ}
+use Rattle.chebyshev.specs.definitions.Coefficients.{weight, subtractLists, scaleList}
+use Rattle.chebyshev.specs.laws.CoefficientLaws.{value-constant}
+use Rattle.chebyshev.specs.definitions.Allows.{allows}
+use Rattle.chebyshev.specs.laws.AllowsLaws.{allows-quotient}
+use Rattle.chebyshev.specs.laws.Sign.{helper-positive}
+use Rattle.model.specs.definitions.Models.{scale}
+use Rattle.model.specs.definitions.Values.{position, AllowsAt, Allows, OnInterval}
+use Rattle.model.specs.laws.ValueLaws.{valueAt, valueAt-scale, valueAt-weight, valueAt-difference}
+use Rattle.model.specs.laws.GoodLaws.{value-productList}
+use Rattle.model.specs.definitions.Operations.{productList}
+use Rattle.model.specs.declared.types.Model.{Model}
+use Rattle.model.specs.definitions.Outcomes.{accepted}
+use Rattle.certificate.specs.definitions.Tests.{Certificate, RootRule, byDiscriminant, rootOutcome, rootModel, rootContraction, rootResidual, displacement}
+use Rattle.certificate.specs.definitions.RootBounds.{RootBounds, ofUnits}
+use Rattle.certificate.specs.laws.RootAlgebra.{helper-bound, residual-bound, root-algebra, root-choice}
+use Rattle.certificate.specs.laws.RootConditions.{RootConditions, rootDisplacement, rootResult, root-passes}
+
+-- ---- units
+
+units-scale : (z : ℚ) → ofUnits z *ℚ whole (pos scale) ≡ z
+units-scale z = quotient-mul z (whole (pos scale)) (λ e. natural-positive scale (omega arith) (le-of-eq ℚ-ordered e))
+
+units-nonneg : (n : ℕ) → whole (pos 0) ≤ℚ ofUnits (whole (pos n))
+units-nonneg n =
+    ℚ-ordered .le-cancel (whole (pos scale)) (whole (pos 0)) (ofUnits (whole (pos n))) (natural-positive scale (omega arith))
+    (rw (*ℚ-comm (whole (pos scale)) (ofUnits (whole (pos n))), units-scale (whole (pos n)), ← natural-mul scale 0) (natural-le (omega arith)))
+
+-- what lies between y − ρ and y + ρ is allowed
+between-allows : (m : Model) (cs : List ℤ) (x r : ℚ) → m .coefficients ≡ cs → r ≤ℚ ofUnits (valueAt x cs) +ℚ ofUnits (whole (pos (m .radius)))
+    → ofUnits (valueAt x cs) -ℚ ofUnits (whole (pos (m .radius))) ≤ℚ r → AllowsAt m x r
+unfolding AllowsAt
+between-allows m cs x r same above below =
+    rw same (allows-quotient scale cs (m .radius) x r (omega arith) .1 (distance (ofUnits (valueAt x cs)) (ofUnits (whole (pos (m .radius)))) above below))
+  where
+    distance : (y ρ : ℚ) → r ≤ℚ y +ℚ ρ → y -ℚ ρ ≤ℚ r → ∣ r -ℚ y ∣ℚ ≤ℚ ρ
+    distance y ρ k l =
+        abs-le ℚ-ordered
+        (by-certificate ℚ-ordered (gap ℚ-ordered k) (solveℚ (r ∷ y ∷ ρ ∷ []) (search reifyℚ depth 20) (search reifyℚ depth 20) tt))
+        (by-certificate ℚ-ordered (gap ℚ-ordered l) (solveℚ (r ∷ y ∷ ρ ∷ []) (search reifyℚ depth 20) (search reifyℚ depth 20) tt))
+
+-- ---- the two residuals at x
+
+module _ (len : ℕ) (f h w : Model) (c : RootConditions len f h w) where
+  -- weight(S² − C(w,h)) and weight(C(h,h) − 2S·f)
+  abbrev contractionWeight : ℕ
+  contractionWeight = weight (subtractLists ℤ-ring (pos (scale * scale) ∷ []) (productList w h))
+
+  abbrev residualWeight : ℕ
+  residualWeight = weight (subtractLists ℤ-ring (productList h h) (scaleList ℤ-ring (pos (2 * scale)) (f .coefficients)))
+
+  helper-distance : (x : ℚ) → OnInterval x
+      → ∣ whole (pos scale) *ℚ whole (pos scale) -ℚ whole (pos 2) *ℚ valueAt x (w .coefficients) *ℚ valueAt x (h .coefficients) ∣ℚ ≤ℚ whole (pos contractionWeight)
+  helper-distance x on =
+      rw (← natural-mul scale scale, value-productList w h (c .numbers .good-w) (c .numbers .good-h) x)
+      (rw (value-constant ℚ-ring x (whole (pos (scale * scale)))) at (valueAt-difference on (pos (scale * scale) ∷ []) (productList w h)))
+
+  -- w(x) > 0
+  helper-value : (x : ℚ) → OnInterval x → whole (pos 0) <ℚ valueAt x (w .coefficients)
+  unfolding rootContraction
+  helper-value x on =
+      helper-positive (whole (pos scale) *ℚ whole (pos scale)) (whole (pos contractionWeight)) (w .coefficients) (h .coefficients)
+      (c .numbers .helper)
+      (λ k. omega (arith, le-pos (scale * scale) contractionWeight (whole-le _ _ .0 (rw (← natural-mul scale scale) at k)), le-upℕ contractionWeight scale (omega arith), c .numbers .contraction))
+      (λ y k. helper-distance y (record { above = abs-lower ℚ-ordered k; below = abs-upper ℚ-ordered k }))
+      x (abs-le ℚ-ordered (on .below) (on .above))
+
+  module _ (x v : ℚ) (on : OnInterval x) (allowed : AllowsAt f x v) where
+    abbrev y : ℚ
+    y = ofUnits (valueAt x (h .coefficients))
+
+    -- |S − 2·w(x)·y| ≤ m
+    helper-residual : ∣ whole (pos scale) -ℚ whole (pos 2) *ℚ valueAt x (w .coefficients) *ℚ y ∣ℚ ≤ℚ whole (pos (rootContraction h w))
+    unfolding rootContraction
+    helper-residual =
+        up-bound contractionWeight scale (whole (pos scale) -ℚ whole (pos 2) *ℚ valueAt x (w .coefficients) *ℚ y) (omega arith)
+        (helper-bound ℚ-ordered (whole (pos scale)) (valueAt x (w .coefficients)) (valueAt x (h .coefficients)) y (whole (pos contractionWeight)) (units-scale (valueAt x (h .coefficients))) (helper-distance x on))
+
+    -- S·|y² − v| ≤ N
+    root-residual : ∣ whole (pos scale) *ℚ (y *ℚ y -ℚ v) ∣ℚ ≤ℚ whole (pos (rootResidual f h))
+    unfolding rootResidual AllowsAt allows
+    root-residual =
+        up-bound (residualWeight + 2 * scale * f .radius) (2 * scale) (whole (pos scale) *ℚ (y *ℚ y -ℚ v)) (omega arith)
+        (rw (natural-add residualWeight (2 * scale * f .radius), natural-mul (2 * scale) (f .radius), natural-mul 2 scale)
+        (residual-bound ℚ-ordered (whole (pos scale)) (valueAt x (f .coefficients)) (valueAt x (h .coefficients)) y v (whole (pos residualWeight)) (whole (pos (f .radius)))
+        (ι-nonneg ℚ-ordered scale) (units-scale (valueAt x (h .coefficients)))
+        (rw (value-productList h h (c .numbers .good-h) (c .numbers .good-h) x, ← natural-mul 2 scale, ← valueAt-scale x (pos (2 * scale)) (f .coefficients)) (valueAt-difference on (productList h h) (scaleList ℤ-ring (pos (2 * scale)) (f .coefficients))))
+        allowed))
+
+    bounds : RootBounds y (ofUnits (whole (pos ((rootResult f h w) .radius)))) v
+    unfolding rootModel displacement
+    bounds =
+        let m = rootContraction h w in
+        let n = rootResidual f h in
+        let b = rootDisplacement f h w in
+        let k = scale - m in
+        let r = (rootResult f h w) .radius in
+        let M = weight (w .coefficients) in
+        let facts =
+        root-algebra ℚ-ordered (whole (pos scale)) (whole (pos m)) (whole (pos n)) (whole (pos b)) (whole (pos k)) (whole (pos M))
+        (valueAt x (w .coefficients)) y (ofUnits (whole (pos r))) v
+        (natural-positive scale (omega arith))
+        (sym (natural-add k m) ∙ ap (λ (j : ℕ). whole (pos j)) (omega (arith, c .numbers .contraction)))
+        (natural-positive k (omega (arith, c .numbers .contraction)))
+        (units-nonneg r)
+        helper-residual
+        root-residual
+        (helper-value x on)
+        (abs-upper ℚ-ordered (valueAt-weight on (w .coefficients)))
+        (rw (← natural-mul M n, ← natural-mul b scale) (natural-le (le-upℕ (M * n) scale (omega arith))))
+        (rw (units-scale (whole (pos r)), ← natural-mul 2 b, ← natural-mul (2 * b) scale, ← natural-mul r k) (natural-le (le-upℕ (2 * b * scale) k (omega (arith, c .numbers .contraction)))))
+        (rw (← natural-mul 8 b, ← natural-mul (8 * b) M, ← natural-mul k k) (natural-le (c .discriminant))) in
+        record { positive = facts .3; reaches = facts .0; above = facts .1; below = facts .2 }
+
+-- ---- the test
+
+-- what each rule gives: the bounds of the root, around the first model's values
+root-holds : (rule : RootRule) (len : ℕ) (f h w : Model) {c : Certificate} → rootOutcome rule len f h w ≡ accepted c
+    → (x v : ℚ) → OnInterval x → Allows f x v
+    → RootBounds (ofUnits (valueAt x (h .coefficients))) (ofUnits (whole (pos (c .model .radius)))) v × (c .model .coefficients ≡ h .coefficients)
+unfolding position rootModel
+root-holds byDiscriminant len f h w passed x v on allowed =
+    let (conditions, small, same) = root-passes len f h w passed in
+    (rw same (bounds len f h w conditions x v on allowed), ap (λ (t : Certificate). t .model .coefficients) same)
+
+module _ (rule : RootRule) (len : ℕ) (f h w : Model) {c : Certificate} (passed : rootOutcome rule len f h w ≡ accepted c)
+    (x v : ℚ) (on : OnInterval x) (allowed : Allows f x v) where
+  pub root-sound : RootBounds (ofUnits (valueAt x (h .coefficients))) (ofUnits (whole (pos (c .model .radius)))) v
+  root-sound = root-holds rule len f h w passed x v on allowed .0
+
+  same-coefficients : c .model .coefficients ≡ h .coefficients
+  same-coefficients = root-holds rule len f h w passed x v on allowed .1
+
+  -- Every box that 01 permits for the root, where v lies in the box from l to u under it, holds a value that the result allows
+  pub root-overlap : (low high l u : ℚ) → (low ≡ whole (pos 0)) ⊎ ((whole (pos 0) <ℚ low) × (low *ℚ low ≤ℚ l)) → whole (pos 0) ≤ℚ high → u ≤ℚ high *ℚ high
+      → low ≤ℚ high → l ≤ℚ v → v ≤ℚ u → (r : ℚ) × (low ≤ℚ r) × (r ≤ℚ high) × Allows (c .model) x r
+  unfolding position
+  root-overlap low high l u low-fits high-nonneg high-fits ordered above below =
+      let (r, low-r, r-high, r-above, r-below) =
+      root-choice ℚ-ordered _ _ v low high (units-nonneg (c .model .radius)) (root-sound .reaches) (root-sound .above) (root-sound .below)
+      (square low-fits) high-nonneg (_⟨≼⟩_ ℚ-ordered below high-fits) ordered in
+      (r, low-r, r-high, between-allows (c .model) (h .coefficients) x r same-coefficients r-above r-below)
+    where
+      square : (low ≡ whole (pos 0)) ⊎ ((whole (pos 0) <ℚ low) × (low *ℚ low ≤ℚ l)) → (low ≡ whole (pos 0)) ⊎ (low *ℚ low ≤ℚ v)
+      square (inl e) = inl e
+      square (inr k) = inr (_⟨≼⟩_ ℚ-ordered (k .1) above)

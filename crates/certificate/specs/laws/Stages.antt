@@ -1,0 +1,64 @@
+-- The answers of the two tests by their parts, and what their places share: the scratch, models and candidates, the result.
+use mathlib.Core.Path.{_≡_, refl}
+use mathlib.Core.Bool.{Bool, true, false, true≢false, not, _&&_, cond, or-false}
+use mathlib.Core.List.{List, _++_}
+use Prim.Native.Nat.{ℕ, _*_, _^_, _≤_, _<_}
+use native.Mathlib.Omega.{arith}
+use native.Mathlib.Nat.{mul-le-mul}
+use lib.Dec.{ltb}
+use lib.IntN.{ℤ}
+use lib.ListN.{length, drop}
+use borrow.Author.Tests.{le-ltb, le-leb, lt-leb}
+use Rattle.integer.specs.definitions.Lists.{zeros}
+use Rattle.integer.specs.definitions.Rounding.{upℕ}
+use Rattle.integer.specs.laws.RoundingLaws.{upℕ-least}
+use Rattle.chebyshev.specs.definitions.Coefficients.{weight}
+use Rattle.model.specs.definitions.Models.{scale, maxDegree, maxWeight, maxRadius, good, tooLarge}
+use Rattle.model.specs.laws.ModelLaws.{good-is}
+use Rattle.model.specs.declared.types.Model.{Model}
+use Rattle.certificate.specs.definitions.Tests.{withRadius, scratchSize, scratchAfter, quotientOutcome, rootPlaces, byDiscriminant, rootOutcome}
+
+-- ---- the place of the result
+
+-- of a good model with another radius only the radius can be too large
+pub large-radius : (h : Model) (r : ℕ) → good h ≡ true → tooLarge (withRadius h r) ≡ ltb maxRadius r
+unfolding tooLarge
+large-radius h r g =
+    let p = good-is h g in
+    rw (le-ltb maxWeight (weight (h .coefficients)) (p .weight-fits), le-ltb maxDegree (h .degree) (p .degree-fits)) (or-false (ltb maxRadius r))
+
+-- ---- b
+
+pub displacement-bound : (M n : ℕ) → M ≤ maxWeight → n ≤ maxRadius → upℕ (M * n) scale ≤ 2 ^ 36
+displacement-bound M n p q = upℕ-least (M * n) scale (2 ^ 36) (omega arith) (mul-le-mul p q)
+
+-- ---- the scratch
+
+pub scratch-short : (s : List ℤ) → length s < scratchSize → scratchAfter s ≡ s
+unfolding scratchAfter
+scratch-short s e = rw (lt-leb scratchSize (length s) e)
+
+pub scratch-cleared : (s : List ℤ) → scratchSize ≤ length s → scratchAfter s ≡ zeros scratchSize ++ drop scratchSize s
+unfolding scratchAfter zeros
+scratch-cleared s e = rw (le-leb scratchSize (length s) e)
+
+-- ---- a scratch that is long enough plays no further part
+
+pub quotient-room : (len : ℕ) (f g h w : Model) → scratchSize ≤ len → quotientOutcome len f g h w ≡ quotientOutcome scratchSize f g h w
+unfolding quotientOutcome
+quotient-room len f g h w room = rw (le-ltb len scratchSize room)
+
+pub root-room : (len : ℕ) (f h w : Model) → scratchSize ≤ len → rootOutcome byDiscriminant len f h w ≡ rootOutcome byDiscriminant scratchSize f h w
+unfolding rootOutcome rootPlaces
+root-room len f h w room = rw (le-ltb len scratchSize room)
+
+-- ---- models and candidates
+
+-- one of four is bad
+pub bad-model : {A : Type 0} (a b c d : Bool) (x y : A) → (a && (b && (c && d))) ≡ false
+    → cond (not a) x (cond (not b) x (cond (not c) x (cond (not d) x y))) ≡ x
+bad-model true true true true x y e = absurd (true≢false e)
+bad-model true true true false x y e = refl
+bad-model true true false d x y e = refl
+bad-model true false c d x y e = refl
+bad-model false b c d x y e = refl

@@ -1,0 +1,43 @@
+-- The model that a test answers has a degree and a radius within their limits, so that an area can hold them; and the result of
+-- an accepted test is a good model.
+use mathlib.Core.Path.{_≡_}
+use mathlib.Core.Bool.{true}
+use Prim.Native.Nat.{ℕ}
+use Rattle.model.specs.definitions.Models.{good}
+use Rattle.model.specs.laws.ModelLaws.{good-is}
+use Rattle.model.specs.definitions.Outcomes.{accepted, values}
+use Rattle.model.specs.definitions.Areas.{Storable}
+use Rattle.model.specs.laws.ResultLaws.{small-storable, zero-storable, outcome-values}
+use Rattle.model.specs.laws.GoodResults.{good-small}
+use Rattle.model.specs.declared.types.Model.{Model}
+use Rattle.certificate.specs.definitions.Tests.{Certificate, zeroCertificate, quotientPlaces, quotientOutcome, quotientModel}
+use Rattle.certificate.specs.definitions.Tests.{byDiscriminant, rootTestPlaces, rootOutcome, rootModel}
+use Rattle.certificate.specs.laws.QuotientConditions.{quotient-conditions, quotient-passes}
+use Rattle.certificate.specs.laws.RootConditions.{root-conditions, root-passes}
+
+abbrev Fits : Certificate → Type 0
+Fits c = Storable (c .model)
+
+pub quotient-storable : (len : ℕ) (f g h w : Model) → Storable (values (quotientOutcome len f g h w) .model)
+unfolding quotientOutcome
+quotient-storable len f g h w =
+    outcome-values Fits (quotientPlaces len f g h w) _ zeroCertificate
+    (λ p. small-storable _ (quotient-conditions len f g h w .0 p .result)) zero-storable
+
+pub root-storable : (len : ℕ) (f h w : Model) → Storable (values (rootOutcome byDiscriminant len f h w) .model)
+unfolding rootOutcome
+root-storable len f h w =
+    outcome-values Fits (rootTestPlaces byDiscriminant len f h w) _ zeroCertificate
+    (λ p. small-storable _ (root-conditions len f h w .0 p .1)) zero-storable
+
+pub quotient-good : (len : ℕ) (f g h w : Model) {c : Certificate} → quotientOutcome len f g h w ≡ accepted c → good (c .model) ≡ true
+unfolding quotientModel
+quotient-good len f g h w e =
+    let (conditions, same) = quotient-passes len f g h w e in
+    rw same (good-small _ (conditions .result) (good-is h (conditions .good-h) .beyond-zero))
+
+pub root-good : (len : ℕ) (f h w : Model) {c : Certificate} → rootOutcome byDiscriminant len f h w ≡ accepted c → good (c .model) ≡ true
+unfolding rootModel
+root-good len f h w e =
+    let (conditions, small, same) = root-passes len f h w e in
+    rw same (good-small _ small (good-is h (conditions .numbers .good-h) .beyond-zero))

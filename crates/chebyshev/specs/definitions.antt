@@ -1,0 +1,9 @@
+pub mod Recurrences
+pub mod Product
+pub mod Coefficients
+pub mod Norms
+pub mod TwoSums
+pub mod Derivative
+pub mod Primitive
+pub mod Homogeneous
+pub mod Allows

@@ -1,0 +1,17 @@
+pub mod RecurrenceLaws
+pub mod Perturbed
+pub mod CoefficientLaws
+pub mod NormLaws
+pub mod Weight
+pub mod Lipschitz
+pub mod ProductLaws
+pub mod ProductWeight
+pub mod ProductEnd
+pub mod ProductSums
+pub mod DerivativeLaws
+pub mod PrimitiveLaws
+pub mod PrimitiveNorm
+pub mod HomogeneousLaws
+pub mod AllowsLaws
+pub mod Midpoint
+pub mod Sign

@@ -1,0 +1,44 @@
+-- The walk over all pairs (Product.antt) leaves the places from the sum of the lengths less one on as they were, so C(a, b) is
+-- zero there.
+use mathlib.Core.Path.{_≡_, refl, _∙_, ap}
+use mathlib.Core.List.{List, [], _∷_}
+use Prim.Native.Nat.{ℕ, zero, suc, _+_, _<_, _≤_}
+use native.Mathlib.Omega.{arith}
+use lib.IntN.{ℤ, pos}
+use lib.ListN.{length, drop, replicate}
+use Rattle.integer.specs.definitions.Ring.{CommutativeRing}
+use Rattle.integer.specs.definitions.Integer.{ℤ-ring}
+use Rattle.chebyshev.specs.definitions.Coefficients.{weight}
+use Rattle.chebyshev.specs.laws.Weight.{weight-drop, weight-zeros}
+use Rattle.chebyshev.specs.definitions.Product.{distance, addAt, addPair, addRow, addRows, product}
+
+module _ (R : CommutativeRing) where
+  open CommutativeRing R using (A, mul as _⊗_, ι)
+
+  infixl 7 _⊗_
+  drop-addAt : (n : ℕ) (c : List A) (k : ℕ) (v : A) → k < n → drop n (addAt R c k v) ≡ drop n c
+  unfolding addAt
+  drop-addAt zero c k v h = absurd (omega arith)
+  drop-addAt (suc n) [] k v h = refl
+  drop-addAt (suc n) (x ∷ c) zero v h = refl
+  drop-addAt (suc n) (x ∷ c) (suc k) v h = drop-addAt n c k v (omega arith)
+
+  drop-addPair : (n : ℕ) (c : List A) (i j : ℕ) (v : A) → i + j < n → drop n (addPair R c i j v) ≡ drop n c
+  unfolding addPair
+  drop-addPair n c i j v h = drop-addAt n (addAt R c (i + j) v) (distance i j) v (omega arith) ∙ drop-addAt n c (i + j) v h
+
+  drop-addRow : (n : ℕ) (c : List A) (x : A) (i j : ℕ) (b : List A) → i + j + length b ≤ n → drop n (addRow R c x i j b) ≡ drop n c
+  unfolding addRow
+  drop-addRow n c x i j [] h = refl
+  drop-addRow n c x i j (y ∷ b) h = drop-addRow n (addPair R c i j (x ⊗ y)) x i (suc j) b (omega arith) ∙ drop-addPair n c i j (x ⊗ y) (omega arith)
+
+  drop-addRows : (n : ℕ) (c : List A) (i : ℕ) (a b : List A) → i + length a + length b ≤ suc n → drop n (addRows R c i a b) ≡ drop n c
+  unfolding addRows
+  drop-addRows n c i [] b h = refl
+  drop-addRows n c i (x ∷ a) b h = drop-addRows n (addRow R c x i 0 b) (suc i) a b (omega arith) ∙ drop-addRow n c x i 0 b (omega arith)
+
+pub product-end : (width n : ℕ) (a b : List ℤ) → length a + length b ≤ suc n → weight (drop n (product ℤ-ring width a b)) ≡ 0
+unfolding product
+product-end width n a b h =
+    let zeros = replicate width (pos 0) in
+    omega (arith, ap weight (drop-addRows ℤ-ring n zeros 0 a b (omega arith)), weight-drop n zeros, weight-zeros width)

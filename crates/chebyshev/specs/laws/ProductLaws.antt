@@ -1,0 +1,189 @@
+-- Laws of the walk over all pairs (Product.antt): its lengths, its steps, and its value, 2·value a·value b.
+use mathlib.Core.Path.{_≡_, refl, sym, _∙_, ap}
+use mathlib.Core.Logic.{_≢_}
+use mathlib.Core.List.{List, [], _∷_, map}
+use Prim.Native.Nat.{ℕ, zero, suc, _+_, _<_, _≤_}
+use native.Mathlib.Omega.{arith}
+use native.Mathlib.Numerals.{add-one}
+use lib.IntN.{ℤ, pos, _*ℤ_}
+use lib.ListN.{length, getD, take, drop, set, replicate, length-replicate, length-map, drop-of-length-le}
+use lib.Seq.{drop-cons}
+use Rattle.integer.specs.definitions.Ring.{CommutativeRing}
+use Rattle.integer.specs.laws.Solver.{reify, solve}
+use Rattle.integer.specs.definitions.Integer.{ℤ-ring}
+use Rattle.chebyshev.specs.definitions.Recurrences.{firstKind}
+use Rattle.chebyshev.specs.laws.RecurrenceLaws.{first-product}
+use Rattle.chebyshev.specs.definitions.Coefficients.{valueFrom, value}
+use Rattle.chebyshev.specs.laws.CoefficientLaws.{valueFrom-zeros, map-ι-zeros}
+use Rattle.chebyshev.specs.definitions.Product.{distance, addAt, addPair, addRow, addRows, product}
+
+module _ (R : CommutativeRing) where
+  open CommutativeRing R using (A, add as _⊕_, mul as _⊗_, ι, add-assoc, ι-add, ι-mul)
+
+  infixl 6 _⊕_
+  infixl 7 _⊗_
+  -- ---- one place
+
+  -- as code writes it
+  pub addAt-set : (c : List A) (k : ℕ) (v : A) → addAt R c k v ≡ set c k (getD c k (ι (pos 0)) ⊕ v)
+  unfolding addAt
+  addAt-set [] k v = refl
+  addAt-set (x ∷ c) zero v = refl
+  addAt-set (x ∷ c) (suc k) v = ap (λ l. x ∷ l) (addAt-set c k v)
+
+  pub getD-addAt-same : (c : List A) (k : ℕ) (v : A) → k < length c → getD (addAt R c k v) k (ι (pos 0)) ≡ getD c k (ι (pos 0)) ⊕ v
+  unfolding addAt
+  getD-addAt-same [] k v h = absurd (omega arith)
+  getD-addAt-same (x ∷ c) zero v h = refl
+  getD-addAt-same (x ∷ c) (suc k) v h = getD-addAt-same c k v (omega arith)
+
+  pub getD-addAt-other : (c : List A) (m k : ℕ) (v : A) → k ≢ m → getD (addAt R c m v) k (ι (pos 0)) ≡ getD c k (ι (pos 0))
+  unfolding addAt
+  getD-addAt-other [] m k v h = refl
+  getD-addAt-other (x ∷ c) zero zero v h = absurd (h refl)
+  getD-addAt-other (x ∷ c) zero (suc k) v h = refl
+  getD-addAt-other (x ∷ c) (suc m) zero v h = refl
+  getD-addAt-other (x ∷ c) (suc m) (suc k) v h = getD-addAt-other c m k v (omega arith)
+
+  pub length-addAt : (c : List A) (k : ℕ) (v : A) → length (addAt R c k v) ≡ length c
+  unfolding addAt
+  length-addAt [] k v = refl
+  length-addAt (x ∷ c) zero v = refl
+  length-addAt (x ∷ c) (suc k) v = ap suc (length-addAt c k v)
+
+  valueFrom-addAt : (x : A) (m : ℕ) (c : List A) (k : ℕ) (v : A) → k < length c → valueFrom R x m (addAt R c k v) ≡ valueFrom R x m c ⊕ v ⊗ firstKind R x (m + k)
+  unfolding valueFrom addAt
+  valueFrom-addAt x m [] k v h = absurd (omega arith)
+  valueFrom-addAt x m (y ∷ c) zero v h =
+      let e : m + 0 ≡ m = omega arith in
+      rw e (solve R (y ∷ v ∷ firstKind R x m ∷ valueFrom R x (suc m) c ∷ []) (search reify depth 20) (search reify depth 20) tt)
+  valueFrom-addAt x m (y ∷ c) (suc k) v h =
+      let e : m + suc k ≡ suc m + k = omega arith in
+      rw e
+      (ap (λ w. y ⊗ firstKind R x m ⊕ w) (valueFrom-addAt x (suc m) c k v (omega arith))
+      ∙ sym (add-assoc (y ⊗ firstKind R x m) (valueFrom R x (suc m) c) (v ⊗ firstKind R x (suc m + k))))
+
+  value-addAt : (x : A) (c : List A) (k : ℕ) (v : A) → k < length c → value R x (addAt R c k v) ≡ value R x c ⊕ v ⊗ firstKind R x k
+  unfolding value
+  value-addAt x c k v h =
+      let e : 0 + k ≡ k = omega arith in
+      rw e at (valueFrom-addAt x 0 c k v h)
+
+  -- ---- one pair
+
+  pub length-addPair : (c : List A) (i j : ℕ) (v : A) → length (addPair R c i j v) ≡ length c
+  unfolding addPair
+  length-addPair c i j v = rw (length-addAt, length-addAt)
+
+  value-addPair : (x : A) (c : List A) (i j : ℕ) (v : A) → i + j < length c → value R x (addPair R c i j v) ≡ value R x c ⊕ ι (pos 2) ⊗ (v ⊗ firstKind R x i ⊗ firstKind R x j)
+  unfolding addPair
+  value-addPair x c i j v h =
+      value-addAt x (addAt R c (i + j) v) (distance i j) v (rw length-addAt (omega arith))
+      ∙ ap (λ w. w ⊕ v ⊗ firstKind R x (distance i j)) (value-addAt x c (i + j) v h)
+      ∙ solve R (v ∷ value R x c ∷ firstKind R x (i + j) ∷ firstKind R x (distance i j) ∷ []) (search reify depth 20) (search reify depth 20) tt
+      ∙ ap (λ w. value R x c ⊕ v ⊗ w) (sym (first-product R x i j))
+      ∙ solve R (v ∷ value R x c ∷ firstKind R x i ∷ firstKind R x j ∷ []) (search reify depth 20) (search reify depth 20) tt
+
+  -- ---- rows
+
+  pub length-addRow : (c : List A) (y : A) (i j : ℕ) (b : List A) → length (addRow R c y i j b) ≡ length c
+  unfolding addRow
+  length-addRow c y i j [] = refl
+  length-addRow c y i j (z ∷ b) = length-addRow (addPair R c i j (y ⊗ z)) y i (suc j) b ∙ length-addPair c i j (y ⊗ z)
+
+  length-addRows : (c : List A) (i : ℕ) (a b : List A) → length (addRows R c i a b) ≡ length c
+  unfolding addRows
+  length-addRows c i [] b = refl
+  length-addRows c i (y ∷ a) b = length-addRows (addRow R c y i 0 b) (suc i) a b ∙ length-addRow c y i 0 b
+
+  pub length-product : (width : ℕ) (a b : List A) → length (product R width a b) ≡ width
+  unfolding product
+  length-product width a b = length-addRows (replicate width (ι (pos 0))) 0 a b ∙ length-replicate width (ι (pos 0))
+
+  value-addRow : (x : A) (c : List A) (y : A) (i j : ℕ) (b : List A) → i + j + length b ≤ length c
+      → value R x (addRow R c y i j b) ≡ value R x c ⊕ ι (pos 2) ⊗ (y ⊗ firstKind R x i ⊗ valueFrom R x j b)
+  unfolding addRow valueFrom
+  value-addRow x c y i j [] h = solve R (y ∷ value R x c ∷ firstKind R x i ∷ []) (search reify depth 20) (search reify depth 20) tt
+  value-addRow x c y i j (z ∷ b) h =
+      value-addRow x (addPair R c i j (y ⊗ z)) y i (suc j) b (rw length-addPair (omega arith))
+      ∙ ap (λ w. w ⊕ ι (pos 2) ⊗ (y ⊗ firstKind R x i ⊗ valueFrom R x (suc j) b)) (value-addPair x c i j (y ⊗ z) (omega arith))
+      ∙ solve R (y ∷ z ∷ value R x c ∷ firstKind R x i ∷ firstKind R x j ∷ valueFrom R x (suc j) b ∷ []) (search reify depth 20) (search reify depth 20) tt
+
+  value-addRows : (x : A) (c : List A) (i : ℕ) (a b : List A) → i + length a + length b ≤ suc (length c)
+      → value R x (addRows R c i a b) ≡ value R x c ⊕ ι (pos 2) ⊗ (valueFrom R x i a ⊗ value R x b)
+  unfolding addRows valueFrom value
+  value-addRows x c i [] b h = solve R (value R x c ∷ value R x b ∷ []) (search reify depth 20) (search reify depth 20) tt
+  value-addRows x c i (y ∷ a) b h =
+      value-addRows x (addRow R c y i 0 b) (suc i) a b (rw length-addRow (omega arith))
+      ∙ ap (λ w. w ⊕ ι (pos 2) ⊗ (valueFrom R x (suc i) a ⊗ value R x b)) (value-addRow x c y i 0 b (omega arith))
+      ∙ solve R (y ∷ value R x c ∷ firstKind R x i ∷ valueFrom R x (suc i) a ∷ value R x b ∷ []) (search reify depth 20) (search reify depth 20) tt
+
+  -- 2·value a·value b = value C(a, b), where the width holds all of C
+  pub value-product : (x : A) (width : ℕ) (a b : List A) → length a + length b ≤ suc width → ι (pos 2) ⊗ value R x a ⊗ value R x b ≡ value R x (product R width a b)
+  unfolding product value
+  value-product x width a b h =
+      solve R (value R x a ∷ value R x b ∷ []) (search reify depth 20) (search reify depth 20) tt
+      ∙ ap (λ w. w ⊕ ι (pos 2) ⊗ (value R x a ⊗ value R x b)) (sym (valueFrom-zeros R x 0 width))
+      ∙ sym (value-addRows x (replicate width (ι (pos 0))) 0 a b (rw length-replicate (omega arith)))
+
+  -- ---- the walk's steps, for loops
+
+  pub row-step : (c : List A) (y : A) (i j : ℕ) (b : List A) (k : ℕ) → k < length b
+      → addRow R c y i j (drop k b) ≡ addRow R (addPair R c i j (y ⊗ getD b k (ι (pos 0)))) y i (j + 1) (drop (k + 1) b)
+  unfolding addRow
+  row-step c y i j b k h = rw (drop-cons b k (ι (pos 0)) h, add-one j, add-one k)
+
+  pub row-end : (c : List A) (y : A) (i j : ℕ) (b : List A) (k : ℕ) → length b ≤ k → addRow R c y i j (drop k b) ≡ c
+  unfolding addRow
+  row-end c y i j b k h = rw drop-of-length-le
+
+  -- a row cut at place k
+  pub row-cut : (c : List A) (y : A) (i j k : ℕ) (b : List A) → k ≤ length b
+      → addRow R (addRow R c y i j (take k b)) y i (j + k) (drop k b) ≡ addRow R c y i j b
+  unfolding addRow
+  row-cut c y i j zero b h = let e : j + 0 ≡ j = omega arith in rw e
+  row-cut c y i j (suc k) [] h = absurd (omega arith)
+  row-cut c y i j (suc k) (z ∷ b) h =
+      let e : j + suc k ≡ suc j + k = omega arith in
+      rw e (row-cut (addPair R c i j (y ⊗ z)) y i (suc j) k b (omega arith))
+
+  pub rows-step : (c : List A) (i : ℕ) (a b : List A) → i < length a
+      → addRows R c i (drop i a) b ≡ addRows R (addRow R c (getD a i (ι (pos 0))) i 0 b) (i + 1) (drop (i + 1) a) b
+  unfolding addRows
+  rows-step c i a b h = rw (drop-cons a i (ι (pos 0)) h, add-one)
+
+  pub rows-end : (c : List A) (i : ℕ) (a b : List A) → length a ≤ i → addRows R c i (drop i a) b ≡ c
+  unfolding addRows
+  rows-end c i a b h = rw drop-of-length-le
+
+  -- ---- whole numbers in the ring
+
+  map-ι-addAt : (c : List ℤ) (k : ℕ) (v : ℤ) → map ι (addAt ℤ-ring c k v) ≡ addAt R (map ι c) k (ι v)
+  unfolding addAt
+  map-ι-addAt [] k v = refl
+  map-ι-addAt (x ∷ c) zero v = ap (λ y. y ∷ map ι c) (ι-add x v)
+  map-ι-addAt (x ∷ c) (suc k) v = ap (λ l. ι x ∷ l) (map-ι-addAt c k v)
+
+  map-ι-addPair : (c : List ℤ) (i j : ℕ) (v : ℤ) → map ι (addPair ℤ-ring c i j v) ≡ addPair R (map ι c) i j (ι v)
+  unfolding addPair
+  map-ι-addPair c i j v = map-ι-addAt (addAt ℤ-ring c (i + j) v) (distance i j) v ∙ ap (λ l. addAt R l (distance i j) (ι v)) (map-ι-addAt c (i + j) v)
+
+  map-ι-addRow : (c : List ℤ) (x : ℤ) (i j : ℕ) (b : List ℤ) → map ι (addRow ℤ-ring c x i j b) ≡ addRow R (map ι c) (ι x) i j (map ι b)
+  unfolding addRow
+  map-ι-addRow c x i j [] = refl
+  map-ι-addRow c x i j (y ∷ b) =
+      map-ι-addRow (addPair ℤ-ring c i j (x *ℤ y)) x i (suc j) b
+      ∙ ap (λ l. addRow R l (ι x) i (suc j) (map ι b)) (map-ι-addPair c i j (x *ℤ y) ∙ ap (addPair R (map ι c) i j) (ι-mul x y))
+
+  map-ι-addRows : (c : List ℤ) (i : ℕ) (a b : List ℤ) → map ι (addRows ℤ-ring c i a b) ≡ addRows R (map ι c) i (map ι a) (map ι b)
+  unfolding addRows
+  map-ι-addRows c i [] b = refl
+  map-ι-addRows c i (x ∷ a) b = map-ι-addRows (addRow ℤ-ring c x i 0 b) (suc i) a b ∙ ap (λ l. addRows R l (suc i) (map ι a) (map ι b)) (map-ι-addRow c x i 0 b)
+
+  map-ι-product : (width : ℕ) (a b : List ℤ) → map ι (product ℤ-ring width a b) ≡ product R width (map ι a) (map ι b)
+  unfolding product
+  map-ι-product width a b = map-ι-addRows (replicate width (pos 0)) 0 a b ∙ ap (λ l. addRows R l 0 (map ι a) (map ι b)) (map-ι-zeros R width)
+
+  pub value-product-whole : (x : A) (width : ℕ) (a b : List ℤ) → length a + length b ≤ suc width
+      → ι (pos 2) ⊗ value R x (map ι a) ⊗ value R x (map ι b) ≡ value R x (map ι (product ℤ-ring width a b))
+  value-product-whole x width a b h = value-product x width (map ι a) (map ι b) (simp length-map h) ∙ ap (value R x) (sym (map-ι-product width a b))

@@ -1,0 +1,168 @@
+-- The walk over all pairs forms 01's two sums; so the product is symmetric, and zeros at the top of a list do not count.
+use mathlib.Core.Path.{_≡_, refl, sym, _∙_, ap, ap₂}
+use mathlib.Core.List.{List, [], _∷_, _++_}
+use mathlib.Core.Bool.{Bool, true, false, cond}
+use Prim.Native.Nat.{ℕ, zero, suc, _+_, _-_, _<_}
+use native.Mathlib.Omega.{arith}
+use native.Mathlib.Nat.{add-comm, zero-add as zero-add-ℕ}
+use lib.Dec.{eqb}
+use borrow.Author.Tests.{eqb-true, eqb-false}
+use lib.IntN.{pos}
+use lib.ListN.{length, getD, replicate, length-replicate, getD-replicate}
+use lib.Seq.{ext-getD}
+use Rattle.integer.specs.definitions.Ring.{CommutativeRing}
+use Rattle.integer.specs.laws.Solver.{reify, solve}
+use Rattle.integer.specs.definitions.Integer.{ℤ-ring}
+use Rattle.chebyshev.specs.laws.CoefficientLaws.{add-zero}
+use Rattle.chebyshev.specs.definitions.Product.{distance, addAt, addPair, addRow, addRows, product}
+use Rattle.chebyshev.specs.definitions.TwoSums.{sum, sumWhere, twoSums}
+use Rattle.chebyshev.specs.laws.ProductLaws.{getD-addAt-same, getD-addAt-other, length-addAt, length-addPair, length-addRow, length-product}
+
+module _ (R : CommutativeRing) where
+  open CommutativeRing R using (A, add as _⊕_, mul as _⊗_, ι, add-assoc, zero-add, zero-mul, mul-comm)
+
+  infixl 6 _⊕_
+  infixl 7 _⊗_
+  -- ---- sums
+
+  sum-zero : (n : ℕ) → sum R n (λ k. ι (pos 0)) ≡ ι (pos 0)
+  unfolding sum
+  sum-zero zero = refl
+  sum-zero (suc n) = ap (λ s. ι (pos 0) ⊕ s) (sum-zero n) ∙ zero-add (ι (pos 0))
+
+  sum-cong : (n : ℕ) (f g : ℕ → A) → ((k : ℕ) → f k ≡ g k) → sum R n f ≡ sum R n g
+  unfolding sum
+  sum-cong zero f g h = refl
+  sum-cong (suc n) f g h = ap₂ _⊕_ (h 0) (sum-cong n (λ k. f (suc k)) (λ k. g (suc k)) (λ k. h (suc k)))
+
+  sum-add : (n : ℕ) (f g : ℕ → A) → sum R n (λ k. f k ⊕ g k) ≡ sum R n f ⊕ sum R n g
+  unfolding sum
+  sum-add zero f g = sym (zero-add (ι (pos 0)))
+  sum-add (suc n) f g =
+      ap (λ s. f 0 ⊕ g 0 ⊕ s) (sum-add n (λ k. f (suc k)) (λ k. g (suc k)))
+      ∙ solve R (f 0 ∷ g 0 ∷ sum R n (λ k. f (suc k)) ∷ sum R n (λ k. g (suc k)) ∷ []) (search reify depth 20) (search reify depth 20) tt
+
+  sum-swap : (m n : ℕ) (f : ℕ → ℕ → A) → sum R m (λ i. sum R n (λ j. f i j)) ≡ sum R n (λ j. sum R m (λ i. f i j))
+  unfolding sum
+  sum-swap zero n f = sym (sum-zero n)
+  sum-swap (suc m) n f = ap (λ s. sum R n (λ j. f 0 j) ⊕ s) (sum-swap m n (λ i. f (suc i))) ∙ sym (sum-add n (λ j. f 0 j) (λ j. sum R m (λ i. f (suc i) j)))
+
+  -- one more term in front, where f counts from j
+  sum-shift : (n j : ℕ) (f : ℕ → ℕ → A) → f j 0 ⊕ sum R n (λ k. f (suc j + k) (suc k)) ≡ sum R (suc n) (λ k. f (j + k) k)
+  unfolding sum
+  sum-shift n j f =
+      let e : j ≡ j + 0 = omega arith in
+      ap₂ _⊕_ (ap (λ (m : ℕ). f m 0) e) (sum-cong n (λ k. f (suc j + k) (suc k)) (λ k. f (j + suc k) (suc k)) (λ k. ap (λ (m : ℕ). f m (suc k)) (suc-add-suc k)))
+    where
+      suc-add-suc : (k : ℕ) → suc j + k ≡ j + suc k
+      suc-add-suc k = omega arith
+
+  -- ---- the walk, place by place
+
+  getD-addAt : (c : List A) (m k : ℕ) (v : A) → k < length c → getD (addAt R c m v) k (ι (pos 0)) ≡ getD c k (ι (pos 0)) ⊕ cond (eqb m k) v (ι (pos 0))
+  getD-addAt c m k v h = pick (eqb m k) refl
+    where
+      pick : (t : Bool) → eqb m k ≡ t → getD (addAt R c m v) k (ι (pos 0)) ≡ getD c k (ι (pos 0)) ⊕ cond t v (ι (pos 0))
+      pick true e = rw (eqb-true m k e) (getD-addAt-same R c k v h)
+      pick false e = getD-addAt-other R c m k v (λ q. eqb-false m k e (sym q)) ∙ sym (add-zero R (getD c k (ι (pos 0))))
+
+  -- what the pair (i, j) with the product v adds at place k
+  abbrev contribution : ℕ → ℕ → ℕ → A → A
+  contribution k i j v = cond (eqb (i + j) k) v (ι (pos 0)) ⊕ cond (eqb (distance i j) k) v (ι (pos 0))
+
+  getD-addPair : (c : List A) (i j k : ℕ) (v : A) → k < length c → getD (addPair R c i j v) k (ι (pos 0)) ≡ getD c k (ι (pos 0)) ⊕ contribution k i j v
+  unfolding addPair
+  getD-addPair c i j k v h =
+      getD-addAt (addAt R c (i + j) v) (distance i j) k v (rw length-addAt h)
+      ∙ ap (λ w. w ⊕ cond (eqb (distance i j) k) v (ι (pos 0))) (getD-addAt c (i + j) k v h)
+      ∙ add-assoc (getD c k (ι (pos 0))) (cond (eqb (i + j) k) v (ι (pos 0))) (cond (eqb (distance i j) k) v (ι (pos 0)))
+
+  getD-addRow : (c : List A) (x : A) (i j : ℕ) (b : List A) (k : ℕ) → k < length c
+      → getD (addRow R c x i j b) k (ι (pos 0)) ≡ getD c k (ι (pos 0)) ⊕ sum R (length b) (λ n. contribution k i (j + n) (x ⊗ getD b n (ι (pos 0))))
+  unfolding addRow sum
+  getD-addRow c x i j [] k h = sym (add-zero R (getD c k (ι (pos 0))))
+  getD-addRow c x i j (y ∷ b) k h =
+      getD-addRow (addPair R c i j (x ⊗ y)) x i (suc j) b k (rw length-addPair h)
+      ∙ ap (λ v. v ⊕ sum R (length b) (λ n. contribution k i (suc j + n) (x ⊗ getD b n (ι (pos 0))))) (getD-addPair c i j k (x ⊗ y) h)
+      ∙ add-assoc (getD c k (ι (pos 0))) (contribution k i j (x ⊗ y)) (sum R (length b) (λ n. contribution k i (suc j + n) (x ⊗ getD b n (ι (pos 0)))))
+      ∙ ap (λ v. getD c k (ι (pos 0)) ⊕ v) (sum-shift (length b) j (λ m n. contribution k i m (x ⊗ getD (y ∷ b) n (ι (pos 0)))))
+
+  getD-addRows : (c : List A) (i : ℕ) (a b : List A) (k : ℕ) → k < length c
+      → getD (addRows R c i a b) k (ι (pos 0)) ≡ getD c k (ι (pos 0)) ⊕ sum R (length a) (λ m. sum R (length b) (λ n. contribution k (i + m) n (getD a m (ι (pos 0)) ⊗ getD b n (ι (pos 0)))))
+  unfolding addRows sum
+  getD-addRows c i [] b k h = sym (add-zero R (getD c k (ι (pos 0))))
+  getD-addRows c i (x ∷ a) b k h =
+      getD-addRows (addRow R c x i 0 b) (suc i) a b k (rw length-addRow h)
+      ∙ ap (λ v. v ⊕ rest) (simp zero-add-ℕ at (getD-addRow c x i 0 b k h))
+      ∙ add-assoc (getD c k (ι (pos 0))) (sum R (length b) (λ n. contribution k i n (x ⊗ getD b n (ι (pos 0))))) rest
+      ∙ ap (λ v. getD c k (ι (pos 0)) ⊕ v) (sum-shift (length a) i (λ m n. sum R (length b) (λ j. contribution k m j (getD (x ∷ a) n (ι (pos 0)) ⊗ getD b j (ι (pos 0))))))
+    where
+      rest : A
+      rest = sum R (length a) (λ m. sum R (length b) (λ n. contribution k (suc i + m) n (getD a m (ι (pos 0)) ⊗ getD b n (ι (pos 0)))))
+
+  -- every place of C(a, b) is 01's two sums
+  pub product-two-sums : (width : ℕ) (a b : List A) (k : ℕ) → k < width → getD (product R width a b) k (ι (pos 0)) ≡ twoSums R k a b
+  unfolding product twoSums sumWhere
+  product-two-sums width a b k h =
+      simp (zero-add-ℕ, getD-replicate) at (getD-addRows (replicate width (ι (pos 0))) 0 a b k (rw length-replicate h))
+      ∙ zero-add (sum R (length a) (λ i. sum R (length b) (λ j. by-sum i j ⊕ by-distance i j)))
+      ∙ sum-cong (length a) _ _ (λ i. sum-add (length b) (by-sum i) (by-distance i))
+      ∙ sum-add (length a) (λ i. sum R (length b) (by-sum i)) (λ i. sum R (length b) (by-distance i))
+    where
+      by-sum : ℕ → ℕ → A
+      by-sum i j = cond (eqb (i + j) k) (getD a i (ι (pos 0)) ⊗ getD b j (ι (pos 0))) (ι (pos 0))
+
+      by-distance : ℕ → ℕ → A
+      by-distance i j = cond (eqb (distance i j) k) (getD a i (ι (pos 0)) ⊗ getD b j (ι (pos 0))) (ι (pos 0))
+
+  sumWhere-symmetric : (test : ℕ → ℕ → Bool) → ((i j : ℕ) → test i j ≡ test j i) → (a b : List A) → sumWhere R test a b ≡ sumWhere R test b a
+  unfolding sumWhere
+  sumWhere-symmetric test h a b =
+      sum-swap (length a) (length b) (λ i j. cond (test i j) (getD a i (ι (pos 0)) ⊗ getD b j (ι (pos 0))) (ι (pos 0)))
+      ∙ sum-cong (length b) _ _ (λ j. sum-cong (length a) _ _ (λ i. ap₂ (λ t v. cond t v (ι (pos 0))) (h i j) (mul-comm (getD a i (ι (pos 0))) (getD b j (ι (pos 0))))))
+
+  two-sums-symmetric : (k : ℕ) (a b : List A) → twoSums R k a b ≡ twoSums R k b a
+  unfolding twoSums
+  two-sums-symmetric k a b =
+      ap₂ _⊕_ (sumWhere-symmetric (λ i j. eqb (i + j) k) (λ i j. ap (λ (m : ℕ). eqb m k) (add-comm i j)) a b)
+      (sumWhere-symmetric (λ i j. eqb (distance i j) k) (λ i j. ap (λ (m : ℕ). eqb m k) (add-comm (i - j) (j - i))) a b)
+
+  pub product-symmetric : (width : ℕ) (a b : List A) → product R width a b ≡ product R width b a
+  product-symmetric width a b =
+      ext-getD (ι (pos 0)) (product R width a b) (product R width b a) (length-product R width a b ∙ sym (length-product R width b a))
+      (λ k h. let l : k < width = rw length-product at h in product-two-sums width a b k l ∙ two-sums-symmetric k a b ∙ sym (product-two-sums width b a k l))
+
+  -- ---- zeros at the top do not count
+
+  addAt-zero : (c : List A) (k : ℕ) → addAt R c k (ι (pos 0)) ≡ c
+  unfolding addAt
+  addAt-zero [] k = refl
+  addAt-zero (x ∷ c) zero = ap (λ v. v ∷ c) (add-zero R x)
+  addAt-zero (x ∷ c) (suc k) = ap (λ l. x ∷ l) (addAt-zero c k)
+
+  addRow-zero : (c : List A) (i j : ℕ) (b : List A) → addRow R c (ι (pos 0)) i j b ≡ c
+  unfolding addRow addPair
+  addRow-zero c i j [] = refl
+  addRow-zero c i j (y ∷ b) = simp (zero-mul, addAt-zero) (addRow-zero c i (suc j) b)
+
+  addRows-zeros : (c : List A) (i : ℕ) (a : List A) (n : ℕ) (b : List A) → addRows R c i (a ++ replicate n (ι (pos 0))) b ≡ addRows R c i a b
+  unfolding addRows
+  addRows-zeros c i [] zero b = refl
+  addRows-zeros c i [] (suc n) b = ap (λ d. addRows R d (suc i) (replicate n (ι (pos 0))) b) (addRow-zero c i 0 b) ∙ addRows-zeros c (suc i) [] n b
+  addRows-zeros c i (x ∷ a) n b = addRows-zeros (addRow R c x i 0 b) (suc i) a n b
+
+  pub product-zeros-left : (width : ℕ) (a : List A) (n : ℕ) (b : List A) → product R width (a ++ replicate n (ι (pos 0))) b ≡ product R width a b
+  unfolding product
+  product-zeros-left width a n b = addRows-zeros (replicate width (ι (pos 0))) 0 a n b
+
+  pub product-zeros-right : (width : ℕ) (a b : List A) (n : ℕ) → product R width a (b ++ replicate n (ι (pos 0))) ≡ product R width a b
+  product-zeros-right width a b n = product-symmetric width a (b ++ replicate n (ι (pos 0))) ∙ product-zeros-left width b n a ∙ product-symmetric width b a
+
+-- the pair (0, 0) counts twice: 2·3·5 at place 0
+both-conditions : product ℤ-ring 1 (pos 3 ∷ []) (pos 5 ∷ []) ≡ pos 30 ∷ []
+unfolding product addRows addRow addPair addAt
+both-conditions = refl
+
+both-conditions-sums : twoSums ℤ-ring 0 (pos 3 ∷ []) (pos 5 ∷ []) ≡ pos 30
+unfolding twoSums sumWhere sum
+both-conditions-sums = refl

@@ -1,0 +1,71 @@
+-- Laws of the weight of a list of whole numbers, as natural numbers for `omega` in code proofs. The weight is the norm over ℤ,
+-- so its laws are those of the norm (NormLaws.antt). A loop over a list goes by `weight-step` and `weight-end`.
+use mathlib.Core.Path.{_≡_, refl, _∙_, ap}
+use mathlib.Core.List.{List, [], _∷_, _++_, map}
+use Prim.Native.Nat.{ℕ, _+_, _*_, _<_, _≤_}
+use native.Mathlib.Numerals.{add-one}
+use lib.IntN.{ℤ, pos, negℤ, natAbs}
+use lib.ListN.{length, getD, take, drop, replicate, drop-of-length-le}
+use lib.Seq.{drop-cons}
+use Rattle.integer.specs.laws.Parts.{_⁺}
+use Rattle.integer.specs.definitions.Integer.{ℤ-ring}
+use Rattle.integer.specs.laws.Order.{ℤ-ordered, le-pos, ∣∣-is}
+use Rattle.chebyshev.specs.definitions.Coefficients.{weight, addLists, scaleList, subtractLists}
+use Rattle.chebyshev.specs.definitions.Norms.{norm}
+use Rattle.chebyshev.specs.laws.NormLaws.{norm-whole, norm-add, norm-opposite, norm-subtract, norm-scale, norm-append, norm-split, norm-take, norm-drop, norm-zeros, norm-append-zeros, norm-at}
+
+pub norm-weight : (a : List ℤ) → norm ℤ-ordered a ≡ pos (weight a)
+norm-weight a = ap (norm ℤ-ordered) (same a) ∙ norm-whole ℤ-ordered a
+  where
+    same : (a : List ℤ) → a ≡ map (λ z. z) a
+    same [] = refl
+    same (c ∷ a) = ap (λ l. c ∷ l) (same a)
+
+-- ---- a walk over the list
+
+pub weight-step : (a : List ℤ) (i : ℕ) → i < length a → weight (drop i a) ≡ natAbs (getD a i (pos 0)) + weight (drop (i + 1) a)
+unfolding weight
+weight-step a i h = rw (drop-cons a i (pos 0) h, add-one)
+
+pub weight-end : (a : List ℤ) (i : ℕ) → length a ≤ i → weight (drop i a) ≡ 0
+unfolding weight
+weight-end a i h = rw drop-of-length-le
+
+-- ---- parts
+
+pub weight-append : (a b : List ℤ) → weight (a ++ b) ≡ weight a + weight b
+weight-append a b = ap _⁺ (simp norm-weight at (norm-append ℤ-ordered a b))
+
+pub weight-split : (n : ℕ) (a : List ℤ) → weight a ≡ weight (take n a) + weight (drop n a)
+weight-split n a = ap _⁺ (simp norm-weight at (norm-split ℤ-ordered n a))
+
+pub weight-take : (n : ℕ) (a : List ℤ) → weight (take n a) ≤ weight a
+weight-take n a = le-pos _ _ (simp norm-weight at (norm-take ℤ-ordered n a))
+
+pub weight-drop : (n : ℕ) (a : List ℤ) → weight (drop n a) ≤ weight a
+weight-drop n a = le-pos _ _ (simp norm-weight at (norm-drop ℤ-ordered n a))
+
+pub weight-zeros : (n : ℕ) → weight (replicate n (pos 0)) ≡ 0
+weight-zeros n = ap _⁺ (simp norm-weight at (norm-zeros ℤ-ordered n))
+
+pub weight-append-zeros : (a : List ℤ) (n : ℕ) → weight (a ++ replicate n (pos 0)) ≡ weight a
+weight-append-zeros a n = ap _⁺ (simp norm-weight at (norm-append-zeros ℤ-ordered a n))
+
+-- ---- elements
+
+pub weight-at : (a : List ℤ) (i : ℕ) → natAbs (getD a i (pos 0)) ≤ weight a
+weight-at a i = le-pos _ _ (simp (norm-weight, ∣∣-is) at (norm-at ℤ-ordered a i))
+
+-- ---- sums, differences, multiples
+
+pub weight-add : (a b : List ℤ) → weight (addLists ℤ-ring a b) ≤ weight a + weight b
+weight-add a b = le-pos _ _ (simp norm-weight at (norm-add ℤ-ordered a b))
+
+pub weight-opposite : (a : List ℤ) → weight (map negℤ a) ≡ weight a
+weight-opposite a = ap _⁺ (simp norm-weight at (norm-opposite ℤ-ordered a))
+
+pub weight-subtract : (a b : List ℤ) → weight (subtractLists ℤ-ring a b) ≤ weight a + weight b
+weight-subtract a b = le-pos _ _ (simp norm-weight at (norm-subtract ℤ-ordered a b))
+
+pub weight-scale : (s : ℤ) (a : List ℤ) → weight (scaleList ℤ-ring s a) ≡ natAbs s * weight a
+weight-scale s a = ap _⁺ (simp (norm-weight, ∣∣-is) at (norm-scale ℤ-ordered s a))

@@ -1,3 +1,0 @@
-pub mod Answering
-pub mod TestAnswering
-pub mod JobAnswering

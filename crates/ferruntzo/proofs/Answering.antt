@@ -1,0 +1,73 @@
+-- What the lengths of areas tell, and what an area that has its numbers, or is too short, holds afterwards.
+use mathlib.Core.Path.{_≡_, refl, sym, ap, subst, _∙_}
+use mathlib.Core.Bool.{Bool, true, false, false≢true, _&&_}
+use mathlib.Core.List.{List, _++_}
+use Prim.Native.Nat.{ℕ, _≤_, _<_}
+use borrow.Author.Tests.{leb-true, le-leb, lt-leb}
+use lib.IntN.{ℤ}
+use lib.ListN.{length, drop}
+use Rattle.model.specs.definitions.Areas.{modelSize, candidateSize, Storable}
+use Rattle.model.specs.definitions.Outcomes.{Outcome, values, outcomeOf}
+use Rattle.model.specs.laws.OutcomeLaws.{values-judged}
+use Rattle.model.specs.declared.types.Model.{Model}
+use Rattle.model.specs.declared.types.ModelOutcome.{ModelOutcome}
+use Rattle.certificate.specs.definitions.Tests.{scratchSize, scratchAfter, Certificate, testOf}
+use Rattle.certificate.specs.declared.types.TestOutcome.{TestOutcome}
+use Rattle.ferruntzo.specs.definitions.Answers.{fits, areaOut}
+use Rattle.ferruntzo.specs.definitions.TestAnswers.{numbersSize, testAnswer, testIn, testFits}
+
+-- ---- areas that have their numbers
+
+pub fit-last : {A : Type 0} (t : Bool) (n : ℕ) (s : List A) → (t && fits n s) ≡ true → (t ≡ true) × (n ≤ length s)
+fit-last true n s h = (refl, leb-true n (length s) h)
+fit-last false n s h = absurd (false≢true h)
+
+pub two-fit : (m n : ℕ) (a b : List ℤ) → (fits m a && fits n b) ≡ true → (m ≤ length a) × (n ≤ length b)
+two-fit m n a b h = let p = fit-last (fits m a) n b h in (leb-true m (length a) (p .0), p .1)
+
+pub three-fit : (k m n : ℕ) (a b c : List ℤ) → (fits k a && fits m b && fits n c) ≡ true → (k ≤ length a) × (m ≤ length b) × (n ≤ length c)
+three-fit k m n a b c h =
+    let p = fit-last (fits k a && fits m b) n c h in
+    let q = two-fit k m a b (p .0) in
+    (q .0, q .1, p .1)
+
+-- a test's areas
+pub test-fits : (models : Bool) (h w scratch out : List ℤ) (numbers : List ℕ) → testFits models h w scratch out numbers ≡ true
+    → (models ≡ true) × (candidateSize ≤ length h) × (candidateSize ≤ length w)
+test-fits models h w scratch out numbers e =
+    let t = models && fits candidateSize h in
+    let u = t && fits candidateSize w in
+    let v = u && fits scratchSize scratch in
+    let o = fit-last (v && fits modelSize out) numbersSize numbers e in
+    let q = fit-last t candidateSize w (fit-last u scratchSize scratch (fit-last v modelSize out (o .0) .0) .0) in
+    let p = fit-last models candidateSize h (q .0) in
+    (p .0, p .1, q .1)
+
+-- ---- what an area holds afterwards
+
+module _ {A : Type 0} (n : ℕ) (new old : List A) where
+  pub filled : n ≤ length old → new ++ drop n old ≡ areaOut n new old
+  unfolding areaOut
+  filled h = rw (le-leb n (length old) h)
+
+  pub untouched : length old < n → old ≡ areaOut n new old
+  unfolding areaOut
+  untouched h = rw (lt-leb n (length old) h)
+
+-- ---- the model beside a verdict
+
+pub outcome-storable : (r : ModelOutcome) {o : Outcome Model} → outcomeOf r ≡ o → Storable (values o) → Storable (r .model)
+outcome-storable r e h = subst Storable (ap values (sym e) ∙ values-judged (r .verdict) (r .model)) h
+
+pub test-storable : (r : TestOutcome) {o : Outcome Certificate} → testOf r ≡ o → Storable (values o .model) → Storable (r .model)
+test-storable r e h =
+    subst (λ (c : Certificate). Storable (c .model)) (ap values (sym e) ∙ values-judged (r .verdict) _) h
+
+-- ---- what a test answers over its areas
+
+module _ (test : Outcome Certificate) (scratch out : List ℤ) (numbers : List ℕ) where
+  pub test-given : {n : ℕ} {s o : List ℤ} {k : List ℕ} (t : TestOutcome) → s ≡ scratchAfter scratch
+      → ((x : List ℤ) → testAnswer n (scratchAfter x) o k ≡ testIn (testOf t) x out numbers) → testOf t ≡ test
+      → testAnswer n s o k ≡ testIn test scratch out numbers
+  test-given {n} {s} {o} {k} t cleared stored same =
+      ap (λ (x : List ℤ). testAnswer n x o k) cleared ∙ stored scratch ∙ ap (λ (x : Outcome Certificate). testIn x scratch out numbers) same

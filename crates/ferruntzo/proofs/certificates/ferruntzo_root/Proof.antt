@@ -1,0 +1,50 @@
+-- `ferruntzo_root` meets its contract.
+use borrow.Author.Needs.{needs}
+use borrow.Author.Tests.{leb-true}
+use mathlib.Core.Path.{_∙_}
+use Prim.Native.Nat.{_≤_}
+use denote.Ref.{now}
+use lib.ListN.{length}
+use Rattle.model.specs.definitions.Areas.{modelSize, candidateSize}
+use Rattle.certificate.specs.definitions.Tests.{rootTest}
+use Rattle.certificate.specs.laws.TestFits.{root-storable}
+use Rattle.ferruntzo.specs.definitions.Answers.{fits}
+use Rattle.ferruntzo.proofs.Answering.{test-fits, test-given, test-storable}
+use Rattle.ferruntzo.proofs.certificates.ferruntzo_root.Statement.{statement}
+use Rattle.ferruntzo.proofs.certificates.ferruntzo_root.Tie as tie
+
+long : (c : tie.Then1) → let a = c .before .before .args in
+    (modelSize ≤ length (now (a .f))) × (candidateSize ≤ length (now (a .h))) × (candidateSize ≤ length (now (a .w)))
+long c =
+    let a = c .before .before .args in
+    let t = test-fits (fits modelSize (now (a .f))) (now (a .h)) (now (a .w)) (now (a .scratch)) (now (a .out)) (now (a .numbers)) (c .if1 .taken) in
+    (leb-true modelSize (length (now (a .f))) (t .0), t .1, t .2)
+
+answer-test-requires : tie.Need-answer-test-requires
+answer-test-requires c κs = let q = c .before .before .before .root in test-storable (q .result) (q .ensures .0) (root-storable _ _ _ _)
+
+returns : tie.Need-returns
+returns c =
+    let q = c .before .before .before .before .before .before .before in
+    let w = q .before .before in
+    let h = w .before in
+    let d = h .before .before in
+    let a = d .before .before .args in
+    rw (d .if1 .taken)
+    (test-given _ (now (a .scratch)) (now (a .out)) (now (a .numbers)) (q .root .result) (q .root .ensures .1)
+    (c .before .before .before .answer-test .ensures)
+    (_∙_ {b = rootTest (length (now (a .scratch))) (h .before .model-in .result) (h .candidate-in .result) (w .candidate-in2 .result)}
+    (q .root .ensures .0)
+    (λ k. rootTest (length (now (a .scratch))) (h .before .model-in .ensures k) (h .candidate-in .ensures k) (w .candidate-in2 .ensures k))))
+
+returns-2 : tie.Need-returns-2
+returns-2 c =
+    let r = c .before .before .before .before in
+    rw (r .before .before .before .before .if1 .left) (r .refuse-test .ensures)
+
+pub ferruntzo-root-spec : {M : Type 1} → statement M
+ferruntzo-root-spec =
+    tie.close (tie.spec
+    (λ c κs. long c .0) (λ c κs. long (c .before) .1) (λ c κs. long (c .before .before) .2) (λ c κs. search needs)
+    answer-test-requires (λ c κs. search needs) (λ c. search needs) (λ c. search needs) (λ c. search needs) returns
+    (λ c. search needs) (λ c. search needs) (λ c. search needs) returns-2)

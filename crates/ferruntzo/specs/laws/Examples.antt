@@ -1,0 +1,83 @@
+-- Closed examples of the answers at the C boundary, computed from the definitions: one of each shape, with numbers behind the areas,
+-- and areas that are too short.
+use mathlib.Core.Path.{_≡_, refl}
+use mathlib.Core.List.{List, [], _∷_, _++_}
+use Prim.Native.Nat.{ℕ, _-_}
+use lib.IntN.{ℤ, pos, negsuc}
+use lib.ListN.{length, drop, replicate}
+use Rattle.integer.specs.definitions.Lists.{zeros}
+use Rattle.integer.specs.definitions.Rounding.{floor, up, upℕ, near}
+use Rattle.chebyshev.specs.definitions.Coefficients.{weight, addLists, subtractLists, scaleList, coefficientSum}
+use Rattle.chebyshev.specs.definitions.Product.{addAt, addPair, addRow, addRows, product}
+use Rattle.model.specs.definitions.Models.{good, tooLarge, zeroModel}
+use Rattle.model.specs.definitions.Outcomes.{passing}
+use Rattle.model.specs.definitions.Operations.{sumModel, addition, productList}
+use Rattle.model.specs.definitions.Evaluation.{pointTerm, pointSum, pointError, lowBound, highBound, evaluation}
+use Rattle.certificate.specs.definitions.Tests.{scratchAfter, rootOutcome, rootPlaces, rootContraction, rootResidual, rootModel, displacement}
+use Rattle.job.specs.definitions.Bytes.{signedsAt}
+use Rattle.job.specs.definitions.Makers.{makerPlaces, operation}
+use Rattle.job.specs.definitions.Commands.{makerAt, readingPlaces}
+use Rattle.job.specs.definitions.Jobs.{command, run, jobOutcome}
+use Rattle.job.specs.definitions.Work.{checkOutcome, workAfter, workWith, stretches, scratchAfterJob}
+use Rattle.ferruntzo.specs.definitions.Answers.{areaOut, operationAnswer, outcomeIn, binaryAnswer, evaluationAnswer, boundsIn, evaluateAnswer}
+use Rattle.ferruntzo.specs.definitions.TestAnswers.{testAnswer, testIn, rootAnswer}
+use Rattle.ferruntzo.specs.definitions.JobAnswers.{jobAnswer, checkAnswer}
+
+-- the numbers of a model, or of a candidate, from its degree, its first coefficients and how many numbers follow
+abbrev area : ℕ → List ℤ → ℕ → List ℤ
+area n cs size = pos n ∷ (cs ++ replicate (size - 1 - length cs) (pos 0))
+
+abbrev nines : ℕ → List ℤ
+nines n = replicate n (pos 9)
+
+abbrev one : List ℤ
+one = area 0 (pos 1048576 ∷ []) 35
+
+-- 1 + 1 with a number behind the area; an area of 34 numbers for the result, and for an operand
+pub additions :
+    (binaryAnswer addition one (one ++ nines 1) (nines 36) ≡ operationAnswer 0 (area 0 (pos 2097152 ∷ []) 35 ++ nines 1))
+    × (binaryAnswer addition one one (nines 34) ≡ operationAnswer 1 (nines 34))
+    × (binaryAnswer addition (drop 1 one) one (nines 36) ≡ operationAnswer 1 (zeros 35 ++ nines 1))
+    × (binaryAnswer addition one (area 33 [] 35) (nines 36) ≡ operationAnswer 2 (zeros 35 ++ nines 1))
+unfolding outcomeIn areaOut addition sumModel passing good tooLarge zeroModel weight addLists zeros
+additions = (refl, refl, refl, refl)
+
+-- T_2 at 1/2, the low bound first; a point outside; a model area that is too short
+pub evaluations :
+    (evaluateAnswer (area 2 (pos 0 ∷ pos 0 ∷ pos 1048576 ∷ []) 35) (pos 524288) (nines 3)
+    ≡ evaluationAnswer 0 (negsuc 524288 ∷ negsuc 524286 ∷ nines 1))
+    × (evaluateAnswer one (pos 1048577) (nines 3) ≡ evaluationAnswer 4 (zeros 2 ++ nines 1))
+    × (evaluateAnswer (drop 1 one) (pos 0) (nines 3) ≡ evaluationAnswer 1 (zeros 2 ++ nines 1))
+    × (evaluateAnswer one (pos 0) (nines 1) ≡ evaluationAnswer 1 (nines 1))
+unfolding boundsIn areaOut evaluation lowBound highBound pointTerm pointSum pointError passing good weight floor up near zeros
+evaluations = (refl, refl, refl, refl)
+
+-- the root whose discriminant is 0: m, N and b; the root of 1 with the same candidates, refused with 8; an area of 34 numbers for the
+-- result; a scratch of 64
+abbrev h : List ℤ
+h = area 0 (pos 2097152 ∷ []) 34
+
+abbrev w : List ℤ
+w = area 0 (pos 262144 ∷ []) 34
+
+pub tests :
+    (rootAnswer (area 0 (pos 2097152 ∷ []) 35) h w (nines 66) (nines 36) (9 ∷ 9 ∷ 9 ∷ 9 ∷ [])
+    ≡ testAnswer 0 (zeros 65 ++ nines 1) (pos 0 ∷ pos 2097152 ∷ (zeros 32 ++ (pos 1048576 ∷ nines 1))) (0 ∷ 2097152 ∷ 524288 ∷ 9 ∷ []))
+    × (rootAnswer one h w (nines 66) (nines 36) (9 ∷ 9 ∷ 9 ∷ 9 ∷ []) ≡ testAnswer 8 (zeros 65 ++ nines 1) (zeros 35 ++ nines 1) (0 ∷ 0 ∷ 0 ∷ 9 ∷ []))
+    × (rootAnswer (area 0 (pos 2097152 ∷ []) 35) h w (nines 66) (nines 34) (9 ∷ 9 ∷ 9 ∷ 9 ∷ [])
+    ≡ testAnswer 1 (zeros 65 ++ nines 1) (nines 34) (0 ∷ 0 ∷ 0 ∷ 9 ∷ []))
+    × (rootAnswer (area 0 (pos 2097152 ∷ []) 35) h w (nines 64) (nines 36) (9 ∷ 9 ∷ 9 ∷ 9 ∷ [])
+    ≡ testAnswer 1 (nines 64) (zeros 35 ++ nines 1) (0 ∷ 0 ∷ 0 ∷ 9 ∷ []))
+unfolding testIn areaOut scratchAfter rootOutcome rootPlaces rootContraction rootResidual rootModel displacement coefficientSum productList passing good tooLarge zeroModel weight addLists subtractLists scaleList addAt addPair addRow addRows product upℕ zeros
+tests = (refl, refl, refl, refl)
+
+-- a job refused at command 1, the count before the command; a job accepted with one result; and areas that are too short
+pub checks :
+    (checkAnswer (0x01 ∷ 1 ∷ []) (nines 1121) (nines 66) (9 ∷ 9 ∷ 9 ∷ [])
+    ≡ jobAnswer 10 (zeros 1120 ++ nines 1) (zeros 65 ++ nines 1) (0 ∷ 1 ∷ 9 ∷ []))
+    × (checkAnswer (0x01 ∷ 1 ∷ 0x10 ∷ 1 ∷ (replicate 132 0 ++ (5 ∷ 0 ∷ 0 ∷ 0 ∷ 0x00 ∷ []))) (nines 1121) (nines 66) (9 ∷ 9 ∷ 9 ∷ [])
+    ≡ jobAnswer 0 (pos 1 ∷ (zeros 33 ++ (pos 5 ∷ (zeros 1085 ++ nines 1)))) (zeros 65 ++ nines 1) (1 ∷ 0 ∷ 9 ∷ []))
+    × (checkAnswer (0x01 ∷ 1 ∷ []) (nines 1119) (nines 66) (9 ∷ 9 ∷ 9 ∷ []) ≡ jobAnswer 1 (nines 1119) (nines 66) (0 ∷ 0 ∷ 9 ∷ []))
+    × (checkAnswer (0x01 ∷ 1 ∷ []) (nines 1120) (nines 65) (9 ∷ []) ≡ jobAnswer 1 (nines 1120) (nines 65) (9 ∷ []))
+unfolding checkAnswer areaOut checkOutcome workAfter workWith stretches scratchAfterJob jobOutcome run command operation makerPlaces readingPlaces makerAt signedsAt good weight passing zeros
+checks = (refl, refl, refl, refl)

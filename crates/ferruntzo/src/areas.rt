@@ -1,0 +1,87 @@
+// Lent areas: numbers behind those in use play no part and stay; an area that is itself too short is not written to.
+ghost use mathlib.Core.Path.{_≡_};
+ghost use mathlib.Core.List.{[], _∷_};
+ghost use Prim.Native.Nat.{_≤_};
+ghost use lib.ListN.{length};
+ghost use Rattle.model.specs.definitions.Areas.{modelSize, candidateSize, words, areaModel, areaCandidate, Storable};
+ghost use Rattle.certificate.specs.definitions.Tests.{scratchAfter};
+ghost use Rattle.ferruntzo.specs.definitions.Answers.{boundsSize, areaOut};
+ghost use Rattle.ferruntzo.specs.definitions.TestAnswers.{numbersSize};
+use certificate::types::SCRATCH_SIZE;
+use model::area::CANDIDATE_SIZE;
+use model::area::MODEL_SIZE;
+use model::area::read;
+use model::area::read_candidate;
+use model::area::write;
+use model::types::Candidate;
+use model::types::Model;
+
+// The low and the high bound of an evaluation.
+pub(crate) const BOUNDS_SIZE: usize = 2;
+
+// Document 01's m, N and b.
+pub(crate) const NUMBERS_SIZE: usize = 3;
+
+// The model in an area.
+pub(crate) fn model_in(area: &[i32]) -> Model
+    requires { ⌜ modelSize ≤ length (now area) ⌝ }
+    ensures { λ (r : Model). ⌜ r ≡ areaModel (now (area .entry)) ⌝ }
+{
+    read(&area[..MODEL_SIZE])
+}
+
+// The candidate in an area.
+pub(crate) fn candidate_in(area: &[i32]) -> Candidate
+    requires { ⌜ candidateSize ≤ length (now area) ⌝ }
+    ensures { λ (r : Candidate). ⌜ r ≡ areaCandidate (now (area .entry)) ⌝ }
+{
+    read_candidate(&area[..CANDIDATE_SIZE])
+}
+
+// Stores a model.
+pub(crate) fn store_model(out: &mut [i32], m: Model)
+    requires { ⌜ Storable m ⌝ }
+    ensures { λ _. ⌜ now (out .exit) ≡ areaOut modelSize (words m) (now (out .entry)) ⌝ }
+{
+    if out.len() < MODEL_SIZE {
+        return;
+    }
+    write(&mut out[..MODEL_SIZE], m);
+}
+
+// Stores the bounds of an evaluation.
+pub(crate) fn store_bounds(bounds: &mut [i64], low: i64, high: i64)
+    ensures { λ _. ⌜ now (bounds .exit) ≡ areaOut boundsSize (low ∷ high ∷ []) (now (bounds .entry)) ⌝ }
+{
+    if bounds.len() < BOUNDS_SIZE {
+        return;
+    }
+    bounds[0] = low;
+    bounds[1] = high;
+}
+
+// Stores m, N and b.
+pub(crate) fn store_numbers(numbers: &mut [u64], m: u64, n: u64, b: u64)
+    ensures { λ _. ⌜ now (numbers .exit) ≡ areaOut numbersSize (m ∷ n ∷ b ∷ []) (now (numbers .entry)) ⌝ }
+{
+    if numbers.len() < NUMBERS_SIZE {
+        return;
+    }
+    numbers[0] = m;
+    numbers[1] = n;
+    numbers[2] = b;
+}
+
+// The numbers of a scratch become zero.
+pub(crate) fn clear_scratch(scratch: &mut [i64])
+    ensures { λ _. ⌜ now (scratch .exit) ≡ scratchAfter (now (scratch .entry)) ⌝ }
+{
+    if scratch.len() < SCRATCH_SIZE {
+        return;
+    }
+    let mut i: usize = 0;
+    while i < SCRATCH_SIZE {
+        scratch[i] = 0;
+        i += 1;
+    }
+}

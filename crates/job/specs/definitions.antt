@@ -1,0 +1,11 @@
+pub mod Bytes
+pub mod Makers
+pub mod Commands
+pub mod Outcomes
+pub mod Jobs
+pub mod JobReading
+pub mod Work
+pub mod InnerContracts
+pub mod Order
+pub mod Requirement
+pub mod ExactValues

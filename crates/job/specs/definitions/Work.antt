@@ -1,0 +1,70 @@
+-- The work area: "Each result is written into its own 35 numbers of the work area (degree, coefficients, radius; 1,120 signed
+-- 32-bit numbers)."
+use mathlib.Core.Bool.{Bool, not, cond, _&&_}
+use mathlib.Core.List.{List, [], _∷_, _++_}
+use Prim.Native.Nat.{ℕ, zero, suc, _+_, _*_, _-_}
+use lib.Dec.{leb}
+use lib.IntN.{ℤ}
+use lib.ListN.{length, take, drop}
+use Rattle.integer.specs.definitions.Lists.{zeros}
+use Rattle.model.specs.definitions.Areas.{modelSize, words, areaModel}
+use Rattle.certificate.specs.definitions.Tests.{scratchSize}
+use Rattle.model.specs.declared.types.Model.{Model}
+use Rattle.job.specs.definitions.Outcomes.{JobOutcome, accepted, refused}
+use Rattle.job.specs.definitions.Jobs.{jobOutcome}
+
+-- the numbers of the whole area
+abbrev pub workSize : ℕ
+workSize = 1120
+
+-- the model in stretch i of a work area
+abbrev pub stretch : List ℤ → ℕ → Model
+stretch w i = areaModel (take modelSize (drop (modelSize * i) w))
+
+-- the models in the first n stretches
+unfoldable pub modelsIn : List ℤ → ℕ → List Model
+modelsIn w zero = []
+modelsIn w (suc n) = modelsIn w n ++ (stretch w n ∷ [])
+
+-- the area with a model written into stretch i
+abbrev pub storedAt : List ℤ → ℕ → Model → List ℤ
+storedAt w i m = take (modelSize * i) w ++ (words m ++ drop (modelSize * i + modelSize) w)
+
+unfoldable pub stretches : List Model → List ℤ
+stretches [] = []
+stretches (m ∷ rs) = words m ++ stretches rs
+
+-- the 1,120 numbers: the results, later stretches zero
+unfoldable pub workWith : List Model → List ℤ
+workWith rs = stretches rs ++ zeros (workSize - modelSize * length rs)
+
+-- ---- the entry
+
+-- "lent areas: 1, too short": the place of an area of which `size` numbers are asked and `len` are there
+abbrev pub areaPlace : ℕ → ℕ → Bool × ℕ
+areaPlace size len = (not (leb size len), 1)
+
+-- "work area before scratch"
+abbrev pub areaPlaces : List ℤ → List ℤ → List (Bool × ℕ)
+areaPlaces w s = areaPlace workSize (length w) ∷ areaPlace scratchSize (length s) ∷ []
+
+-- the lent areas are long enough
+abbrev pub areasFit : List ℤ → List ℤ → Bool
+areasFit w s = leb workSize (length w) && leb scratchSize (length s)
+
+-- "too short; neither is touched"; "refusal 1 goes with command 0"
+unfoldable pub checkOutcome : List ℕ → List ℤ → List ℤ → JobOutcome (List Model)
+checkOutcome job w s = cond (areasFit w s) (jobOutcome job) (refused 1 0)
+
+abbrev pub resultsIn : JobOutcome (List Model) → List Model
+resultsIn (accepted rs) = rs
+resultsIn (refused n k) = []
+
+-- "An accepted job leaves later stretches zero; a refused one leaves all 1,120 zero, save that refusal 1 touches nothing.
+-- Numbers behind stay."
+unfoldable pub workAfter : List ℕ → List ℤ → List ℤ → List ℤ
+workAfter job w s = cond (areasFit w s) (workWith (resultsIn (jobOutcome job)) ++ drop workSize w) w
+
+-- the scratch after a job: its 65 numbers are zero unless an area was too short
+unfoldable pub scratchAfterJob : List ℤ → List ℤ → List ℤ
+scratchAfterJob w s = cond (areasFit w s) (zeros scratchSize ++ drop scratchSize s) s

@@ -1,0 +1,75 @@
+-- One job with every command that makes a result, as bytes; its commands, and its results as 01 gives them.
+use mathlib.Core.Path.{_≡_, refl}
+use mathlib.Core.List.{List, [], _∷_, _++_}
+use Prim.Native.Nat.{ℕ}
+use Rattle.integer.specs.definitions.Rounding.{upℕ, near, floor}
+use Rattle.chebyshev.specs.definitions.Coefficients.{weight, addLists, subtractLists, scaleList, coefficientSum}
+use Rattle.chebyshev.specs.definitions.Product.{addAt, addPair, addRow, addRows, product}
+use Rattle.model.specs.definitions.Models.{good, tooLarge, zeroModel}
+use Rattle.model.specs.definitions.Outcomes.{passing}
+use Rattle.model.specs.definitions.Operations.{sumModel, differenceModel, productModel, productList, productLoss, rounded, roundingLoss}
+use Rattle.model.specs.declared.types.Model.{Model}
+use Rattle.certificate.specs.definitions.Tests.{byDiscriminant, rootPlaces, quotientContraction, quotientResidual, quotientModel, rootContraction, rootResidual, rootModel, displacement}
+use Rattle.job.specs.definitions.Bytes.{signedsAt}
+use Rattle.job.specs.definitions.Makers.{load, add, subtract, multiply, quotient, root, makerPlaces, operation}
+use Rattle.job.specs.definitions.Commands.{Command, result, makerAt, readingPlaces}
+use Rattle.job.specs.definitions.JobReading.{readFrom, jobReading, well}
+use Rattle.job.specs.definitions.Outcomes.{accepted}
+use Rattle.job.specs.definitions.Jobs.{command, run, jobOutcome}
+use Rattle.job.specs.laws.ExampleBytes.{wordsFor, block, modelBy}
+
+-- edition 1; the commands below; end
+abbrev pub exampleJob : List ℕ
+exampleJob =
+    (0x01 ∷ 1 ∷ [])
+    ++ ((0x10 ∷ block 0 (2097152 ∷ [])) ++ wordsFor (16384 ∷ [])
+    ++ ((0x10 ∷ block 1 (0 ∷ 1048576 ∷ [])) ++ wordsFor (16384 ∷ [])
+    ++ ((0x13 ∷ 0 ∷ 0 ∷ 0 ∷ [])
+    ++ ((0x21 ∷ 2 ∷ block 0 (2097152 ∷ [])) ++ block 0 (262144 ∷ [])
+    ++ ((0x11 ∷ 3 ∷ 1 ∷ [])
+    ++ ((0x12 ∷ 4 ∷ 3 ∷ [])
+    ++ ((0x13 ∷ 4 ∷ 4 ∷ 0xFF ∷ [])
+    ++ ((0x20 ∷ 6 ∷ 3 ∷ block 2 (2359296 ∷ 2097152 ∷ 262144 ∷ [])) ++ block 0 (524288 ∷ [])
+    ++ ((0x21 ∷ 6 ∷ block 1 (2097152 ∷ 1048576 ∷ [])) ++ block 0 (262144 ∷ [])
+    ++ ((0x11 ∷ 8 ∷ 3 ∷ [])
+    ++ ((0x13 ∷ 8 ∷ 3 ∷ 0xFF ∷ [])
+    ++ (0x00 ∷ []))))))))))))
+
+-- a, about 2; b, about T_1; a·a; its root, a; a + b; b; (a + b)·(a + b); that over a; its root, a + b; (a + b) + a; (a + b)·a
+abbrev pub exampleCommands : List Command
+exampleCommands =
+    result (load (modelBy 0 (2097152 ∷ []) 16384))
+    ∷ result (load (modelBy 1 (0 ∷ 1048576 ∷ []) 16384))
+    ∷ result (multiply 0 0 0)
+    ∷ result (root byDiscriminant 2 (modelBy 0 (2097152 ∷ []) 0) (modelBy 0 (262144 ∷ []) 0))
+    ∷ result (add 3 1)
+    ∷ result (subtract 4 3)
+    ∷ result (multiply 4 4 32)
+    ∷ result (quotient 6 3 (modelBy 2 (2359296 ∷ 2097152 ∷ 262144 ∷ []) 0) (modelBy 0 (524288 ∷ []) 0))
+    ∷ result (root byDiscriminant 6 (modelBy 1 (2097152 ∷ 1048576 ∷ []) 0) (modelBy 0 (262144 ∷ []) 0))
+    ∷ result (add 8 3)
+    ∷ result (multiply 8 3 32)
+    ∷ []
+
+abbrev pub exampleResults : List Model
+exampleResults =
+    modelBy 0 (2097152 ∷ []) 16384
+    ∷ modelBy 1 (0 ∷ 1048576 ∷ []) 16384
+    ∷ modelBy 0 (4194304 ∷ []) 65792
+    ∷ modelBy 0 (2097152 ∷ []) 32896
+    ∷ modelBy 1 (2097152 ∷ 1048576 ∷ []) 49280
+    ∷ modelBy 1 (0 ∷ 1048576 ∷ []) 82176
+    ∷ modelBy 2 (4718592 ∷ 4194304 ∷ 524288 ∷ []) 297997
+    ∷ modelBy 2 (2359296 ∷ 2097152 ∷ 262144 ∷ []) 226569
+    ∷ modelBy 1 (2097152 ∷ 1048576 ∷ []) 298000
+    ∷ modelBy 1 (4194304 ∷ 1048576 ∷ []) 330896
+    ∷ modelBy 1 (4194304 ∷ 2097152 ∷ []) 704037
+    ∷ []
+
+pub example-read : jobReading exampleJob ≡ well exampleCommands
+unfolding jobReading readFrom readingPlaces makerAt signedsAt passing
+example-read = refl
+
+pub example-run : jobOutcome exampleJob ≡ accepted exampleResults
+unfolding jobOutcome run command operation makerPlaces readingPlaces makerAt signedsAt rootPlaces quotientContraction quotientResidual quotientModel rootContraction rootResidual rootModel displacement coefficientSum sumModel differenceModel productModel productList productLoss rounded roundingLoss good tooLarge zeroModel weight addLists subtractLists scaleList addAt addPair addRow addRows product upℕ near floor passing
+example-run = refl

@@ -1,0 +1,84 @@
+-- Requirement 3 put to use on the job of ExampleJob.antt, from its definition alone and over areas that are long enough: the job is
+-- accepted with its eleven results, each is the model that 01 gives for it, and allows its exact value at 1/3.
+use mathlib.Core.Path.{_≡_, ap, sym, _∙_, subst, subst⁻¹}
+use mathlib.Core.Bool.{Bool}
+use mathlib.Core.List.{List}
+use mathlib.Core.Logic.{inl, inr}
+use Prim.Native.Nat.{ℕ, _<_}
+use native.Mathlib.Omega.{arith}
+use lib.IntN.{ℤ}
+use lib.ListN.{length}
+use lib.Signed.{leZ-yes}
+use Rattle.integer.specs.laws.FractionLaws.{whole-is}
+use Rattle.integer.specs.laws.PairLaws.{den-is}
+use Rattle.integer.specs.laws.FractionOrder.{fraction-le, fraction-neg}
+use Rattle.model.specs.definitions.Outcomes.{Passed}
+use Rattle.model.specs.laws.PlaceLaws.{none-first}
+use Rattle.model.specs.definitions.Values.{Allows, OnInterval}
+use Rattle.job.specs.definitions.Outcomes.{JobOutcome, accepted}
+use Rattle.job.specs.definitions.Order.{Meets}
+use Rattle.job.specs.laws.OrderLaws.{accepted-unless-refused}
+use Rattle.job.specs.laws.Accepted.{accepted-read}
+use Rattle.job.specs.definitions.Work.{stretch, modelsIn}
+use Rattle.job.specs.definitions.Requirement.{Permitted, Overlaps, Made, Results, Requirement3}
+use Rattle.job.specs.laws.MadeUnique.{made-unique}
+use Rattle.job.specs.laws.WorkLaws.{length-modelsIn}
+use Rattle.job.specs.definitions.ExactValues.{Exact}
+use Rattle.job.specs.laws.ExampleJob.{exampleJob, exampleCommands, exampleResults, example-read, example-run}
+use Rattle.job.specs.laws.ExampleValues.{third, exampleValue, example-exact}
+use Rattle.job.specs.laws.ExampleBoxes.{exampleBox, example-permitted}
+use Rattle.job.specs.laws.ExactAllowed.{exact-allowed}
+
+inside : OnInterval third
+inside = record { above = simp (whole-is, fraction-neg, fraction-le, den-is) (leZ-yes tt); below = simp (whole-is, fraction-le, den-is) (leZ-yes tt) }
+
+-- ---- the job meets no numbered refusal
+
+meets-none : {areas : List (Bool × ℕ)} → Passed areas → (n k : ℕ) → ¬ Meets areas exampleJob n k
+meets-none f n k (inl m) = none-first f (m .0)
+meets-none f n k (inr m) = accepted-unless-refused exampleJob .0 (exampleResults, example-run) n k (m .1)
+
+-- the commands give its results
+made : Made exampleCommands exampleResults
+made =
+    let r = accepted-read exampleJob exampleResults example-run in
+    let e : r .0 ≡ exampleCommands = cc (r .1, example-read) in
+    subst (λ l. Made l exampleResults) e (r .2)
+
+-- ---- what the definition says of it
+
+module _ {areas : List (Bool × ℕ)} {answer : JobOutcome ℕ} {work : List ℤ} (claim : Requirement3 areas exampleJob answer work)
+    (fit : Passed areas) where
+  answered : (count : ℕ) × (answer ≡ accepted count)
+  answered = claim .accepts (meets-none fit)
+
+  abbrev results : Results exampleJob (answered .0) work
+  results = claim .results (answered .0) (answered .1)
+
+  commands-are : results .commands ≡ exampleCommands
+  commands-are = cc (results .read, example-read)
+
+  models-are : modelsIn work (answered .0) ≡ exampleResults
+  models-are = made-unique (subst (λ l. Made l (modelsIn work (answered .0))) commands-are (results .made)) made
+
+  count-is : answered .0 ≡ 11
+  count-is = sym (length-modelsIn work (answered .0)) ∙ ap length models-are
+
+  -- it is accepted with eleven results, and these are its models
+  pub example-answer : answer ≡ accepted 11
+  example-answer = answered .1 ∙ ap accepted count-is
+
+  pub example-models : modelsIn work 11 ≡ exampleResults
+  example-models = ap (modelsIn work) (sym count-is) ∙ models-are
+
+  -- its exact values at 1/3 are allowed by the models in the work area
+  pub example-allowed : (i : ℕ) → i < 11 → Allows (stretch work i) third (exampleValue i)
+  example-allowed i h =
+      exact-allowed claim (answered .1) third inside (omega (arith, count-is))
+      (subst⁻¹ (λ l. Exact l third exampleValue i) commands-are (example-exact i h))
+
+  -- and its boxes overlap them
+  pub example-overlaps : (i : ℕ) → i < 11 → Overlaps (exampleBox i) (stretch work i) third
+  example-overlaps i h =
+      results .vouched i (omega (arith, count-is)) third inside .overlaps exampleBox
+      (subst⁻¹ (λ l. Permitted l third exampleBox i) commands-are (example-permitted i h))

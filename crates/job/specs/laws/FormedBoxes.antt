@@ -1,0 +1,71 @@
+-- Requirement 3 put to use, continued: boxes formed by 01's rules, result after result, overlap the models of an accepted job.
+-- The rules are said here once more, by maker and of any boxes, so that a rule that `Permitted` narrows is noticed.
+use mathlib.Core.Path.{_≡_, refl}
+use mathlib.Core.Bool.{Bool}
+use mathlib.Core.List.{List}
+use mathlib.Core.Logic.{_⊎_}
+use Prim.Native.Nat.{ℕ, zero, suc, _<_}
+use native.Mathlib.Omega.{arith}
+use borrow.Author.Tests.{leb-false}
+use lib.IntN.{ℤ, pos}
+use Rattle.integer.specs.definitions.Fraction.{ℚ, whole, _+ℚ_, _-ℚ_, _*ℚ_, _≤ℚ_, _<ℚ_, _/ℚ_}
+use Rattle.model.specs.definitions.Values.{Allows, OnInterval}
+use Rattle.job.specs.definitions.Makers.{Maker, load, add, subtract, multiply, quotient, root}
+use Rattle.job.specs.definitions.Commands.{Command, result}
+use Rattle.job.specs.definitions.JobReading.{commandFor}
+use Rattle.job.specs.definitions.Outcomes.{JobOutcome, accepted}
+use Rattle.job.specs.definitions.Work.{stretch}
+use Rattle.job.specs.laws.CommandLaws.{both-below}
+use Rattle.job.specs.definitions.Requirement.{Box, Lies, ContainsFour, Permitted, load-box, add-box, subtract-box, multiply-box, quotient-box, root-box, Overlaps, Requirement3}
+use Rattle.job.specs.laws.ExactAllowed.{vouchedFor, cs}
+use Rattle.job.specs.laws.ExactExists.{named, maker}
+
+-- the box of result i by its command
+abbrev pub Formed : ℚ → (ℕ → Box) → ℕ → Maker → Type 0
+Formed x box i (load m) = Allows m x (box i .low) × (box i .high ≡ box i .low)
+Formed x box i (add j k) = (box i .low ≡ box j .low +ℚ box k .low) × (box i .high ≡ box j .high +ℚ box k .high)
+Formed x box i (subtract j k) = (box i .low ≡ box j .low -ℚ box k .high) × (box i .high ≡ box j .high -ℚ box k .low)
+Formed x box i (multiply j k d) = ContainsFour _*ℚ_ (box j) (box k) (box i)
+Formed x box i (quotient j k h w) = (¬ Lies (whole (pos 0)) (box k)) × ContainsFour _/ℚ_ (box j) (box k) (box i)
+Formed x box i (root rule j h w) =
+    ((box i .low ≡ whole (pos 0)) ⊎ ((whole (pos 0) <ℚ box i .low) × ((box i .low *ℚ box i .low) ≤ℚ box j .low)))
+    × (whole (pos 0) ≤ℚ box i .high) × (box j .high ≤ℚ (box i .high *ℚ box i .high))
+
+-- ---- an accepted job
+
+module _ {areas : List (Bool × ℕ)} {job : List ℕ} {answer : JobOutcome ℕ} {work : List ℤ} (claim : Requirement3 areas job answer work)
+    {count : ℕ} (e : answer ≡ accepted count) where
+  abbrev commands : List Command
+  commands = cs claim e
+
+  module _ (x : ℚ) (on : OnInterval x) (box : ℕ → Box)
+      (formed : (i : ℕ) → i < count → (m : Maker) → commandFor commands i ≡ result m → Formed x box i m) where
+    abbrev Fits : ℕ → Type 0
+    Fits i = Permitted commands x box i
+
+    by-maker : (i : ℕ) (m : Maker) → commandFor commands i ≡ result m → Formed x box i m → ((j : ℕ) → j < i → Fits j) → Fits i
+    by-maker i (load m) f g r = load-box i m (box i .low) f (g .0) refl (g .1)
+    by-maker i (add j k) f g r =
+        let b = both-below i j k (named claim e i (add j k) f) in
+        add-box i j k f (r j (b .0)) (r k (b .1)) (g .0) (g .1)
+    by-maker i (subtract j k) f g r =
+        let b = both-below i j k (named claim e i (subtract j k) f) in
+        subtract-box i j k f (r j (b .0)) (r k (b .1)) (g .0) (g .1)
+    by-maker i (multiply j k d) f g r =
+        let b = both-below i j k (named claim e i (multiply j k d) f) in
+        multiply-box i j k d f (r j (b .0)) (r k (b .1)) g
+    by-maker i (quotient j k h w) f g r =
+        let b = both-below i j k (named claim e i (quotient j k h w) f) in
+        quotient-box i j k h w f (r j (b .0)) (r k (b .1)) (g .0) (g .1)
+    by-maker i (root rule j h w) f g r =
+        root-box i j rule h w f (r j (leb-false i j (named claim e i (root rule j h w) f))) (g .0) (g .1) (g .2)
+
+    fits : (n i : ℕ) → i < n → i < count → Fits i
+    fits zero i lt h = absurd (omega arith)
+    fits (suc n) i lt h =
+        let m = maker claim e i h in
+        by-maker i (m .0) (m .1) (formed i h (m .0) (m .1)) (λ j b. fits n j (omega arith) (omega arith))
+
+    -- the box of each result overlaps its model in the work area
+    pub formed-overlaps : (i : ℕ) → i < count → Overlaps (box i) (stretch work i) x
+    formed-overlaps i h = vouchedFor claim e .vouched i h x on .overlaps box (fits (suc i) i (omega arith) h)

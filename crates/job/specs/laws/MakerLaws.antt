@@ -1,0 +1,60 @@
+-- What each maker gives is what the library's operation or test gives for the results that it names.
+use mathlib.Core.Path.{_≡_, refl, ap}
+use mathlib.Core.Bool.{Bool, true, false, cond}
+use mathlib.Core.List.{List, [], _∷_}
+use Prim.Native.Nat.{ℕ}
+use Rattle.model.specs.definitions.Models.{zeroModel}
+use Rattle.model.specs.definitions.Outcomes.{Outcome, accepted, refused, values, passing, outcome}
+use Rattle.model.specs.laws.PlaceLaws.{refused-not-accepted, outcome-accepted}
+use Rattle.model.specs.definitions.Operations.{loadingPlaces, loading, addition, subtraction, multiplication}
+use Rattle.certificate.specs.definitions.Tests.{scratchSize, Certificate, zeroCertificate, quotientOutcome, RootRule, rootOutcome}
+use Rattle.model.specs.declared.types.Model.{Model}
+use Rattle.job.specs.definitions.InnerContracts.{untestedOutcome}
+use Rattle.job.specs.definitions.Makers.{load, add, subtract, multiply, quotient, root, untested, resultAt, makerPlaces, operation}
+
+pub untested-accepted : (o : Outcome Model) {c : Certificate} → untestedOutcome o ≡ accepted c → o ≡ accepted (c .model)
+untested-accepted (accepted m) e = ap (λ (r : Outcome Certificate). accepted (values r .model)) e
+untested-accepted (refused n m) e = absurd (refused-not-accepted e)
+
+untested-passing : (ps : List (Bool × ℕ)) (m : Model) → outcome ps (untested m) zeroCertificate ≡ untestedOutcome (outcome ps m zeroModel)
+unfolding passing
+untested-passing [] m = refl
+untested-passing (p ∷ ps) m = pick (p .0) (untested-passing ps m)
+  where
+    pick : (t : Bool) → outcome ps (untested m) zeroCertificate ≡ untestedOutcome (outcome ps m zeroModel)
+        → cond t (refused (p .1) zeroCertificate) (outcome ps (untested m) zeroCertificate)
+        ≡ untestedOutcome (cond t (refused (p .1) zeroModel) (outcome ps m zeroModel))
+    pick true e = refl
+    pick false e = e
+
+pub loading-same : (m : Model) {c : Model} → loading m ≡ accepted c → c ≡ m
+unfolding loading
+loading-same m e = outcome-accepted (loadingPlaces m) m zeroModel e .1
+
+module _ (i j : ℕ) (rs : List Model) where
+  pub add-operation : operation (add i j) rs ≡ untestedOutcome (addition (resultAt rs i) (resultAt rs j))
+  unfolding operation makerPlaces addition
+  add-operation = untested-passing _ _
+
+  pub subtract-operation : operation (subtract i j) rs ≡ untestedOutcome (subtraction (resultAt rs i) (resultAt rs j))
+  unfolding operation makerPlaces subtraction
+  subtract-operation = untested-passing _ _
+
+pub load-operation : (m : Model) (rs : List Model) → operation (load m) rs ≡ untestedOutcome (loading m)
+unfolding operation makerPlaces loading
+load-operation m rs = untested-passing _ _
+
+pub multiply-operation : (i j d : ℕ) (rs : List Model)
+    → operation (multiply i j d) rs ≡ untestedOutcome (multiplication d (resultAt rs i) (resultAt rs j))
+unfolding operation makerPlaces multiplication
+multiply-operation i j d rs = untested-passing _ _
+
+pub quotient-operation : (i j : ℕ) (h w : Model) (rs : List Model)
+    → operation (quotient i j h w) rs ≡ quotientOutcome scratchSize (resultAt rs i) (resultAt rs j) h w
+unfolding operation makerPlaces quotientOutcome
+quotient-operation i j h w rs = refl
+
+pub root-operation : (rule : RootRule) (i : ℕ) (h w : Model) (rs : List Model)
+    → operation (root rule i h w) rs ≡ rootOutcome rule scratchSize (resultAt rs i) h w
+unfolding operation makerPlaces rootOutcome
+root-operation rule i h w rs = refl

@@ -1,0 +1,78 @@
+-- Closed examples of the format, computed from the definitions: the shortest jobs with their answers, for each refusal that a job
+-- can meet.
+use mathlib.Core.Path.{_≡_, refl}
+use mathlib.Core.List.{List, [], _∷_, _++_, map}
+use Prim.Native.Nat.{ℕ}
+use Rattle.integer.specs.definitions.Rounding.{upℕ, near, floor}
+use Rattle.chebyshev.specs.definitions.Coefficients.{weight, addLists, subtractLists, scaleList, coefficientSum}
+use Rattle.chebyshev.specs.definitions.Product.{addAt, addPair, addRow, addRows, product}
+use Rattle.model.specs.definitions.Models.{good, tooLarge, zeroModel}
+use Rattle.model.specs.definitions.Outcomes.{passing}
+use Rattle.model.specs.definitions.Operations.{sumModel, differenceModel, productModel, productList, productLoss, rounded, roundingLoss}
+use Rattle.certificate.specs.definitions.Tests.{rootPlaces, quotientContraction, quotientResidual, quotientModel, rootContraction, rootResidual, rootModel, displacement}
+use Rattle.job.specs.definitions.Bytes.{signedsAt}
+use Rattle.job.specs.definitions.Makers.{makerPlaces, operation}
+use Rattle.job.specs.definitions.Commands.{makerAt, readingPlaces}
+use Rattle.job.specs.definitions.Outcomes.{JobOutcome, accepted, refused, counted}
+use Rattle.job.specs.definitions.Jobs.{command, run, jobOutcome}
+use Rattle.job.specs.laws.ExampleBytes.{block, job, loadBytes, one, lowest, repeated}
+
+-- ---- refusals of reading, 9 to 13
+
+abbrev pub readings : List (List ℕ × JobOutcome ℕ)
+readings =
+    -- the shortest job
+    (job [], accepted 0)
+    -- the job ends: before a command, inside one, before an end
+    ∷ ([], refused 10 0)
+    ∷ (0x01 ∷ [], refused 10 0)
+    ∷ (0x01 ∷ 1 ∷ [], refused 10 1)
+    ∷ (0x01 ∷ 1 ∷ 0x11 ∷ 0 ∷ [], refused 10 1)
+    -- unknown bytes; no edition first; an edition again, also without its operand; an edition that is not 1
+    ∷ (0x02 ∷ [], refused 9 0)
+    ∷ (job (0xFF ∷ []), refused 9 1)
+    ∷ (0x00 ∷ [], refused 9 0)
+    ∷ (0x01 ∷ 1 ∷ 0x01 ∷ [], refused 9 1)
+    ∷ (0x01 ∷ 2 ∷ 0x00 ∷ [], refused 9 0)
+    -- d from 33 to 254, before its results are looked at
+    ∷ (job (0x13 ∷ 0 ∷ 0 ∷ 33 ∷ []), refused 9 1)
+    ∷ (job (0x13 ∷ 0 ∷ 0 ∷ 254 ∷ []), refused 9 1)
+    ∷ (job (0x13 ∷ 0 ∷ 0 ∷ 32 ∷ []), refused 12 1)
+    ∷ (job (0x13 ∷ 0 ∷ 0 ∷ 255 ∷ []), refused 12 1)
+    -- not yet a result
+    ∷ (job (0x11 ∷ 0 ∷ 0 ∷ []), refused 12 1)
+    -- bytes after the end
+    ∷ (job (0x00 ∷ []), refused 11 1)
+    ∷ []
+
+pub readings-are : map (λ c. counted (jobOutcome (c .0))) readings ≡ map (λ c. c .1) readings
+unfolding jobOutcome run command readingPlaces makerAt passing
+readings-are = refl
+
+-- ---- refusals of models and tests, 2 to 8
+
+abbrev pub operations : List (List ℕ × JobOutcome ℕ)
+operations =
+    -- a degree, a weight, a radius beyond its limit; a nonzero beyond the degree; each at its limit
+    (job (loadBytes 33 [] 0), refused 2 1)
+    ∷ (job (loadBytes 1 (268435456 ∷ 1 ∷ []) 0), refused 2 1)
+    ∷ (job (loadBytes 0 [] 268435457), refused 2 1)
+    ∷ (job (loadBytes 0 (0 ∷ 1 ∷ []) 0), refused 2 1)
+    ∷ (job (loadBytes 32 (268435456 ∷ []) 268435456), accepted 1)
+    -- a result too large
+    ∷ (job (loadBytes 0 (268435456 ∷ []) 0 ++ (0x11 ∷ 0 ∷ 0 ∷ [])), refused 3 2)
+    -- quotients: 1 by 1 with w = 0; −2^28 by 1 with h = 2^28; a bad candidate
+    ∷ (job (one ++ ((0x20 ∷ 0 ∷ 0 ∷ block 0 (1048576 ∷ [])) ++ block 0 [])), refused 5 2)
+    ∷ (job (one ++ (lowest ++ ((0x20 ∷ 1 ∷ 0 ∷ block 0 (268435456 ∷ [])) ++ block 0 (1048576 ∷ [])))), refused 6 3)
+    ∷ (job (one ++ ((0x20 ∷ 0 ∷ 0 ∷ block 33 []) ++ block 0 (1048576 ∷ []))), refused 2 2)
+    -- roots of 1: w = 0; P10's h = 2 with w = 1/4
+    ∷ (job (one ++ ((0x21 ∷ 0 ∷ block 0 (1048576 ∷ [])) ++ block 0 [])), refused 7 2)
+    ∷ (job (one ++ ((0x21 ∷ 0 ∷ block 0 (2097152 ∷ [])) ++ block 0 (262144 ∷ []))), refused 8 2)
+    -- 32 results, and a 33rd
+    ∷ (job (loadBytes 0 [] 0 ++ repeated 31 (0x12 ∷ 0 ∷ 0 ∷ [])), accepted 32)
+    ∷ (job (loadBytes 0 [] 0 ++ repeated 32 (0x12 ∷ 0 ∷ 0 ∷ [])), refused 13 33)
+    ∷ []
+
+pub operations-are : map (λ c. counted (jobOutcome (c .0))) operations ≡ map (λ c. c .1) operations
+unfolding jobOutcome run command operation makerPlaces readingPlaces makerAt signedsAt rootPlaces quotientContraction quotientResidual quotientModel rootContraction rootResidual rootModel displacement coefficientSum sumModel differenceModel productModel productList productLoss rounded roundingLoss good tooLarge zeroModel weight addLists subtractLists scaleList addAt addPair addRow addRows product upℕ near floor passing
+operations-are = refl

@@ -1,0 +1,94 @@
+-- Closed examples of the format, continued: the bytes of operands, kept degrees, areas, and 01's job of the root of 4 with its whole
+-- work area.
+use mathlib.Core.Path.{_≡_, refl, ap}
+use mathlib.Core.List.{List, [], _∷_, _++_, map}
+use Prim.Native.Nat.{ℕ}
+use lib.IntN.{ℤ, pos, negsuc}
+use lib.ListN.{replicate, getD}
+use Rattle.integer.specs.definitions.Lists.{zeros}
+use Rattle.integer.specs.definitions.Rounding.{upℕ, near, floor}
+use Rattle.chebyshev.specs.definitions.Coefficients.{weight, addLists, subtractLists, scaleList, coefficientSum}
+use Rattle.chebyshev.specs.definitions.Product.{addAt, addPair, addRow, addRows, product}
+use Rattle.model.specs.definitions.Models.{makeModel, good, tooLarge, zeroModel}
+use Rattle.model.specs.definitions.Outcomes.{passing}
+use Rattle.model.specs.definitions.Operations.{sumModel, differenceModel, productModel, productList, productLoss, rounded, roundingLoss}
+use Rattle.model.specs.declared.types.Model.{Model}
+use Rattle.certificate.specs.definitions.Tests.{rootPlaces, quotientContraction, quotientResidual, quotientModel, rootContraction, rootResidual, rootModel, displacement}
+use Rattle.job.specs.definitions.Bytes.{signedsAt}
+use Rattle.job.specs.definitions.Makers.{makerPlaces, operation}
+use Rattle.job.specs.definitions.Commands.{makerAt, readingPlaces}
+use Rattle.job.specs.definitions.Outcomes.{JobOutcome, accepted, refused}
+use Rattle.job.specs.definitions.Jobs.{command, run, jobOutcome}
+use Rattle.job.specs.definitions.Work.{checkOutcome, workWith, stretches, workAfter, scratchAfterJob}
+use Rattle.job.specs.laws.ExampleBytes.{block, modelBy, job, loadBytes, one, two}
+
+-- 01: "A job of edition 1, load of constant 4·S with radius 0, root with h = 2·S and w = S/4, end"
+abbrev pub rootOfFour : List ℕ
+rootOfFour = job (loadBytes 0 (4194304 ∷ []) 0 ++ ((0x21 ∷ 0 ∷ block 0 (2097152 ∷ [])) ++ block 0 (262144 ∷ [])))
+
+abbrev oneModel : Model
+oneModel = modelBy 0 (1048576 ∷ []) 0
+
+abbrev twoModel : Model
+twoModel = modelBy 0 (2097152 ∷ []) 0
+
+abbrev fourModel : Model
+fourModel = modelBy 0 (4194304 ∷ []) 0
+
+-- T_1², that is 1/2 + T_2/2
+abbrev square : Model
+square = modelBy 2 (524288 ∷ 0 ∷ 524288 ∷ []) 0
+
+abbrev pub operands : List (List ℕ × JobOutcome (List Model))
+operands =
+    -- −1 and 0x030201, the lowest byte first; radius 0x0201
+    (
+      job (0x10 ∷ 1 ∷ 0xFF ∷ 0xFF ∷ 0xFF ∷ 0xFF ∷ 0x01 ∷ 0x02 ∷ 0x03 ∷ 0x00 ∷ (replicate 124 0 ++ (0x01 ∷ 0x02 ∷ 0x00 ∷ 0x00 ∷ []))),
+      accepted (makeModel 1 (negsuc 0 ∷ pos 197121 ∷ replicate 31 (pos 0)) 513 ∷ []),
+    )
+    -- 1 − 2
+    ∷ (
+      job (one ++ (two ++ (0x12 ∷ 0 ∷ 1 ∷ []))),
+      accepted (oneModel ∷ twoModel ∷ makeModel 0 (negsuc 1048575 ∷ replicate 32 (pos 0)) 0 ∷ []),
+    )
+    -- T_1 times T_1: d = 1, 32, and 255, which means 32
+    ∷ (
+      job (loadBytes 1 (0 ∷ 1048576 ∷ []) 0 ++ (0x13 ∷ 0 ∷ 0 ∷ 1 ∷ 0x13 ∷ 0 ∷ 0 ∷ 32 ∷ 0x13 ∷ 0 ∷ 0 ∷ 255 ∷ [])),
+      accepted (modelBy 1 (0 ∷ 1048576 ∷ []) 0 ∷ modelBy 1 (524288 ∷ []) 524288 ∷ square ∷ square ∷ []),
+    )
+    -- 1 over 2: f before g, h before w
+    ∷ (
+      job (one ++ (two ++ ((0x20 ∷ 0 ∷ 1 ∷ block 0 (524288 ∷ [])) ++ block 1 (524288 ∷ [])))),
+      accepted (oneModel ∷ twoModel ∷ modelBy 0 (524288 ∷ []) 0 ∷ []),
+    )
+    ∷ (rootOfFour, accepted (fourModel ∷ twoModel ∷ []))
+    ∷ []
+
+pub operands-are : map (λ c. jobOutcome (c .0)) operands ≡ map (λ c. c .1) operands
+unfolding jobOutcome run command operation makerPlaces readingPlaces makerAt signedsAt rootPlaces quotientContraction quotientResidual quotientModel rootContraction rootResidual rootModel displacement coefficientSum sumModel differenceModel productModel productList productLoss rounded roundingLoss good tooLarge zeroModel weight addLists subtractLists scaleList addAt addPair addRow addRows product upℕ near floor passing
+operands-are = refl
+
+-- ---- areas
+
+-- an area of so many sevens
+abbrev sevens : ℕ → List ℤ
+sevens n = replicate n (pos 7)
+
+-- an area too short: 1, with command 0, whatever the job
+pub short-areas : (checkOutcome [] (sevens 1119) (sevens 65) ≡ refused 1 0) × (checkOutcome [] (sevens 1120) (sevens 64) ≡ refused 1 0)
+unfolding checkOutcome
+short-areas = (refl, refl)
+
+-- its results, and its work area, one number longer than asked: degree, 33 coefficients and radius of both results, zeros, and the
+-- number behind; the scratch, one number longer
+root-run : jobOutcome rootOfFour ≡ accepted (fourModel ∷ twoModel ∷ [])
+root-run = ap (λ l. getD l 4 (accepted [])) operands-are
+
+pub root-work : workAfter rootOfFour (sevens 1121) (sevens 65)
+    ≡ (pos 0 ∷ pos 4194304 ∷ replicate 33 (pos 0)) ++ ((pos 0 ∷ pos 2097152 ∷ replicate 33 (pos 0)) ++ (replicate 1050 (pos 0) ++ (pos 7 ∷ [])))
+unfolding workAfter workWith stretches zeros
+root-work = rw root-run
+
+pub root-scratch : scratchAfterJob (sevens 1121) (sevens 66) ≡ replicate 65 (pos 0) ++ (pos 7 ∷ [])
+unfolding scratchAfterJob zeros
+root-scratch = refl

@@ -1,0 +1,18 @@
+-- `load::load` meets its contract.
+use borrow.Author.Needs.{needs}
+use mathlib.Core.Path.{sym, _∙_}
+use Rattle.model.specs.definitions.Outcomes.{passing}
+use Rattle.model.specs.definitions.Operations.{loading}
+use Rattle.model.proofs.load.load.Statement.{statement}
+use Rattle.model.proofs.load.load.Tie as tie
+
+returns : tie.Need-returns
+unfolding loading passing
+returns c = rw (sym (c .before .is-good .ensures) ∙ c .if1 .taken)
+
+returns-2 : tie.Need-returns-2
+unfolding loading passing
+returns-2 c = c .refused .ensures ∙ rw (sym (c .before .before .is-good .ensures) ∙ c .before .if1 .left)
+
+pub load-spec : {M : Type 1} → statement M
+load-spec = tie.close (tie.spec (λ c κs. search needs) (λ c κs. search needs) returns returns-2)

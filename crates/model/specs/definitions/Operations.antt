@@ -1,0 +1,87 @@
+-- Document 01, "Plain operations": add, subtract and multiply; and a model that is loaded.
+use mathlib.Core.Bool.{Bool, not, cond}
+use mathlib.Core.List.{List, [], _∷_, _++_, map}
+use Prim.Native.Nat.{ℕ, suc, _+_, _*_, _-_, min, max}
+use lib.Dec.{leb, eqb}
+use lib.IntN.{ℤ, pos, natAbs, _-ℤ_, _*ℤ_}
+use lib.ListN.{replicate, take, drop}
+use Rattle.integer.specs.definitions.Integer.{ℤ-ring}
+use Rattle.integer.specs.definitions.Rounding.{near, upℕ}
+use Rattle.chebyshev.specs.definitions.Coefficients.{weight, addLists, subtractLists}
+use Rattle.chebyshev.specs.definitions.Product.{product}
+use Rattle.model.specs.definitions.Models.{scale, maxDegree, coefficientCount, productSize, terms, makeModel, zeroModel}
+use Rattle.model.specs.definitions.Models.{badPlace, largePlace}
+use Rattle.model.specs.definitions.Outcomes.{Outcome, outcome}
+use Rattle.model.specs.declared.types.Model.{Model}
+
+-- a model that is handed in: "each model: 2"
+abbrev pub loadingPlaces : Model → List (Bool × ℕ)
+loadingPlaces m = badPlace m ∷ []
+
+unfoldable pub loading : Model → Outcome Model
+loading m = outcome (loadingPlaces m) m zeroModel
+
+-- "Add and subtract: coefficient by coefficient, the larger degree, radii added."
+unfoldable pub sumModel : Model → Model → Model
+sumModel a b =
+    makeModel (max (a .degree) (b .degree)) (addLists ℤ-ring (a .coefficients) (b .coefficients)) (a .radius + b .radius)
+
+unfoldable pub differenceModel : Model → Model → Model
+differenceModel a b =
+    makeModel (max (a .degree) (b .degree)) (subtractLists ℤ-ring (a .coefficients) (b .coefficients)) (a .radius + b .radius)
+
+abbrev pub additionPlaces : Model → Model → List (Bool × ℕ)
+additionPlaces a b = badPlace a ∷ badPlace b ∷ largePlace (sumModel a b) ∷ []
+
+unfoldable pub addition : Model → Model → Outcome Model
+addition a b = outcome (additionPlaces a b) (sumModel a b) zeroModel
+
+abbrev pub subtractionPlaces : Model → Model → List (Bool × ℕ)
+subtractionPlaces a b = badPlace a ∷ badPlace b ∷ largePlace (differenceModel a b) ∷ []
+
+unfoldable pub subtraction : Model → Model → Outcome Model
+subtraction a b = outcome (subtractionPlaces a b) (differenceModel a b) zeroModel
+
+-- ---- multiply
+
+-- "kept degree, in the library: not 0 to 32 and not 255, which means 32"
+abbrev pub keptDegree : ℕ → ℕ
+keptDegree d = cond (eqb d 255) maxDegree d
+
+-- the list C of two models
+unfoldable pub productList : Model → Model → List ℤ
+productList a b = product ℤ-ring productSize (terms a) (terms b)
+
+abbrev pub productDegree : ℕ → Model → Model → ℕ
+productDegree d a b = min (keptDegree d) (a .degree + b .degree)
+
+-- "c_k = near(C_k/(2S))"
+unfoldable pub rounded : List ℤ → List ℤ
+rounded cs = map (λ c. near c (2 * scale)) cs
+
+-- "Σ|C_k − 2S·c_k|"
+unfoldable pub roundingLoss : List ℤ → ℕ
+roundingLoss [] = 0
+roundingLoss (c ∷ cs) = natAbs (c -ℤ pos (2 * scale) *ℤ near c (2 * scale)) + roundingLoss cs
+
+-- "E = Σ|C_k − 2S·c_k| over kept k + Σ|C_k| over dropped k + 2(A·e_b + B·e_a + e_a·e_b)"
+unfoldable pub productLoss : ℕ → Model → Model → ℕ
+productLoss n a b =
+    roundingLoss (take (suc n) (productList a b))
+    + weight (drop (suc n) (productList a b))
+    + 2 * (weight (a .coefficients) * b .radius + weight (b .coefficients) * a .radius + a .radius * b .radius)
+
+-- "The result has degree min(d, sum of the degrees), coefficients c_k = near(C_k/(2S)), and radius up(E/(2S))"
+unfoldable pub productModel : ℕ → Model → Model → Model
+productModel d a b =
+    let n = productDegree d a b in
+    makeModel n
+    (rounded (take (suc n) (productList a b)) ++ replicate (coefficientCount - suc n) (pos 0))
+    (upℕ (productLoss n a b) (2 * scale))
+
+abbrev pub multiplicationPlaces : ℕ → Model → Model → List (Bool × ℕ)
+multiplicationPlaces d a b =
+    badPlace a ∷ badPlace b ∷ (not (leb (keptDegree d) maxDegree), 9) ∷ largePlace (productModel d a b) ∷ []
+
+unfoldable pub multiplication : ℕ → Model → Model → Outcome Model
+multiplication d a b = outcome (multiplicationPlaces d a b) (productModel d a b) zeroModel

@@ -1,0 +1,29 @@
+-- Numbers behind a model or a candidate in an area play no part, and a model written is the model read.
+use mathlib.Core.Path.{_≡_, refl}
+use mathlib.Core.List.{List, [], _∷_}
+use Prim.Native.Nat.{ℕ, zero, suc, _+_, _≤_}
+use native.Mathlib.Omega.{arith}
+use lib.IntN.{ℤ, pos}
+use lib.ListN.{length, take, drop, length-append}
+use lib.Seq.{take-take, getD-take, take-at, getD-at}
+use Rattle.model.specs.definitions.Models.{coefficientCount}
+use Rattle.model.specs.definitions.Areas.{modelSize, candidateSize, words, areaModel, areaCandidate}
+use Rattle.model.specs.declared.types.Model.{Model}
+
+coefficients-front : (n : ℕ) (s : List ℤ) → candidateSize ≤ n → take coefficientCount (drop 1 (take n s)) ≡ take coefficientCount (drop 1 s)
+coefficients-front zero s h = absurd (omega arith)
+coefficients-front (suc n) [] h = refl
+coefficients-front (suc n) (x ∷ s) h = take-take coefficientCount n s (omega arith)
+
+pub candidate-front : (n : ℕ) (s : List ℤ) → candidateSize ≤ n → areaCandidate (take n s) ≡ areaCandidate s
+candidate-front n s h = rw (coefficients-front n s h, getD-take n s 0 (pos 0) (omega arith))
+
+pub model-front : (n : ℕ) (s : List ℤ) → modelSize ≤ n → areaModel (take n s) ≡ areaModel s
+model-front n s h = rw (coefficients-front n s (omega arith), getD-take n s 0 (pos 0) (omega arith), getD-take n s (coefficientCount + 1) (pos 0) (omega arith))
+
+pub length-words : (m : Model) → length (m .coefficients) ≡ coefficientCount → length (words m) ≡ modelSize
+length-words m h = simp length-append (omega arith)
+
+pub model-words : (m : Model) → length (m .coefficients) ≡ coefficientCount → areaModel (words m) ≡ m
+model-words m h =
+    rw (take-at (m .coefficients) (pos (m .radius) ∷ []) coefficientCount h, getD-at (pos (m .degree) ∷ m .coefficients) (pos (m .radius)) [] (pos 0) (coefficientCount + 1) (omega arith))

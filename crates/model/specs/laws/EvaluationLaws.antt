@@ -1,0 +1,54 @@
+-- Sizes of t_k, V and W of an evaluation, and a point that is accepted.
+use mathlib.Core.Path.{_≡_}
+use mathlib.Core.Bool.{true}
+use mathlib.Core.List.{List, [], _∷_}
+use Prim.Native.Nat.{ℕ, suc, _+_, _*_, _-_, _^_, _≤_}
+use native.Mathlib.Nat.{mul-le-mul, mul-le-mul-left}
+use native.Mathlib.Omega.{arith}
+use lib.IntN.{ℤ, natAbs, _*ℤ_}
+use lib.ListN.{length}
+use borrow.Author.Tests.{le-ltb}
+use Rattle.integer.specs.laws.Parts.{abs-add, abs-mul}
+use Rattle.chebyshev.specs.definitions.Coefficients.{weight}
+use Rattle.model.specs.definitions.Models.{scale, good}
+use Rattle.model.specs.definitions.Outcomes.{accepted, passing}
+use Rattle.model.specs.definitions.Evaluation.{pointTerm, pointSum, pointError, lowBound, highBound, evaluation}
+use Rattle.model.specs.laws.EvaluationError.{term-range}
+use Rattle.model.specs.declared.types.Model.{Model}
+
+-- ---- sizes, for places up to m
+
+pairs-mono : (k m : ℕ) → k ≤ m → k * (k - 1) ≤ m * (m - 1)
+pairs-mono k m h = mul-le-mul h (omega arith)
+
+-- 4·|t_k| ≤ 2^32 + m·(m−1)
+pub term-size : (p : ℤ) (k m : ℕ) → natAbs p ≤ scale → k ≤ m → 4 * natAbs (pointTerm p k) ≤ 2 ^ 32 + m * (m - 1)
+term-size p k m h l = omega (arith, term-range p h k, pairs-mono k m l)
+
+-- 4·|V| ≤ (2^32 + m·(m−1))·A
+pub sum-size : (p : ℤ) (k m : ℕ) (a : List ℤ) → natAbs p ≤ scale → k + length a ≤ suc m → 4 * natAbs (pointSum p k a) ≤ (2 ^ 32 + m * (m - 1)) * weight a
+unfolding pointSum weight
+sum-size p k m [] h l = omega arith
+sum-size p k m (c ∷ a) h l =
+    go (2 ^ 32 + m * (m - 1)) (natAbs c) (natAbs (pointTerm p k)) (natAbs (pointSum p (suc k) a)) (weight a) _
+    (rw abs-mul at (abs-add (c *ℤ pointTerm p k) (pointSum p (suc k) a)))
+    (term-size p k m h (omega arith))
+    (sum-size p (suc k) m a h (omega arith))
+  where
+    go : (b c t s w r : ℕ) → r ≤ c * t + s → 4 * t ≤ b → 4 * s ≤ b * w → 4 * r ≤ b * (c + w)
+    go b c t s w r h l k = omega (arith, mul-le-mul-left c l)
+
+-- W ≤ m·(m−1)·A
+pub error-size : (k m : ℕ) (a : List ℤ) → k + length a ≤ suc m → pointError k a ≤ m * (m - 1) * weight a
+unfolding pointError weight
+error-size k m [] l = omega arith
+error-size k m (c ∷ a) l = go (m * (m - 1)) (natAbs c) (k * (k - 1)) (pointError (suc k) a) (weight a) (pairs-mono k m (omega arith)) (error-size (suc k) m a (omega arith))
+  where
+    go : (b c t s w : ℕ) → t ≤ b → s ≤ b * w → c * t + s ≤ b * (c + w)
+    go b c t s w h l = omega (arith, mul-le-mul-left c h)
+
+-- ---- a point that is accepted
+
+pub evaluation-accepted : (a : Model) (p : ℤ) → good a ≡ true → natAbs p ≤ scale → evaluation a p ≡ accepted (record { low = lowBound a p; high = highBound a p })
+unfolding evaluation passing
+evaluation-accepted a p e h = rw (e, le-ltb scale (natAbs p) h)

@@ -1,0 +1,42 @@
+-- Laws of multiplication (Operations.antt) for code that forms the product.
+use mathlib.Core.Path.{_≡_, sym, _∙_, ap}
+use mathlib.Core.Bool.{true}
+use Prim.Native.Nat.{ℕ, suc, _+_, _-_, _*_, _≤_}
+use native.Mathlib.Omega.{arith}
+use lib.ListN.{take}
+use borrow.Author.Tests.{le-leb, ne-eqb}
+use Rattle.integer.specs.definitions.Rounding.{upℕ}
+use Rattle.chebyshev.specs.definitions.Coefficients.{weight}
+use Rattle.chebyshev.specs.laws.Weight.{weight-append-zeros}
+use Rattle.model.specs.definitions.InnerContracts.{RoundedFrom, formedOutcome, unlessLarge}
+use Rattle.model.specs.definitions.Models.{scale, coefficientCount, maxDegree, good}
+use Rattle.model.specs.definitions.Outcomes.{passing}
+use Rattle.model.specs.definitions.Operations.{keptDegree, productDegree, productList, productLoss, productModel, rounded, multiplication}
+use Rattle.model.specs.laws.FormedLaws.{formed-is}
+use Rattle.model.specs.declared.types.Model.{Model}
+use Rattle.model.specs.declared.multiply.Rounded.{Rounded}
+
+-- a kept degree within the limit stands for itself
+pub kept-is : (d : ℕ) → d ≤ maxDegree → keptDegree d ≡ d
+kept-is d h = rw (ne-eqb d 255 (λ e. omega arith))
+
+-- what the radii lose: 2(A·e_b + B·e_a + e_a·e_b)
+abbrev pub radiusLoss : Model → Model → ℕ
+radiusLoss a b = 2 * (weight (a .coefficients) * b .radius + weight (b .coefficients) * a .radius + a .radius * b .radius)
+
+-- the result from the rounded list C
+pub product-formed : (d : ℕ) (a b : Model) (r : Rounded) → RoundedFrom (productList a b) (suc (productDegree d a b)) r
+    → formedOutcome (productDegree d a b) (r .coefficients) (r .weight) (upℕ (r .loss + radiusLoss a b) (2 * scale)) ≡ unlessLarge (productModel d a b)
+unfolding productModel productLoss
+product-formed d a b r f =
+    let m = productModel d a b in
+    let n = productDegree d a b in
+    let w : r .weight ≡ weight (m .coefficients) = f .weight-is ∙ sym (weight-append-zeros (rounded (take (suc n) (productList a b))) (coefficientCount - suc n)) in
+    let e : upℕ (r .loss + radiusLoss a b) (2 * scale) ≡ m .radius = ap (λ l. upℕ (l + radiusLoss a b) (2 * scale)) (f .loss-is) in
+    (λ t. formedOutcome n (r .coefficients) (w t) (e t)) ∙ formed-is m (r .coefficients) (λ h. f .coefficients-are (omega arith))
+
+-- of two good models and a kept degree within its limit only the result is tested
+pub multiplication-of-good : (d : ℕ) (a b : Model) → good a ≡ true → good b ≡ true → keptDegree d ≤ maxDegree
+    → unlessLarge (productModel (keptDegree d) a b) ≡ multiplication d a b
+unfolding multiplication unlessLarge passing productModel
+multiplication-of-good d a b p q h = rw (p, q, le-leb (keptDegree d) maxDegree h, kept-is (keptDegree d) h)

@@ -1,0 +1,96 @@
+-- Two answers of the code with one meaning are the same answer.
+use mathlib.Core.Path.{_≡_, refl, sym, _∙_, ap}
+use mathlib.Core.Bool.{cond}
+use Prim.Native.Nat.{ℕ, _<_}
+use native.Mathlib.Omega.{arith}
+use lib.Dec.{eqb}
+use Rattle.model.specs.definitions.Outcomes.{Outcome, accepted, refused, number, values, numberOf, verdictNumber, judged, outcomeOf}
+use Rattle.model.specs.definitions.Evaluation.{boundsOf}
+use Rattle.model.specs.declared.types.ModelOutcome.{ModelOutcome}
+use Rattle.model.specs.declared.types.BoundsOutcome.{BoundsOutcome}
+use Rattle.model.specs.declared.types.Refusal.{Refusal}
+use Rattle.model.specs.declared.types.Refusal.the-variants.{ShortArea, BadModel, LargeResult, PointOutside, NotContracting, LargeResidual, HelperNotPositive, NegativeDiscriminant, BadValue, JobEnds, BytesAfterEnd, NotAResult, TooManyResults}
+use Rattle.model.specs.declared.types.Verdict.{Verdict}
+use Rattle.model.specs.declared.types.Verdict.the-variants.{Accepted, Refused}
+
+-- the refusal with a number
+abbrev named : ℕ → Refusal
+named n =
+    cond (eqb n 1) ShortArea
+    (cond (eqb n 2) BadModel
+    (cond (eqb n 3) LargeResult
+    (cond (eqb n 4) PointOutside
+    (cond (eqb n 5) NotContracting
+    (cond (eqb n 6) LargeResidual
+    (cond (eqb n 7) HelperNotPositive
+    (cond (eqb n 8) NegativeDiscriminant
+    (cond (eqb n 9) BadValue
+    (cond (eqb n 10) JobEnds
+    (cond (eqb n 11) BytesAfterEnd
+    (cond (eqb n 12) NotAResult TooManyResults)))))))))))
+
+named-number : (r : Refusal) → named (numberOf r) ≡ r
+named-number ShortArea = refl
+named-number BadModel = refl
+named-number LargeResult = refl
+named-number PointOutside = refl
+named-number NotContracting = refl
+named-number LargeResidual = refl
+named-number HelperNotPositive = refl
+named-number NegativeDiscriminant = refl
+named-number BadValue = refl
+named-number JobEnds = refl
+named-number BytesAfterEnd = refl
+named-number NotAResult = refl
+named-number TooManyResults = refl
+
+-- no refusal has the number of an acceptance
+pub numberOf-positive : (r : Refusal) → 0 < numberOf r
+numberOf-positive ShortArea = omega arith
+numberOf-positive BadModel = omega arith
+numberOf-positive LargeResult = omega arith
+numberOf-positive PointOutside = omega arith
+numberOf-positive NotContracting = omega arith
+numberOf-positive LargeResidual = omega arith
+numberOf-positive HelperNotPositive = omega arith
+numberOf-positive NegativeDiscriminant = omega arith
+numberOf-positive BadValue = omega arith
+numberOf-positive JobEnds = omega arith
+numberOf-positive BytesAfterEnd = omega arith
+numberOf-positive NotAResult = omega arith
+numberOf-positive TooManyResults = omega arith
+
+pub numberOf-injective : (r s : Refusal) → numberOf r ≡ numberOf s → r ≡ s
+numberOf-injective r s e = sym (named-number r) ∙ ap named e ∙ named-number s
+
+module _ {A : Type 0} where
+  abbrev verdictIn : Outcome A → Verdict
+  verdictIn (accepted a) = Accepted
+  verdictIn (refused n a) = Refused (named n)
+
+  verdict-judged : (v : Verdict) (a : A) → verdictIn (judged v a) ≡ v
+  verdict-judged Accepted a = refl
+  verdict-judged (Refused r) a = ap Refused (named-number r)
+
+  pub values-judged : (v : Verdict) (a : A) → values (judged v a) ≡ a
+  values-judged Accepted a = refl
+  values-judged (Refused r) a = refl
+
+  pub number-judged : (v : Verdict) (a : A) → number (judged v a) ≡ verdictNumber v
+  number-judged Accepted a = refl
+  number-judged (Refused r) a = refl
+
+  pub judged-injective : (u v : Verdict) (a b : A) → judged u a ≡ judged v b → (u ≡ v) × (a ≡ b)
+  judged-injective u v a b e = (
+    sym (verdict-judged u a) ∙ ap verdictIn e ∙ verdict-judged v b,
+    sym (values-judged u a) ∙ ap values e ∙ values-judged v b,
+  )
+
+pub outcomeOf-injective : (r s : ModelOutcome) → outcomeOf r ≡ outcomeOf s → r ≡ s
+outcomeOf-injective r s e =
+    let (v, m) = judged-injective (r .verdict) (s .verdict) (r .model) (s .model) e in λ i. record { verdict = v i; model = m i }
+
+pub boundsOf-injective : (r s : BoundsOutcome) → boundsOf r ≡ boundsOf s → r ≡ s
+boundsOf-injective r s e =
+    let (v, b) = judged-injective (r .verdict) (s .verdict) _ _ e in
+    λ i. record { verdict = v i; low = b i .low; high = b i .high }

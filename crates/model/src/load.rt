@@ -1,0 +1,22 @@
+// A model that is handed in: the model itself if it is good.
+ghost use mathlib.Core.Path.{_≡_};
+ghost use Rattle.model.specs.definitions.Outcomes.{outcomeOf};
+ghost use Rattle.model.specs.definitions.Operations.{loading};
+use crate::measure::is_good;
+use crate::types::Model;
+use crate::types::ModelOutcome;
+use crate::types::Refusal;
+use crate::types::Verdict;
+
+pub fn load(m: Model) -> ModelOutcome
+    ensures { λ (r : ModelOutcome). ⌜ outcomeOf r ≡ loading m ⌝ }
+{
+    if is_good(m) {
+        ModelOutcome {
+            verdict: Verdict::Accepted,
+            model: m,
+        }
+    } else {
+        ModelOutcome::refused(Refusal::BadModel)
+    }
+}

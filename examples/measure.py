@@ -1,0 +1,155 @@
+"""Prints the measured tables of docs/FORMAT.md, section 'From a margin to a job', and the count of changed bits in
+docs/MEANING.md. Nothing here is a test.
+
+  measure.py [margin.json]
+
+Numbers are units of 2^-20 mm, of the worst stretch; errors are against the margin, at 13 points of each stretch.
+"""
+
+import sys
+from pathlib import Path
+from random import Random
+
+HERE = Path(__file__).resolve().parent
+sys.path.insert(0, str(HERE.parent / 'tools'))
+
+from ferruntzo_tool import candidates, exact                            # noqa: E402
+from ferruntzo_tool import solve as solver                              # noqa: E402
+from ferruntzo_tool.arithmetic import Refused, model, up                # noqa: E402
+from ferruntzo_tool.curve import read_curve                             # noqa: E402
+from ferruntzo_tool.reading import Checked                              # noqa: E402
+from ferruntzo_tool.tables import MAX_DEGREE, S                         # noqa: E402
+
+CURVE = read_curve(sys.argv[1] if len(sys.argv) > 1 else str(HERE / 'margin.json'))
+SIGN = 1 if CURVE.side == 'left' else -1
+POINTS = 12
+
+
+def stretches(for_each):
+    for run in CURVE.runs:
+        ends = solver.uniform(run, for_each)
+        for low, high in zip(ends, ends[1:]):
+            yield solver.cut_out(run, low, high)
+
+
+def worst(make, for_each, show):
+    """What `show` says of all stretches made so, or the refusal."""
+    try:
+        return show([make(stretch) for stretch in stretches(for_each)])
+    except Refused as refused:
+        return f'refused with {refused.number}'
+
+
+def path(solved):
+    return max(map(solver.final, solved))
+
+
+def line_radius(solved):
+    return max(m.radius for one in solved for m in one.loads[:2])
+
+
+def normal_radius(solved):
+    return max(m.radius for one in solved for m in one.loads[2:])
+
+
+def error(solved):
+    return f'{max(solver.verified(one, POINTS) for one in solved):.1f}'
+
+
+def plain(stretch, **more):
+    return solver.solve_stretch(stretch, CURVE.bur, CURVE.side, **more)
+
+
+def from_rounded(stretch, radius_of):
+    """The normal as the derivative of the rounded x and y, with a radius of the caller's choice."""
+    scale = max(solver.largest_scale(stretch, MAX_DEGREE), 0)
+    x, y = (solver.covering(stretch, solver.plain(stretch, axis), MAX_DEGREE) for axis in (0, 1))
+
+    def derived(m, axis, sign):
+        made = exact.derivative(exact.Series(m.coefficients[:m.degree + 1], 1), sign << scale)
+        return model(made.row, radius_of(m, scale, solver.derived(stretch, axis, scale, sign)[0][2], made))
+
+    loads = [x, y, derived(y, 1, -SIGN), derived(x, 0, SIGN)]
+    job = solver.Job()
+    bur = job.load(solver.bur_load(CURVE.bur))
+    solver.add_loads(job, bur, loads)
+    return solver.Solved(stretch, job, job.results, loads, scale, CURVE.bur, SIGN)
+
+
+def with_degrees(h_degree, w_degree):
+    """In place of candidates.best: h and w cut to a degree, w's best one if none is named."""
+    def best(test, answer, helper):
+        h, row = candidates.in_units(candidates.projected(answer)[:h_degree + 1]), candidates.projected(helper)
+        found = None
+        for degree in candidates.HELPER_DEGREES if w_degree is None else (w_degree,):
+            w = candidates.in_units(row[:degree + 1])
+            try:
+                numbers = test(h, w)
+            except Refused as refused:
+                error = refused
+                continue
+            if found is None or numbers['radius'] < found[2]['radius']:
+                found = h, w, numbers
+        if found is None:
+            raise error
+        return found
+    return best
+
+
+def largest_m(solved):
+    found = (outcome.numbers['m'] for one in solved for outcome in Checked(one.job.ended()).outcomes if outcome.numbers)
+    return f'{max(found) / S:.2g}'
+
+
+def changed_bits(count):
+    """Copies of stretch.job with one bit changed: accepted, of these beyond 2 µm, of these within it though the path
+    is another by more than 2 µm."""
+    job, rng, limit = (HERE / 'stretch.job').read_bytes(), Random(1), 2 * S // 1000
+    paths = [m.coefficients for m in Checked(job).results[13:]]
+    accepted = beyond = moved = 0
+    for _ in range(count):
+        spoiled, bit = bytearray(job), rng.randrange(8 * len(job))
+        spoiled[bit // 8] ^= 1 << bit % 8
+        checked = Checked(bytes(spoiled))
+        if checked.accepted:
+            accepted += 1
+            far = max(sum(abs(u - v) for u, v in zip(m.coefficients, good))
+                      for m, good in zip(checked.results[13:], paths))
+            large = max(checked.results[i].radius for i in checked.last_results()) > limit
+            beyond, moved = beyond + large, moved + (not large and far > limit)
+    return accepted, beyond, moved
+
+
+def main():
+    print('changed bits: accepted, beyond 2 µm, within it and moved', changed_bits(1500))
+    print('stretches: normal rounded last: its radius, path, error; derivative of the rounded series, radius 0: path, '
+          'error; with the radius that covers it: path; with k²/2: path')
+    for n in (1, 2, 4, 8, 32):
+        ways = [lambda *_: 0, lambda m, k, true, made: exact.distance(true, exact.Series(made.row, 1)),
+                lambda m, k, true, made: up(sum(j * j for j in range(m.degree + 1)) << k, 2)]
+        rows = [worst(lambda s: from_rounded(s, way), n, lambda r: (path(r), error(r))) for way in ways]
+        print(4 * n, worst(plain, n, lambda r: (normal_radius(r), path(r), error(r))), rows[0], rows[1][0], rows[2][0])
+    print('stretches: path with K = 0; path, K and error scaled')
+    for n in (1, 2, 4, 8, 16, 32):
+        print(4 * n, worst(lambda s: plain(s, scale=0), n, path),
+              worst(plain, n, lambda r: (path(r), sorted({one.scale for one in r}), error(r))))
+    print('degree of the loads: their radii, path (8 stretches)')
+    for degree in (6, 8, 10, 12, 16, 32):
+        print(degree, worst(lambda s: plain(s, degree=degree), 2, lambda r: (line_radius(r), normal_radius(r), path(r))))
+    best = candidates.best
+    print('degree of h: path (8 stretches)')
+    for degree in (6, 8, 10, 12, 14, 16, 32):
+        candidates.best = with_degrees(degree, None)
+        print(degree, worst(plain, 2, path))
+    print('degree of w: m/S, path (4 stretches)')
+    for degree in (0, 1, 2, 6, 12, 32):
+        candidates.best = with_degrees(MAX_DEGREE, degree)
+        print(degree, worst(plain, 1, lambda r: (largest_m(r), path(r))))
+    candidates.best = best
+    print('d of the squares: path (8 stretches)')
+    for kept in (12, 16, 20, 24, 28, 32):
+        print(kept, worst(lambda s: plain(s, kept=kept), 2, path))
+
+
+if __name__ == '__main__':
+    main()

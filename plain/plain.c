@@ -1,0 +1,449 @@
+/* Plain C99 version of the library and job checker of document 01. */
+#include "plain.h"
+
+#include <string.h>
+
+#define UNIT 1048576             /* S: one unit is 1/S */
+#define LIMIT 268435456          /* largest weight, radius and N */
+#define MAX_DEGREE 32
+#define COEFFICIENTS 33
+#define RADIUS 34                /* place of the radius in a model area */
+#define MODEL_SIZE 35
+#define CANDIDATE_SIZE 34
+#define BOUNDS_SIZE 2
+#define PRODUCT_SIZE 65          /* the list C */
+#define SCRATCH_SIZE PRODUCT_SIZE
+#define NUMBERS_SIZE 3
+#define MAX_RESULTS 32
+#define WORK_SIZE (MAX_RESULTS * MODEL_SIZE)
+#define ANSWER_SIZE 2
+#define DEFAULT_KEPT 255
+
+enum {
+    SHORT_AREA = 1, BAD_MODEL = 2, LARGE_RESULT = 3, POINT_OUTSIDE = 4, NOT_CONTRACTING = 5,
+    LARGE_RESIDUAL = 6, HELPER_NOT_POSITIVE = 7, NEGATIVE_DISCRIMINANT = 8, BAD_VALUE = 9,
+    JOB_ENDS = 10, BYTES_AFTER_END = 11, NOT_A_RESULT = 12, TOO_MANY_RESULTS = 13
+};
+
+/* ---- Rounding and weights ---- */
+
+static int64_t magnitude(int64_t n) { return n < 0 ? -n : n; }
+
+/* The whole number at or below n/d, d > 0. */
+static int64_t down(int64_t n, int64_t d)
+{
+    int64_t q = n / d;
+    return n % d < 0 ? q - 1 : q;
+}
+
+/* The least whole number not below n/d, d > 0. */
+static int64_t up(int64_t n, int64_t d)
+{
+    int64_t q = n / d;
+    return n % d > 0 ? q + 1 : q;
+}
+
+/* The nearest whole number to n/d, a tie going towards plus infinity. */
+static int64_t near(int64_t n, int64_t d) { return down(2 * n + d, 2 * d); }
+
+static int64_t weight(const int64_t *list, int size)
+{
+    int64_t sum = 0;
+    for (int k = 0; k < size; k++)
+        sum += magnitude(list[k]);
+    return sum;
+}
+
+/* The weight of a model or candidate area. */
+static int64_t model_weight(const int32_t *a)
+{
+    int64_t sum = 0;
+    for (int k = 1; k <= COEFFICIENTS; k++)
+        sum += magnitude(a[k]);
+    return sum;
+}
+
+static int good_candidate(const int32_t *a)
+{
+    if (a[0] < 0 || a[0] > MAX_DEGREE)
+        return 0;
+    for (int k = a[0] + 1; k < COEFFICIENTS; k++)
+        if (a[1 + k] != 0)
+            return 0;
+    return model_weight(a) <= LIMIT;
+}
+
+static int good_model(const int32_t *a)
+{
+    return good_candidate(a) && a[RADIUS] >= 0 && a[RADIUS] <= LIMIT;
+}
+
+/* The product list C(a, b): one walk over the pairs, 65 numbers. */
+static void product_list(const int32_t *a, const int32_t *b, int64_t *c)
+{
+    memset(c, 0, PRODUCT_SIZE * sizeof *c);
+    for (int i = 0; i <= a[0]; i++) {
+        for (int j = 0; j <= b[0]; j++) {
+            int64_t p = (int64_t)a[1 + i] * b[1 + j];
+            c[i + j] += p;
+            c[i > j ? i - j : j - i] += p;
+        }
+    }
+}
+
+/* The place 'result': 3, or the model itself, written into out, which is zero so far.
+   row has degree + 1 coefficients. */
+static uint32_t finish(int degree, const int64_t *row, int64_t radius, int32_t *out)
+{
+    if (degree > MAX_DEGREE || radius > LIMIT || weight(row, degree + 1) > LIMIT)
+        return LARGE_RESULT;
+    out[0] = degree;
+    for (int k = 0; k <= degree; k++)
+        out[1 + k] = (int32_t)row[k];
+    out[RADIUS] = (int32_t)radius;
+    return 0;
+}
+
+/* ---- Plain operations, on areas that are long enough; out is zero so far ---- */
+
+static uint32_t termwise(const int32_t *a, const int32_t *b, int sign, int32_t *out)
+{
+    int64_t row[COEFFICIENTS];
+    if (!good_model(a) || !good_model(b))
+        return BAD_MODEL;
+    int degree = a[0] > b[0] ? a[0] : b[0];
+    for (int k = 0; k <= degree; k++)
+        row[k] = (int64_t)a[1 + k] + sign * (int64_t)b[1 + k];
+    return finish(degree, row, (int64_t)a[RADIUS] + b[RADIUS], out);
+}
+
+static uint32_t multiply(const int32_t *a, const int32_t *b, uint32_t kept, int32_t *out)
+{
+    int64_t c[PRODUCT_SIZE], row[COEFFICIENTS], error = 0;
+    if (!good_model(a) || !good_model(b))
+        return BAD_MODEL;
+    if (kept == DEFAULT_KEPT)
+        kept = MAX_DEGREE;
+    if (kept > MAX_DEGREE)
+        return BAD_VALUE;
+    product_list(a, b, c);
+    int degree = a[0] + b[0];
+    if (degree > (int)kept)
+        degree = (int)kept;
+    for (int k = 0; k <= degree; k++) {
+        row[k] = near(c[k], 2 * UNIT);
+        error += magnitude(c[k] - 2 * UNIT * row[k]);
+    }
+    error += weight(c + degree + 1, PRODUCT_SIZE - degree - 1);
+    int64_t e_a = a[RADIUS], e_b = b[RADIUS];
+    error += 2 * (model_weight(a) * e_b + model_weight(b) * e_a + e_a * e_b);
+    return finish(degree, row, up(error, 2 * UNIT), out);
+}
+
+static uint32_t integrate(const int32_t *a, int32_t *out)
+{
+    int64_t row[COEFFICIENTS];
+    if (!good_model(a))
+        return BAD_MODEL;
+    int degree = a[0] + 1;
+    if (degree > MAX_DEGREE)
+        return LARGE_RESULT;
+    row[0] = 0;
+    for (int k = 1; k <= degree; k++) {
+        int64_t lower = k == 1 ? 2 * (int64_t)a[1] : a[k];
+        int64_t upper = k + 1 <= a[0] ? a[k + 2] : 0;
+        row[k] = near(lower - upper, 2 * k);
+        row[0] += k % 2 == 1 ? row[k] : -row[k];
+    }
+    return finish(degree, row, 2 * (int64_t)a[RADIUS] + degree, out);
+}
+
+static uint32_t evaluate(const int32_t *a, int32_t p, int64_t *bounds)
+{
+    int64_t t = (int64_t)1 << 30, next = (int64_t)1024 * p, v = 0, w = 0;
+    if (!good_model(a))
+        return BAD_MODEL;
+    if (p < -UNIT || p > UNIT)
+        return POINT_OUTSIDE;
+    for (int k = 0; k <= a[0]; k++) {
+        v += a[1 + k] * t;
+        w += magnitude(a[1 + k]) * k * (k - 1);
+        int64_t after = near(2 * (int64_t)p * next, UNIT) - t;
+        t = next;
+        next = after;
+    }
+    bounds[0] = down(4 * v - w, (int64_t)1 << 32) - a[RADIUS];
+    bounds[1] = up(4 * v + w, (int64_t)1 << 32) + a[RADIUS];
+    return 0;
+}
+
+/* ---- The two tests ---- */
+
+/* c := c - 2S f, over f's coefficients; c is zero above C's own degree. */
+static void take_residual(int64_t *c, const int32_t *f)
+{
+    for (int k = 0; k <= f[0]; k++)
+        c[k] -= 2 * (int64_t)UNIT * f[1 + k];
+}
+
+static void accept_candidate(const int32_t *h, int64_t radius, int64_t m, int64_t n,
+                             int64_t b, int32_t *out, uint64_t *numbers)
+{
+    memcpy(out, h, CANDIDATE_SIZE * sizeof *out);
+    out[RADIUS] = (int32_t)radius;
+    numbers[0] = (uint64_t)m;
+    numbers[1] = (uint64_t)n;
+    numbers[2] = (uint64_t)b;
+}
+
+static uint32_t test_quotient(const int32_t *f, const int32_t *g, const int32_t *h,
+                              const int32_t *w, int64_t *c, int32_t *out, uint64_t *numbers)
+{
+    if (!good_model(f) || !good_model(g) || !good_candidate(h) || !good_candidate(w))
+        return BAD_MODEL;
+    int64_t m_weight = model_weight(w), h_weight = model_weight(h), e_g = g[RADIUS];
+    product_list(w, g, c);
+    c[0] -= 2 * (int64_t)UNIT * UNIT;
+    int64_t m = up(weight(c, PRODUCT_SIZE) + 2 * m_weight * e_g, 2 * UNIT);
+    if (m >= UNIT)
+        return NOT_CONTRACTING;
+    product_list(g, h, c);
+    take_residual(c, f);
+    int64_t n = up(weight(c, PRODUCT_SIZE) + 2 * (int64_t)UNIT * f[RADIUS] + 2 * h_weight * e_g,
+                   2 * UNIT);
+    if (n > LIMIT)
+        return LARGE_RESIDUAL;
+    int64_t b = up(m_weight * n, UNIT);
+    int64_t radius = up(b * UNIT, UNIT - m);
+    if (radius > LIMIT)
+        return LARGE_RESULT;
+    accept_candidate(h, radius, m, n, b, out, numbers);
+    return 0;
+}
+
+static uint32_t test_root(const int32_t *f, const int32_t *h, const int32_t *w,
+                          int64_t *c, int32_t *out, uint64_t *numbers)
+{
+    if (!good_model(f) || !good_candidate(h) || !good_candidate(w))
+        return BAD_MODEL;
+    int64_t sum = 0, m_weight = model_weight(w);
+    for (int k = 0; k < COEFFICIENTS; k++)
+        sum += w[1 + k];
+    if (sum <= 0)
+        return HELPER_NOT_POSITIVE;
+    product_list(w, h, c);
+    c[0] -= (int64_t)UNIT * UNIT;
+    int64_t m = up(weight(c, PRODUCT_SIZE), UNIT);
+    if (m >= UNIT)
+        return NOT_CONTRACTING;
+    product_list(h, h, c);
+    take_residual(c, f);
+    int64_t n = up(weight(c, PRODUCT_SIZE) + 2 * (int64_t)UNIT * f[RADIUS], 2 * UNIT);
+    if (n > LIMIT)
+        return LARGE_RESIDUAL;
+    int64_t b = up(m_weight * n, UNIT);
+    /* 8 b M can pass 64 bits, so b is compared with the quotient; M >= 1 here. */
+    if (b > (UNIT - m) * (UNIT - m) / (8 * m_weight))
+        return NEGATIVE_DISCRIMINANT;
+    int64_t radius = up(2 * b * UNIT, UNIT - m);
+    if (radius > LIMIT)
+        return LARGE_RESULT;
+    accept_candidate(h, radius, m, n, b, out, numbers);
+    return 0;
+}
+
+/* ---- The library's entries ---- */
+
+/* Clears an area that has its numbers, whatever the others have, and says whether it has. */
+#define CLEAR(area, size) clear(area, area##_len, size, sizeof *(area))
+
+static int clear(void *area, size_t length, size_t size, size_t width)
+{
+    if (length < size)
+        return 0;
+    memset(area, 0, size * width);
+    return 1;
+}
+
+uint32_t plain_add(const int32_t *a, size_t a_len, const int32_t *b, size_t b_len,
+                   int32_t *out, size_t out_len)
+{
+    if (!CLEAR(out, MODEL_SIZE) || a_len < MODEL_SIZE || b_len < MODEL_SIZE)
+        return SHORT_AREA;
+    return termwise(a, b, 1, out);
+}
+
+uint32_t plain_subtract(const int32_t *a, size_t a_len, const int32_t *b, size_t b_len,
+                        int32_t *out, size_t out_len)
+{
+    if (!CLEAR(out, MODEL_SIZE) || a_len < MODEL_SIZE || b_len < MODEL_SIZE)
+        return SHORT_AREA;
+    return termwise(a, b, -1, out);
+}
+
+uint32_t plain_multiply(const int32_t *a, size_t a_len, const int32_t *b, size_t b_len,
+                        uint32_t kept, int32_t *out, size_t out_len)
+{
+    if (!CLEAR(out, MODEL_SIZE) || a_len < MODEL_SIZE || b_len < MODEL_SIZE)
+        return SHORT_AREA;
+    return multiply(a, b, kept, out);
+}
+
+uint32_t plain_integrate(const int32_t *a, size_t a_len, int32_t *out, size_t out_len)
+{
+    if (!CLEAR(out, MODEL_SIZE) || a_len < MODEL_SIZE)
+        return SHORT_AREA;
+    return integrate(a, out);
+}
+
+uint32_t plain_evaluate(const int32_t *a, size_t a_len, int32_t p,
+                        int64_t *bounds, size_t bounds_len)
+{
+    if (!CLEAR(bounds, BOUNDS_SIZE) || a_len < MODEL_SIZE)
+        return SHORT_AREA;
+    return evaluate(a, p, bounds);
+}
+
+uint32_t plain_quotient(const int32_t *f, size_t f_len, const int32_t *g, size_t g_len,
+                        const int32_t *h, size_t h_len, const int32_t *w, size_t w_len,
+                        int64_t *scratch, size_t scratch_len, int32_t *out, size_t out_len,
+                        uint64_t *numbers, size_t numbers_len)
+{
+    uint32_t number = SHORT_AREA;
+    /* & and not &&: each area is cleared whatever the others have. */
+    int fit = CLEAR(out, MODEL_SIZE) & CLEAR(numbers, NUMBERS_SIZE);
+    if (fit && f_len >= MODEL_SIZE && g_len >= MODEL_SIZE && h_len >= CANDIDATE_SIZE
+        && w_len >= CANDIDATE_SIZE && scratch_len >= SCRATCH_SIZE)
+        number = test_quotient(f, g, h, w, scratch, out, numbers);
+    CLEAR(scratch, SCRATCH_SIZE);
+    return number;
+}
+
+uint32_t plain_root(const int32_t *f, size_t f_len, const int32_t *h, size_t h_len,
+                    const int32_t *w, size_t w_len, int64_t *scratch, size_t scratch_len,
+                    int32_t *out, size_t out_len, uint64_t *numbers, size_t numbers_len)
+{
+    uint32_t number = SHORT_AREA;
+    int fit = CLEAR(out, MODEL_SIZE) & CLEAR(numbers, NUMBERS_SIZE);
+    if (fit && f_len >= MODEL_SIZE && h_len >= CANDIDATE_SIZE && w_len >= CANDIDATE_SIZE
+        && scratch_len >= SCRATCH_SIZE)
+        number = test_root(f, h, w, scratch, out, numbers);
+    CLEAR(scratch, SCRATCH_SIZE);
+    return number;
+}
+
+/* ---- Jobs ---- */
+
+#define BLOCK_BYTES (1 + 4 * COEFFICIENTS)
+
+static uint32_t read_u32(const uint8_t *p)
+{
+    return p[0] | (uint32_t)p[1] << 8 | (uint32_t)p[2] << 16 | (uint32_t)p[3] << 24;
+}
+
+static void read_block(const uint8_t *p, int32_t *candidate)
+{
+    candidate[0] = p[0];
+    for (int k = 0; k < COEFFICIENTS; k++) {
+        uint32_t bits = read_u32(p + 1 + 4 * k);
+        memcpy(&candidate[1 + k], &bits, sizeof bits);
+    }
+}
+
+/* Operand bytes and result bytes of a command; 0 for an unknown one. */
+static int known(uint8_t byte, size_t *width, size_t *names)
+{
+    switch (byte) {
+    case 0x00: *width = 0;             *names = 0; return 1;
+    case 0x01: *width = 1;             *names = 0; return 1;
+    case 0x10: *width = BLOCK_BYTES + 4;     *names = 0; return 1;
+    case 0x11:
+    case 0x12: *width = 2;             *names = 2; return 1;
+    case 0x13: *width = 3;             *names = 2; return 1;
+    case 0x20: *width = 2 + 2 * BLOCK_BYTES; *names = 2; return 1;
+    case 0x21: *width = 1 + 2 * BLOCK_BYTES; *names = 1; return 1;
+    default: return 0;
+    }
+}
+
+/* One command that makes a result; out is its own stretch, zero so far. */
+static uint32_t operate(uint8_t byte, const uint8_t *operands, size_t names,
+                        const int32_t *work, int64_t *scratch, int32_t *out)
+{
+    int32_t h[CANDIDATE_SIZE], w[CANDIDATE_SIZE];
+    uint64_t numbers[NUMBERS_SIZE];
+    const int32_t *a = names > 0 ? work + MODEL_SIZE * operands[0] : NULL;
+    const int32_t *b = names > 1 ? work + MODEL_SIZE * operands[1] : NULL;
+    if (byte == 0x10) {
+        uint32_t radius = read_u32(operands + BLOCK_BYTES);
+        read_block(operands, out);
+        if (!good_candidate(out) || radius > LIMIT)
+            return BAD_MODEL;
+        out[RADIUS] = (int32_t)radius;
+        return 0;
+    }
+    if (byte == 0x11 || byte == 0x12)
+        return termwise(a, b, byte == 0x11 ? 1 : -1, out);
+    if (byte == 0x13)
+        return multiply(a, b, operands[2], out);
+    read_block(operands + names, h);
+    read_block(operands + names + BLOCK_BYTES, w);
+    if (byte == 0x20)
+        return test_quotient(a, b, h, w, scratch, out, numbers);
+    return test_root(a, h, w, scratch, out, numbers);
+}
+
+/* Checks the commands in turn; leaves the last command's number in *command. */
+static uint32_t run(const uint8_t *job, size_t job_len, int32_t *work, int64_t *scratch,
+                    uint32_t *count, uint32_t *command)
+{
+    size_t position = 0, width, names;
+    for (*count = 0, *command = 0;; ++*command) {
+        if (position == job_len)
+            return JOB_ENDS;
+        uint8_t byte = job[position];
+        if (!known(byte, &width, &names) || (byte == 0x01) != (*command == 0))
+            return BAD_VALUE;
+        if (job_len - position - 1 < width)
+            return JOB_ENDS;
+        const uint8_t *operands = job + position + 1;
+        position += 1 + width;
+        if (byte == 0x01) {
+            if (operands[0] != 1)
+                return BAD_VALUE;
+            continue;
+        }
+        if (byte == 0x00)
+            return position < job_len ? BYTES_AFTER_END : 0;
+        if (byte == 0x13 && operands[2] > MAX_DEGREE && operands[2] != DEFAULT_KEPT)
+            return BAD_VALUE;
+        for (size_t i = 0; i < names; i++)
+            if (operands[i] >= *count)
+                return NOT_A_RESULT;
+        if (*count == MAX_RESULTS)
+            return TOO_MANY_RESULTS;
+        uint32_t number = operate(byte, operands, names, work, scratch,
+                                  work + MODEL_SIZE * *count);
+        if (number != 0)
+            return number;
+        ++*count;
+    }
+}
+
+uint32_t plain_check(const uint8_t *job, size_t job_len, int32_t *work, size_t work_len,
+                     int64_t *scratch, size_t scratch_len, uint32_t *answer, size_t answer_len)
+{
+    uint32_t count, command;
+    if (!CLEAR(answer, ANSWER_SIZE) || work_len < WORK_SIZE || scratch_len < SCRATCH_SIZE)
+        return SHORT_AREA;
+    memset(work, 0, WORK_SIZE * sizeof *work);
+    uint32_t number = run(job, job_len, work, scratch, &count, &command);
+    memset(scratch, 0, SCRATCH_SIZE * sizeof *scratch);
+    if (number != 0) {
+        memset(work, 0, WORK_SIZE * sizeof *work);
+        answer[1] = command;
+    } else {
+        answer[0] = count;
+    }
+    return number;
+}

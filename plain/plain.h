@@ -1,0 +1,42 @@
+/* Plain C99 version of the library and job checker of document 01.
+   A model area is 35 numbers: degree, 33 coefficients, radius.
+   A candidate area is 34 numbers: degree, 33 coefficients.
+   Every function gives the refusal's number, 0 when accepted.  Areas are left as
+   include/ferruntzo.h says. */
+#ifndef PLAIN_H
+#define PLAIN_H
+
+#include <stddef.h>
+#include <stdint.h>
+
+uint32_t plain_add(const int32_t *a, size_t a_len, const int32_t *b, size_t b_len,
+                   int32_t *out, size_t out_len);
+uint32_t plain_subtract(const int32_t *a, size_t a_len, const int32_t *b, size_t b_len,
+                        int32_t *out, size_t out_len);
+uint32_t plain_multiply(const int32_t *a, size_t a_len, const int32_t *b, size_t b_len,
+                        uint32_t kept, int32_t *out, size_t out_len);
+uint32_t plain_integrate(const int32_t *a, size_t a_len, int32_t *out, size_t out_len);
+
+/* bounds: low, high. */
+uint32_t plain_evaluate(const int32_t *a, size_t a_len, int32_t p,
+                        int64_t *bounds, size_t bounds_len);
+
+/* numbers: m, N, b. */
+uint32_t plain_quotient(const int32_t *f, size_t f_len, const int32_t *g, size_t g_len,
+                        const int32_t *h, size_t h_len, const int32_t *w, size_t w_len,
+                        int64_t *scratch, size_t scratch_len,
+                        int32_t *out, size_t out_len,
+                        uint64_t *numbers, size_t numbers_len);
+uint32_t plain_root(const int32_t *f, size_t f_len,
+                    const int32_t *h, size_t h_len, const int32_t *w, size_t w_len,
+                    int64_t *scratch, size_t scratch_len,
+                    int32_t *out, size_t out_len,
+                    uint64_t *numbers, size_t numbers_len);
+
+/* answer: count and 0 when accepted, 0 and the command when refused. */
+uint32_t plain_check(const uint8_t *job, size_t job_len,
+                     int32_t *work, size_t work_len,
+                     int64_t *scratch, size_t scratch_len,
+                     uint32_t *answer, size_t answer_len);
+
+#endif

@@ -1,0 +1,12 @@
+/* Gives the entries of plain.c another prefix, so that several builds of it can
+   be linked into one program:  gcc -DPREFIX=plain2_ -include plain/prefix.h -c plain/plain.c */
+#define PREFIXED_(prefix, name) prefix##name
+#define PREFIXED(prefix, name) PREFIXED_(prefix, name)
+#define plain_add PREFIXED(PREFIX, add)
+#define plain_subtract PREFIXED(PREFIX, subtract)
+#define plain_multiply PREFIXED(PREFIX, multiply)
+#define plain_integrate PREFIXED(PREFIX, integrate)
+#define plain_evaluate PREFIXED(PREFIX, evaluate)
+#define plain_quotient PREFIXED(PREFIX, quotient)
+#define plain_root PREFIXED(PREFIX, root)
+#define plain_check PREFIXED(PREFIX, check)

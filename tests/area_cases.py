@@ -1,0 +1,104 @@
+"""Lent areas: those of each entry, and calls with every area at every length around its size,
+two areas short at once, and all of them, for every answer that the entry has."""
+
+from itertools import combinations
+
+import jobs
+from cases import Case
+from examples_of_01 import example_job
+from header import (
+    ACCEPTED, ANSWER_SIZE, BAD_MODEL, BAD_VALUE, BOUNDS_SIZE, BYTES_AFTER_END, CANDIDATE_SIZE,
+    HELPER_NOT_POSITIVE, JOB_ENDS, LARGE_RESIDUAL, LARGE_RESULT, MAX_DEGREE, MAX_RESULTS,
+    MODEL_SIZE, NEGATIVE_DISCRIMINANT, NOT_A_RESULT, NOT_CONTRACTING, NUMBERS_SIZE, POINT_OUTSIDE,
+    SCRATCH_SIZE, TOO_MANY_RESULTS, WORK_SIZE)
+from oracle import LIMIT, S, constant, model, term
+
+# Areas of each entry: array type code, size in numbers, and what it is.
+MODEL_IN, CANDIDATE_IN = ('i', MODEL_SIZE, 'in'), ('i', CANDIDATE_SIZE, 'in')
+OUT, BOUNDS = ('i', MODEL_SIZE, 'out'), ('q', BOUNDS_SIZE, 'bounds')
+SCRATCH, NUMBERS = ('q', SCRATCH_SIZE, 'scratch'), ('Q', NUMBERS_SIZE, 'numbers')
+AREAS = {
+    'add': (MODEL_IN, MODEL_IN, OUT),
+    'subtract': (MODEL_IN, MODEL_IN, OUT),
+    'multiply': (MODEL_IN, MODEL_IN, OUT),
+    'integrate': (MODEL_IN, OUT),
+    'evaluate': (MODEL_IN, BOUNDS),
+    'quotient': (MODEL_IN, MODEL_IN, CANDIDATE_IN, CANDIDATE_IN, SCRATCH, OUT, NUMBERS),
+    'root': (MODEL_IN, CANDIDATE_IN, CANDIDATE_IN, SCRATCH, OUT, NUMBERS),
+    'check': (('B', 0, 'job'), ('i', WORK_SIZE, 'work'), SCRATCH, ('I', ANSWER_SIZE, 'answer')),
+}
+# What an entry answers in; each is zero after every refusal if it is itself long enough.
+ANSWERS = ('out', 'bounds', 'numbers', 'answer')
+
+# ---- One call for each answer of each entry, where every area is long enough
+
+ONE, MOST, BAD = constant(S), constant(LIMIT), constant(LIMIT + 1)
+CURVE = model([S, S // 3, -5], 7)
+FOUR, TWO, QUARTER = constant(4 * S), constant(2 * S), constant(S // 4)
+
+
+def one_load(*commands, loaded=FOUR):
+    return jobs.EDITION_1 + jobs.load(loaded) + b''.join(commands) + jobs.END
+
+
+WITNESSES = {
+    'add': {ACCEPTED: (CURVE, ONE), BAD_MODEL: (CURVE, BAD), LARGE_RESULT: (MOST, ONE)},
+    'subtract': {ACCEPTED: (CURVE, ONE), BAD_MODEL: (BAD, CURVE), LARGE_RESULT: (MOST, constant(-1))},
+    'multiply': {ACCEPTED: (CURVE, CURVE, 2), BAD_MODEL: (CURVE, BAD, 2),
+                 BAD_VALUE: (CURVE, CURVE, MAX_DEGREE + 1), LARGE_RESULT: (MOST, MOST, 0)},
+    'integrate': {ACCEPTED: (CURVE,), BAD_MODEL: (BAD,), LARGE_RESULT: (term(MAX_DEGREE, 1),)},
+    'evaluate': {ACCEPTED: (CURVE, S // 2), BAD_MODEL: (BAD, 0), POINT_OUTSIDE: (CURVE, S + 1)},
+    'quotient': {ACCEPTED: (ONE, constant(3 * S), constant(S // 3), constant(S // 3)),
+                 BAD_MODEL: (ONE, ONE, BAD, ONE), NOT_CONTRACTING: (ONE, ONE, ONE, constant(0)),
+                 LARGE_RESIDUAL: (constant(-LIMIT), ONE, MOST, ONE),
+                 LARGE_RESULT: (MOST, ONE, constant(0), constant(S + 1))},
+    'root': {ACCEPTED: (constant(2 * S), TWO, QUARTER), BAD_MODEL: (FOUR, TWO, BAD),
+             HELPER_NOT_POSITIVE: (FOUR, constant(-2 * S), constant(-S // 4)),
+             NOT_CONTRACTING: (FOUR, TWO, ONE), LARGE_RESIDUAL: (constant(-LIMIT), TWO, QUARTER),
+             NEGATIVE_DISCRIMINANT: (ONE, TWO, QUARTER)},
+    'check': {number: (job,) for number, job in {
+        ACCEPTED: example_job(),
+        BAD_VALUE: one_load(jobs.multiply(0, 0, MAX_DEGREE + 1)),
+        JOB_ENDS: example_job()[:-1],
+        NOT_A_RESULT: one_load(jobs.add(0, 1)),
+        TOO_MANY_RESULTS: one_load(jobs.load(ONE) * MAX_RESULTS),
+        BAD_MODEL: one_load(jobs.load(BAD)),
+        HELPER_NOT_POSITIVE: one_load(jobs.root(0, constant(-2 * S), constant(-S // 4))),
+        NOT_CONTRACTING: one_load(jobs.root(0, TWO, ONE)),
+        LARGE_RESIDUAL: one_load(jobs.root(0, TWO, QUARTER), loaded=constant(-LIMIT)),
+        NEGATIVE_DISCRIMINANT: one_load(jobs.root(0, TWO, QUARTER), loaded=ONE),
+        LARGE_RESULT: one_load(jobs.add(0, 0), loaded=MOST),
+        BYTES_AFTER_END: example_job() + jobs.END,
+    }.items()},
+}
+
+
+def witness(entry, number):
+    """The call that is answered with the number."""
+    operands = WITNESSES[entry][number]
+    if entry in ('multiply', 'evaluate'):
+        return Case(entry, operands[:-1], operands[-1])
+    return Case(entry, operands)
+
+
+# ---- Lengths
+
+def lengths_around(size):
+    """None, one, one too few, as many as needed, one more, many more."""
+    return sorted({0, 1, size - 1, size, size + 1, size + 9})
+
+
+def area_cases(entry):
+    sizes = [(i, size) for i, (_, size, what) in enumerate(AREAS[entry]) if what != 'job']
+    for number in WITNESSES[entry]:
+        case = witness(entry, number)
+        for i, size in sizes:
+            for length in lengths_around(size):
+                yield case._replace(lengths=((i, length),))
+        for (i, first), (j, second) in combinations(sizes, 2):
+            for one in (0, first - 1):
+                for other in (0, second - 1):
+                    yield case._replace(lengths=((i, one), (j, other)))
+        for less in (0, 1):                         # as many as needed; all one too few
+            yield case._replace(lengths=tuple((i, size - less) for i, size in sizes))
+        yield case._replace(lengths=tuple((i, 0) for i, _ in sizes))

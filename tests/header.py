@@ -1,0 +1,51 @@
+"""Sizes, limits and refusals of document 01, by the names of include/ferruntzo.h.
+
+check_header() compares them with the header; compare.py calls it before every comparison.
+"""
+
+import re
+from pathlib import Path
+
+HEADER = Path(__file__).resolve().parent.parent / 'include' / 'ferruntzo.h'
+
+# ---- Limits
+
+S = 1 << 20                             # one unit is 1/S
+MAX_DEGREE = 32
+MAX_WEIGHT = MAX_RADIUS = MAX_RESIDUAL = 1 << 28
+MAX_RESULTS = 32
+DEFAULT_KEPT = 255                      # a kept degree that means 32
+PROGRAM_JOB_BYTES = 65536
+
+# ---- Sizes, in numbers
+
+COEFFICIENTS = MAX_DEGREE + 1
+MODEL_SIZE = 1 + COEFFICIENTS + 1       # degree, coefficients, radius
+CANDIDATE_SIZE = 1 + COEFFICIENTS       # degree, coefficients
+PLACE_RADIUS = MODEL_SIZE - 1
+BOUNDS_SIZE = 2                         # low, high
+SCRATCH_SIZE = 65
+NUMBERS_SIZE = 3                        # m, N, b
+WORK_SIZE = MAX_RESULTS * MODEL_SIZE
+ANSWER_SIZE = 2                         # count, command
+BLOCK_BYTES = 1 + 4 * COEFFICIENTS      # degree byte, coefficients
+
+# ---- Refusals
+
+(ACCEPTED, SHORT_AREA, BAD_MODEL, LARGE_RESULT, POINT_OUTSIDE, NOT_CONTRACTING, LARGE_RESIDUAL,
+ HELPER_NOT_POSITIVE, NEGATIVE_DISCRIMINANT, BAD_VALUE, JOB_ENDS, BYTES_AFTER_END, NOT_A_RESULT,
+ TOO_MANY_RESULTS) = range(14)
+
+# Every name above, with its number.
+NAMES = {name: value for name, value in globals().items() if isinstance(value, int)}
+
+
+def check_header():
+    """Each name above has the same number in the header, and the header has no other refusal."""
+    text = HEADER.read_text()
+    macros = re.findall(r'^#define FERRUNTZO_(\w+) (\d+)\b', text, re.M)
+    refusals = re.findall(r'^ +FERRUNTZO_(\w+) = (\d+)\b', text, re.M)
+    found = {name: int(value) for name, value in macros + refusals}
+    for name, value in NAMES.items():
+        assert found.get(name) == value, f'{name}: {found.get(name)} in the header, {value} here'
+    assert {name for name, _ in refusals} <= set(NAMES), 'a refusal that is not known here'

@@ -1,0 +1,189 @@
+"""Mistakes of solver authors: each must lead `ferruntzo explain` to a line that names it.
+
+  tool_mistakes.py [--verbose]
+
+Each mistake is made in examples/stretch.job, whose commands are known.
+"""
+
+import struct
+import sys
+from math import sqrt
+from pathlib import Path
+
+ROOT = Path(__file__).resolve().parent.parent
+sys.path.insert(0, str(ROOT / 'tools'))
+
+from header import BLOCK_BYTES, COEFFICIENTS, MAX_DEGREE               # noqa: E402
+from ferruntzo_tool import explain                                      # noqa: E402
+from ferruntzo_tool.reading import Checked, read_block, split, write_block  # noqa: E402
+from ferruntzo_tool.tables import S                                     # noqa: E402
+
+GOOD = (ROOT / 'examples' / 'stretch.job').read_bytes()
+STEPS = split(GOOD)[0]
+ROOT_STEP = next(step for step in STEPS if step.command.name == 'root')
+QUOTIENT = next(step for step in STEPS if step.command.name == 'quotient')
+LOADS = [step for step in STEPS if step.command.name == 'load']
+LITTLE, BIG = f'<{COEFFICIENTS}i', f'>{COEFFICIENTS}i'
+H, W = ROOT_STEP.offsets['h'], ROOT_STEP.offsets['w']
+
+
+def blocks():
+    return [step.offsets[name] for step in STEPS for kind, name in step.command.operands
+            if kind == 'block']
+
+
+def put(job, at, change, degree=None):
+    """The job with the coefficients of the block at an offset changed."""
+    m = read_block(job[at:at + BLOCK_BYTES])
+    row = change(m.coefficients, m.degree)
+    row = row + [0] * (COEFFICIENTS - len(row))
+    return job[:at] + write_block(m._replace(coefficients=row, degree=m.degree if degree is None
+                                             else degree(m.degree))) + job[at + BLOCK_BYTES:]
+
+
+def everywhere(change, places):
+    job = GOOD
+    for at in places:
+        job = put(job, at, change)
+    return job
+
+
+def big(row, _):
+    return list(struct.unpack(LITTLE, struct.pack(BIG, *row)))
+
+
+def big_raw(job, at):
+    end = at + BLOCK_BYTES
+    return job[:at + 1] + struct.pack(BIG, *struct.unpack(LITTLE, job[at + 1:end])) + job[end:]
+
+
+def big_all(places):
+    job = GOOD
+    for at in places:
+        job = big_raw(job, at)
+    return job
+
+
+def shorter(keep):
+    """The job with every block and radius as `keep` has it."""
+    made = b''
+    for step in STEPS:
+        made += bytes([step.command.byte])
+        for kind, name in step.command.operands:
+            at = step.offsets[name]
+            raw = GOOD[at:at + {'block': BLOCK_BYTES, 'radius': 4}.get(kind, 1)]
+            made += keep(kind, raw)
+    return made
+
+
+def power_basis(row, degree):
+    """Coefficients of T_k turned into those of powers of x, rounded."""
+    terms, polys = [0.0] * COEFFICIENTS, [[1.0], [0.0, 1.0]]
+    while len(polys) <= degree:
+        one, two = polys[-2:]
+        made = [0.0] + [2 * c for c in two]
+        for i, c in enumerate(one):
+            made[i] -= c
+        polys.append(made)
+    for k in range(degree + 1):
+        for i, c in enumerate(polys[k]):
+            terms[i] += c * row[k]
+    return [round(c) for c in terms]
+
+
+def exchanged(step, one, two, size):
+    a, b = step.offsets[one], step.offsets[two]
+    job = bytearray(GOOD)
+    job[a:a + size], job[b:b + size] = GOOD[b:b + size], GOOD[a:a + size]
+    return bytes(job)
+
+
+def from_one():
+    job = bytearray(GOOD)
+    for step in STEPS:
+        for kind, name in step.command.operands:
+            if kind == 'result':
+                job[step.offsets[name]] += 1
+    return bytes(job)
+
+
+def reverse(row, degree):
+    return row[:degree + 1][::-1]
+
+
+LOAD_BLOCKS = [step.offsets['model'] for step in LOADS[1:]]
+
+# The mistake, the job with it, and words that a line of the explanation must hold.
+MISTAKES = [
+    ('factor 2 forgotten in w of a root', put(GOOD, W, lambda r, n: [2 * c for c in r]), 'factor 2'),
+    ('w = 1/(4h)', put(GOOD, W, lambda r, n: [c // 2 for c in r]), 'times 1/(2h) all along'),
+    ('h of f/2', put(GOOD, H, lambda r, n: [int(c / sqrt(2)) for c in r]), 'times f all along'),
+    ('h mirrored', put(GOOD, H, lambda r, n: [c * (-1) ** k for k, c in enumerate(r)]), 'h runs the other way'),
+    ('h reversed', put(GOOD, H, reverse), 'h has its coefficients in reverse'),
+    ('h reversed over 33', put(GOOD, H, lambda r, n: r[::-1], lambda n: MAX_DEGREE), 'in reverse (T_32 first)'),
+    ('every block reversed', everywhere(reverse, blocks()), 'every block has its coefficients in reverse'),
+    ('w reversed', put(GOOD, W, reverse), 'w has its coefficients in reverse'),
+    ('c_0 doubled in h', put(GOOD, H, lambda r, n: [2 * r[0], *r[1:]]), 'h has c_0 doubled'),
+    ('c_0 doubled in every h and w', everywhere(lambda r, n: [2 * r[0], *r[1:]], [
+        step.offsets[name] for step in STEPS for kind, name in step.command.operands
+        if kind == 'block' and step.command.name != 'load']), 'every h and w has c_0 doubled'),
+    ('c_0 halved in h', put(GOOD, H, lambda r, n: [r[0] // 2, *r[1:]]), 'h has c_0 halved'),
+    ('degree byte is the number of coefficients', put(GOOD, H, lambda r, n: r, lambda n: n + 1),
+     'the number of coefficients'),
+    ('degree byte too low', put(GOOD, H, lambda r, n: r, lambda n: n - 1), 'degree byte is'),
+    ('big-endian h', big_raw(GOOD, H), 'h has its coefficients big-endian'),
+    ('big-endian loads', big_all(LOAD_BLOCKS + [LOADS[0].offsets['model']]),
+     'every load has its coefficients big-endian'),
+    ('everything big-endian', big_all(blocks()), 'every block has its coefficients big-endian'),
+    ('h in mm', put(GOOD, H, lambda r, n: [round(c / S) for c in r]), 'in millimetres'),
+    ('w in mm', put(GOOD, W, lambda r, n: [round(c / S) for c in r]), 'in millimetres'),
+    ('loads in mm', everywhere(lambda r, n: [round(c / S) for c in r], LOAD_BLOCKS), 'in millimetres'),
+    ('floats for units', everywhere(lambda r, n: list(struct.unpack(LITTLE, struct.pack(
+        f'<{COEFFICIENTS}f', *(c / S for c in r)))), blocks()), '32-bit floating-point'),
+    ('powers of x in h', put(GOOD, H, power_basis), 'powers of x'),
+    ('h and w exchanged', exchanged(ROOT_STEP, 'h', 'w', BLOCK_BYTES), 'h and w are exchanged'),
+    ('operands of a quotient exchanged', exchanged(QUOTIENT, 'f', 'g', 1), 'f and g are exchanged'),
+    ('sign of h and w', everywhere(lambda r, n: [-c for c in r], [H, W]), 'positive root'),
+    ('short blocks', shorter(lambda kind, raw: raw[:1 + 4 * (raw[0] + 1)] if kind == 'block' else raw),
+     'only its degree + 1 coefficients'),
+    ('one short block', GOOD[:H] + GOOD[H:H + 1 + 4 * (GOOD[H] + 1)] + GOOD[W:], 'h of command 9 alone'),
+    ('radius of a load left out', shorter(lambda kind, raw: b'' if kind == 'radius' else raw),
+     'the radius of each load is missing'),
+    ('radius of one load left out', GOOD[:136] + GOOD[140:], 'radius of command 1 alone'),
+    ('32 coefficients', shorter(lambda kind, raw: raw[:129] if kind == 'block' else raw), '32 coefficients'),
+    ('no degree byte', shorter(lambda kind, raw: raw[1:] if kind == 'block' else raw), 'no degree byte'),
+    ('no end', GOOD[:-1], 'the end is missing'),
+    ('two ends', GOOD + b'\0', 'two ends'),
+    ('two jobs joined', GOOD + GOOD, 'two jobs were joined'),
+    ('newline at the end', GOOD + b'\n', 'newline'),
+    ('results counted from 1', from_one(), 'counted from 1'),
+    ('no edition', GOOD[2:], 'the edition is missing'),
+    ('text mode', GOOD.replace(b'\n', b'\r\n') if b'\n' in GOOD else
+     put(GOOD, H, lambda r, n: [*r[:n], (r[n] & ~255) | 10]).replace(b'\n', b'\r\n'), 'text mode'),
+    ('hexadecimal text', GOOD.hex().encode(), 'hexadecimal text'),
+    ('a listing', b'# ferruntzo job text 1\nedition 1\nend\n', 'assemble'),
+]
+
+
+def main():
+    missed = 0
+    for name, job, words in MISTAKES:
+        checked = Checked(job)
+        lines = list(explain.explanation(job, checked))
+        said = checked.text().splitlines()[-1]
+        named = [line for line in lines if words in line]
+        if '--verbose' in sys.argv or not named:
+            print(f'{name}: {said}: {named[0].strip() if named else "NOT NAMED"}')
+            if not named:
+                print('\n'.join('      ' + line for line in lines[-6:]))
+        missed += not named
+    good = '\n'.join(explain.explanation(GOOD, Checked(GOOD)))
+    if 'mistake' in good or 'CAUTION' in good:
+        print('a good job is said to have a mistake')
+        missed += 1
+    print(f'{len(MISTAKES)} mistakes, {missed} not named')
+    sys.exit(1 if missed else 0)
+
+
+if __name__ == '__main__':
+    main()

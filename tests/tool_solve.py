@@ -1,0 +1,285 @@
+"""Tests of `ferruntzo solve`: every radius covers the error against the margin itself, sampled in exact
+arithmetic, for each shipped stretch and for random margins; and curves that cannot be used are named.
+
+  tool_solve.py [--tool tools/ferruntzo] [--jobcheck target/bin/jobcheck] [--samples K] [--seed N]
+"""
+
+import argparse
+import json
+import os
+import subprocess
+import sys
+import tempfile
+from fractions import Fraction
+from math import cos, pi, sin
+from pathlib import Path
+from random import Random
+
+ROOT = Path(__file__).resolve().parent.parent
+sys.path.insert(0, str(ROOT / 'tools'))
+
+import oracle                                                           # noqa: E402
+from ferruntzo_tool import covered, exact                               # noqa: E402
+from ferruntzo_tool import solve as solver                              # noqa: E402
+from ferruntzo_tool.arithmetic import Refused                           # noqa: E402
+from ferruntzo_tool.curve import read_curve                             # noqa: E402
+from ferruntzo_tool.reading import Checked, split                       # noqa: E402
+from ferruntzo_tool.tables import MAX_DEGREE, S, is_load                # noqa: E402
+
+wrong = []
+
+
+def expect(name, good, told=''):
+    if not good:
+        wrong.append(name)
+        print(f'WRONG  {name} {told}')
+
+
+# ---- The exact arithmetic of series, against fractions ----
+
+def value(row, scale, x):
+    one = two = Fraction(0)
+    for c in reversed(row[1:]):
+        one, two = 2 * x * one - two + c, one
+    return (x * one - two + row[0]) / scale
+
+
+def series(rng):
+    for degree in (0, 1, 2, 7, 24):
+        s = exact.Series([rng.randrange(-10 ** 6, 10 ** 6) for _ in range(degree + 1)], rng.randrange(1, 50))
+        for _ in range(4):
+            low, high = sorted(rng.sample(range(-100, 101), 2))
+            part = exact.restricted(s, high - low, high + low, 200)
+            x = Fraction(rng.randrange(-50, 51), 50)
+            at = Fraction(high - low, 200) * x + Fraction(high + low, 200)
+            expect('restricted', value(part.row, part.scale, x) == value(s.row, s.scale, at))
+            top, bottom = exact.value(s, x.numerator, x.denominator)
+            expect('value', Fraction(top, bottom) == value(s.row, s.scale, x))
+            step = Fraction(1, 10 ** 8)
+            slope = (value(s.row, s.scale, x + step) - value(s.row, s.scale, x - step)) / (2 * step)
+            made = exact.derivative(s)
+            expect('derivative', abs(slope - value(made.row, made.scale, x)) < 10 ** -3)
+
+
+# ---- Shipped stretches ----
+
+def shipped(samples):
+    """The error of each shipped stretch against its margin, in units, beside its radius."""
+    margin, accident = (read_curve(str(ROOT / 'examples' / name)) for name in ('margin.json', 'accident.json'))
+    run = margin.runs[0]
+    middle = solver.halves(run, run[0].low, run[0].high)
+    first = solver.cut_out(run, run[0].low, middle)
+    second = solver.cut_out(run, middle, run[0].high)
+    run = accident.runs[0]
+    whole = solver.cut_out(run, run[0].low, run[0].high)
+    rows = [('stretch', margin, first, (13, 14), True), ('stretch32', margin, first, (13, 14), True),
+            ('stretch32', margin, second, (27, 28), True), ('accident_covered', accident, whole, (13, 14), True),
+            ('accident_degree_12', accident, whole, (13, 14), True), ('accident', accident, whole, (13, 14), False)]
+    for name, curve, stretch, results, good in rows:
+        job = (ROOT / 'examples' / f'{name}.job').read_bytes()
+        models = oracle.check_job(job)[2]
+        solved = solver.Solved(stretch, None, Checked(job).results, [], 0, curve.bur, 1 if curve.side == 'left' else -1)
+        error, radius = solver.verified(solved, samples, results), max(models[i].radius for i in results)
+        print(f'{name} {results}: radius {radius}, error against the margin {error:.1f} units')
+        expect('radius of a shipped stretch', (error <= radius) == good, name)
+        if not good:
+            expect('the accident is 49 µm off', 49 < error * 1000 / S < 50, str(error))
+
+
+# ---- Random margins ----
+
+def random_series(rng, degrees=(6, 14, 40)):
+    """A piece of a wavy oval as a series, with decimals that are no whole units."""
+    degree, low, width = rng.choice(degrees), rng.uniform(0, 6), rng.uniform(0.2, 1.4)
+    waves = [(rng.uniform(-0.06, 0.06), rng.randrange(2, 9), rng.uniform(0, 6)) for _ in range(3)]
+
+    def point(a):
+        r = 4 * (1 + sum(size * cos(n * a + start) for size, n, start in waves))
+        return r * cos(a), 0.85 * r * sin(a)
+
+    count = 64
+    points = [point(low + width * cos(pi * (i + 0.5) / count)) for i in range(count)]
+
+    def coefficient(k, axis):
+        total = sum(points[i][axis] * cos(k * pi * (i + 0.5) / count) for i in range(count))
+        return round((2 - (k == 0)) / count * total, 9)
+
+    rows = [[coefficient(k, axis) for k in range(degree + 1)] for axis in (0, 1)]
+    return {'bur_mm': round(rng.uniform(0.15, 1.25), 3), 'side': rng.choice(('left', 'right')),
+            'series_mm': [{'x': rows[0], 'y': rows[1]}]}
+
+
+def random_points(rng):
+    count, closed = rng.randrange(24, 60), rng.random() < 0.5
+    waves = [(rng.uniform(-0.03, 0.03), rng.randrange(2, 6), rng.uniform(0, 6)) for _ in range(2)]
+    points = []
+    for i in range(count):
+        a = (2 * pi if closed else 4) * (i + rng.uniform(-0.2, 0.2)) / count
+        r = 4.2 * (1 + sum(size * cos(n * a + start) for size, n, start in waves))
+        points.append([round(r * cos(a), 5), round(0.9 * r * sin(a), 5)])
+    return {'bur_mm': 0.5, 'closed': closed, 'points_mm': points}
+
+
+def load_error(solved, samples):
+    """Whether x and y of the margin keep within the loads at sampled points."""
+    for i in range(samples + 1):
+        p, q, stretch = 2 * i - samples, samples, solved.stretch
+        twice = (stretch.low + stretch.high) * q + p * (stretch.high - stretch.low)
+        low, high, *rows = next(part for part in stretch.parts if 2 * q * part[0] <= twice <= 2 * q * part[1])
+        for row, load in zip(rows, solved.loads):
+            true = Fraction(*exact.value(row, twice - (low + high) * q, (high - low) * q))
+            have = Fraction(*exact.value(exact.Series(load.coefficients[:load.degree + 1], 1), p, q))
+            if abs(true - have) > load.radius:
+                return False
+    return True
+
+
+def random_margins(rng, samples, folder, count):
+    class Options:
+        degree = scale = stretches = None
+        limit_um = Fraction(1, 2)
+    for i in range(count):
+        path = folder / 'curve.json'
+        path.write_text(json.dumps(random_series(rng) if i % 3 else random_points(rng)))
+        curve = read_curve(str(path))
+        for solved in solver.solve(curve, curve.bur, curve.side, Options):
+            error = solver.verified(solved, samples)
+            expect('radius of a random margin', error <= solver.final(solved), f'{error} {solver.final(solved)}')
+            expect('radius of its loads', load_error(solved, samples))
+            text = solved.job.text()
+            expect('the oracle agrees', oracle.printed(solved.job.ended()) == text)
+
+
+def padded(job):
+    """The job with the degree byte of each load at 32, its coefficients as they were."""
+    made = bytearray(job)
+    for step in filter(is_load, split(job)[0]):
+        made[step.offsets['model']] = MAX_DEGREE
+    return bytes(made)
+
+
+def cautions(rng, samples, folder, count):
+    """A margin that was cut and loaded as exact gets a caution where the path is more than 2 µm off, whatever its
+    degree bytes; a job whose radii cover the cut gets none."""
+    path, covered_jobs, cut = folder / 'curve.json', 0, 0
+    for _ in range(count):
+        path.write_text(json.dumps(random_series(rng, (40,))))
+        curve = read_curve(str(path))
+        run = curve.runs[0]
+        whole = solver.cut_out(run, run[0].low, run[0].high)
+        solved = solver.solve_stretch(whole, curve.bur, curve.side)
+        covered_jobs += 1
+        for job in (solved.job.ended(), padded(solved.job.ended())):
+            expect('a covered job gets no caution', not covered.cautions(job))
+        for degree in (6, 8, 12, 16):
+            rows = [exact.Series(exact.nearest(whole.parts[0][2 + axis], degree), 1) for axis in (0, 1)]
+            job = solver.Job()
+            bur = job.load(solver.bur_load(curve.bur))
+            try:
+                solver.add_stretch(job, bur, whole._replace(parts=[(whole.low, whole.high, *rows)]), curve.side)
+            except Refused:
+                continue
+            error = solver.verified(solved._replace(results=job.results), samples)
+            if error * 1000 > 2 * S:
+                cut += 1
+                for written in (job.ended(), padded(job.ended())):
+                    expect('a cut job gets a caution', covered.cautions(written),
+                           f'{error * 1000 / S} µm, degree {degree}')
+    print(f'cautions: {covered_jobs} covered jobs, {cut} cut jobs')
+
+
+# ---- The command ----
+
+def commands(run, folder):
+    examples = ROOT / 'examples'
+    text, line = folder / 'curve.txt', folder / 'line.json'
+    line.write_text('{"bur_mm": 0.3, "series_mm": [{"x": [0, 1], "y": [0]}]}')
+    rows = [
+        (0, '1 stretch,', 'solve', examples / 'accident.json', '--verify', '40', '-o', folder / 'out'),
+        (1, 'BEYOND', 'solve', examples / 'accident.json', '--stretches', '1', '--degree', '12'),
+        (0, '16 stretches,', 'solve', examples / 'margin.json', '--stretches', '4', '--limit-um', '0.02'),
+        (0, 'against the margin itself', 'solve', examples / 'margin_points.txt', '--bur-mm', '0.6', '--verify', '10'),
+        (0, 'largest radius 1 unit =', 'solve', line),
+        (2, 'radius of the bur', 'solve', examples / 'margin_points.txt'),
+        (2, 'cannot be read', 'solve', folder / 'nosuch'),
+        (2, 'jobcheck', 'solve', examples / 'accident.json', '--jobcheck', folder / 'nosuch'),
+    ]
+    for status, words, *command in rows:
+        done = run(*command)
+        told = ' '.join(map(str, command))
+        expect('status of solve', done.returncode == status, f'{told}: {done.returncode} {done.stderr[-300:]}')
+        expect('words of solve', words in done.stdout + done.stderr,
+               f'{told}: {done.stdout[-200:]} {done.stderr[-200:]}')
+    expect('jobs of solve are the examples', (folder / 'out/accident_0000.job').read_bytes()
+           == (examples / 'accident_covered.job').read_bytes())
+    piece = '{"series_mm": [{"x": [%s], "y": [%s]}]}'
+    bad = [
+        ('{', 'no JSON'), ('{"points_mm": [[0, 0]]}', 'different points'), ('{"series_mm": [{"x": [1]}]}', '"y"'),
+        ('{"burr": 1}', "unknown key 'burr'"), ('{"bur_mm": 1}', 'exactly one of'), ('1 2\n3', 'line 2'),
+        ('1 2\nx y', 'line 2'), ('', 'different points'), ('[1]', 'line 1'), ('{"points_mm": 3}', 'list of [x, y]'),
+        ('0 0\n1 0\n1 0\n2 1\n', 'less than 1 µm'), ('0 0\n900 0\n1 0\n2 1\n', 'beyond 200 mm'),
+        ('{"side": "up", "series_mm": [{"x": [1, 1], "y": [1]}]}', '"side"'), (piece % ('900', '1'), '256 mm'),
+        ('{"closed": "no", "points_mm": [[0, 0], [1, 0], [1, 1]]}', '"closed"'), (piece % ('1', '1'), 'does not move'),
+        (piece % ('0, 0, 1', '0, 0, 1'), 'turn back'), (piece % ('NaN', '1'), 'no number'),
+        (piece % ('"a"', '1'), 'no number'), (piece % ('1e999999999', '1'), 'no number'),
+        (piece % ('9' * 6000, '1'), 'no number'), ('{"points_mm": [[true, 1]]}', 'no number'),
+    ]
+    for content, words in bad:
+        text.write_text(content)
+        done = run('solve', text, '--bur-mm', '0.5')
+        expect('a bad curve', done.returncode == 2 and words in done.stderr and 'Traceback' not in done.stderr,
+               f'{content}: {done.returncode} {done.stderr[-300:]}')
+
+
+def written(run, folder):
+    """The folder of the jobs holds those of the last run, or is as it was when a curve cannot be solved to its end."""
+    out, margin = folder / 'jobs', ROOT / 'examples/margin.json'
+
+    def jobs():
+        return sorted((path.name, path.read_bytes()) for path in out.glob('*'))
+    for stretches, count in ((4, 16), (1, 4)):
+        run('solve', margin, '--stretches', stretches, '--limit-um', 'none', '-o', out)
+        expect('as many jobs as stretches', len(jobs()) == count, f'{len(jobs())}, not {count}')
+    other = out / 'margin_upper_0099.job'
+    other.write_bytes(b'')
+    before = jobs()
+    run('solve', margin, '--stretches', 1, '--limit-um', 'none', '-o', out)
+    expect('jobs of another curve are kept', jobs() == before)
+    # The second piece turns back.
+    bad = folder / 'margin.json'
+    bad.write_text('{"bur_mm": 0.5, "series_mm": [{"x": [0, 1], "y": [0]}, {"x": [0, 0, 1], "y": [0, 0, 1]}]}')
+    done = run('solve', bad, '-o', out)
+    expect('an unsolvable stretch', done.returncode == 2 and f'{bad}: the stretch from' in done.stderr, done.stderr)
+    expect('a failed run writes nothing', jobs() == before)
+    done = run('solve', ROOT / 'examples/accident.json', '-o', bad)
+    expect('a folder that is none', done.returncode == 2 and f'{bad}: cannot be written' in done.stderr, done.stderr)
+
+
+def main():
+    parser = argparse.ArgumentParser()
+    parser.add_argument('--tool', default=str(ROOT / 'tools/ferruntzo'))
+    parser.add_argument('--jobcheck', default=str(ROOT / 'target/bin/jobcheck'))
+    parser.add_argument('--samples', type=int, default=60)
+    parser.add_argument('--margins', type=int, default=18)
+    parser.add_argument('--seed', type=int, default=1)
+    options = parser.parse_args()
+    environment = {**os.environ, 'FERRUNTZO_JOBCHECK': options.jobcheck, 'PYTHONDONTWRITEBYTECODE': '1'}
+
+    def run(*words):
+        return subprocess.run([options.tool, *map(str, words)], stdin=subprocess.DEVNULL, capture_output=True,
+                              env=environment, check=False, encoding='utf-8', errors='replace')
+
+    rng = Random(options.seed)
+    series(rng)
+    shipped(options.samples)
+    with tempfile.TemporaryDirectory() as name:
+        random_margins(rng, 14, Path(name), options.margins)
+        cautions(rng, 14, Path(name), options.margins // 2)
+        commands(run, Path(name))
+        written(run, Path(name))
+    print(f'solve: {len(wrong)} wrong')
+    sys.exit(1 if wrong else 0)
+
+
+if __name__ == '__main__':
+    main()

@@ -1,0 +1,145 @@
+"""Exact whole-number arithmetic of the operations and the two tests, as docs/FORMAT.md states it."""
+
+from collections import namedtuple
+
+from .tables import COEFFICIENTS, DEFAULT_KEPT, LIMIT, MAX_DEGREE, PLACES, S
+
+# coefficients has COEFFICIENTS numbers; a candidate is a model with radius 0.
+Model = namedtuple('Model', 'degree coefficients radius')
+
+
+class Refused(Exception):
+    """A numbered refusal, with the numbers of the test as far as they were formed."""
+
+    def __init__(self, number, cause, **numbers):
+        super().__init__(cause)
+        self.number, self.cause, self.numbers = number, cause, numbers
+
+
+def model(coefficients, radius=0, degree=None):
+    coefficients = list(coefficients)
+    degree = len(coefficients) - 1 if degree is None else degree
+    return Model(degree, coefficients + [0] * (COEFFICIENTS - len(coefficients)), radius)
+
+
+def up(n, d):
+    return -(-n // d)
+
+
+def near(n, d):
+    return (2 * n + d) // (2 * d)
+
+
+def weight(row):
+    return sum(map(abs, row))
+
+
+def products(a, b):
+    """C(a, b): 2·S² times the product, as 65 numbers."""
+    row = [0] * PLACES
+    for i, u in enumerate(a):
+        if u:
+            for j, v in enumerate(b):
+                if v:
+                    row[i + j] += u * v
+                    row[abs(i - j)] += u * v
+    return row
+
+
+def fault(m):
+    """Why a model is bad (refusal 2), or nothing."""
+    if m.degree > MAX_DEGREE:
+        return f'its degree byte is {m.degree}, above {MAX_DEGREE}'
+    beyond = [k for k in range(m.degree + 1, COEFFICIENTS) if m.coefficients[k]]
+    if weight(m.coefficients) > LIMIT:
+        return (f'its weight {weight(m.coefficients):,} is above 2^28 = {LIMIT:,}'
+                + (f', and the coefficient of T_{beyond[0]} is not zero though the degree is '
+                   f'{m.degree}' if beyond else ''))
+    if m.radius > LIMIT:
+        return f'its radius {m.radius:,} is above 2^28 = {LIMIT:,}'
+    if beyond:
+        return (f'its degree byte is {m.degree}, but the coefficient of T_{beyond[0]} is '
+                f'{m.coefficients[beyond[0]]:,} (the last that is not zero is that of T_{beyond[-1]})')
+    return ''
+
+
+def formed(m):
+    """A result within its limits, or refusal 3."""
+    for what, size in (('weight', weight(m.coefficients)), ('radius', m.radius)):
+        if size > LIMIT:
+            raise Refused(3, f'the {what} of the result would be {size:,}, above 2^28 = {LIMIT:,}')
+    return m
+
+
+def add(a, b, sign=1):
+    return formed(Model(max(a.degree, b.degree),
+                        [u + sign * v for u, v in zip(a.coefficients, b.coefficients)],
+                        a.radius + b.radius))
+
+
+def multiply(a, b, kept):
+    row = products(a.coefficients, b.coefficients)
+    degree = min(MAX_DEGREE if kept == DEFAULT_KEPT else kept, a.degree + b.degree)
+    rounded = [near(row[k], 2 * S) for k in range(degree + 1)]
+    lost = (sum(abs(row[k] - 2 * S * c) for k, c in enumerate(rounded)) + weight(row[degree + 1:])
+            + 2 * (weight(a.coefficients) * b.radius + weight(b.coefficients) * a.radius
+                   + a.radius * b.radius))
+    return formed(model(rounded, up(lost, 2 * S)))
+
+
+def _tested(numbers, b_factor):
+    """The common end of the tests: m, N, then b."""
+    if numbers['m'] >= S:
+        raise Refused(5, f'm is {numbers["m"]:,}, and must be below S = {S:,}', **numbers)
+    if numbers['N'] > LIMIT:
+        raise Refused(6, f'N is {numbers["N"]:,}, and must be at most 2^28 = {LIMIT:,}', **numbers)
+    numbers['b'] = up(numbers['M'] * numbers['N'], S)
+    numbers['radius'] = up(b_factor * numbers['b'] * S, S - numbers['m'])
+    return numbers
+
+
+def quotient(f, g, h, w):
+    """The numbers of the quotient test for f/g; a refusal carries those that were formed."""
+    big_m, big_h = weight(w.coefficients), weight(h.coefficients)
+    row = products(w.coefficients, g.coefficients)
+    row[0] -= 2 * S * S
+    m = up(weight(row) + 2 * big_m * g.radius, 2 * S)
+    row = products(g.coefficients, h.coefficients)
+    for k, c in enumerate(f.coefficients):
+        row[k] -= 2 * S * c
+    n = up(weight(row) + 2 * S * f.radius + 2 * big_h * g.radius, 2 * S)
+    numbers = _tested({'m': m, 'N': n, 'M': big_m}, 1)
+    if numbers['radius'] > LIMIT:
+        raise Refused(3, f'the radius would be {numbers["radius"]:,}, above 2^28 = {LIMIT:,}',
+                      **numbers)
+    return numbers
+
+
+def root(f, h, w):
+    """The numbers of the root test for the square root of f."""
+    total, big_m = sum(w.coefficients), weight(w.coefficients)
+    row = products(w.coefficients, h.coefficients)
+    row[0] -= S * S
+    m = up(weight(row), S)
+    row = products(h.coefficients, h.coefficients)
+    for k, c in enumerate(f.coefficients):
+        row[k] -= 2 * S * c
+    n = up(weight(row) + 2 * S * f.radius, 2 * S)
+    numbers = {'m': m, 'N': n, 'M': big_m}
+    if total <= 0:
+        raise Refused(7, f'the sum of the coefficients of w is {total:,}, and must be above 0',
+                      **numbers)
+    _tested(numbers, 2)
+    numbers['left'], numbers['right'] = (S - m) ** 2, 8 * numbers['b'] * big_m
+    if numbers['left'] < numbers['right']:
+        raise Refused(8, f'8·b·M is {numbers["right"]:,}, and must be at most (S-m)² = '
+                         f'{numbers["left"]:,}', **numbers)
+    return numbers
+
+
+def value(coefficients, x):
+    """Σ a_k·T_k(x) at a fraction or float x, by Clenshaw's rule."""
+    one = two = 0
+    for c in reversed(coefficients[1:]):
+        one, two = 2 * x * one - two + c, one
+    return x * one - two + coefficients[0]

@@ -1,0 +1,134 @@
+"""explain: a job command by command in the tool's own exact arithmetic."""
+
+import sys
+from itertools import zip_longest
+
+from . import arithmetic as ar
+from . import covered, misfit, misread, program
+from .program import NotChecked
+from .reading import Checked, blocks_of
+from .tables import DEFAULT_KEPT, LIMIT, REFUSAL, S, in_micrometres, is_load, is_root
+
+
+def share(n, d):
+    return f'{100 * n / d:.3g} %'
+
+
+def plain(units):
+    return f'{units / S:.6g}'
+
+
+def head(outcome):
+    """The command in words."""
+    step = outcome.step
+    made = f' makes result {outcome.result}' if outcome.result is not None else ''
+    words = {name: 'open (32)' if kind == 'kept' and step.values[name] == DEFAULT_KEPT else step.values[name]
+             for kind, name in step.command.operands}
+    return f'command {step.number}, byte {step.offset}: {step.command.words.format(**words)}{made}'
+
+
+def block_line(name, m):
+    what = 'loaded curve' if name == 'model' else name
+    return (f'{what}: degree {m.degree}, weight {ar.weight(m.coefficients):,} of at most {LIMIT:,} '
+            f'(values up to {plain(ar.weight(m.coefficients))})')
+
+
+def test_lines(outcome):
+    """The numbers of a test against their limits."""
+    n, root = outcome.numbers, is_root(outcome.step)
+    if not n:
+        return
+    def passes(good):
+        return 'passes' if good else 'FAILS'
+    inverse = '|1 - 2·w·h|' if root else '|1 - w·g|'
+    yield (f'm = {n["m"]:,}, must be below S = {S:,}: {passes(n["m"] < S)} ({inverse} is at most '
+           f'{share(n["m"], S)})')
+    yield (f'N = {n["N"]:,}, must be at most {LIMIT:,}: {passes(n["N"] <= LIMIT)} '
+           f'({"|h² - f|" if root else "|g·h - f|"} is at most {plain(n["N"])})')
+    if 'b' in n:
+        yield f'b = {n["b"]:,} (M, the weight of w, is {n["M"]:,})'
+    if 'right' in n:
+        yield (f'(S-m)² = {n["left"]:,}, must be at least 8·b·M = {n["right"]:,}: '
+               f'{passes(n["left"] >= n["right"])} ({share(n["right"], n["left"]) if n["left"] else "none"} used)')
+
+
+def outcome_lines(outcome):
+    yield head(outcome)
+    for name, m in blocks_of(outcome.step):
+        yield '    ' + block_line(name, m)
+    for line in test_lines(outcome):
+        yield '    ' + line
+    m = outcome.model
+    if is_load(outcome.step) and m:
+        yield (f'    radius {m.radius:,} ({in_micrometres(m.radius)})'
+               + (': taken as exact' if m.radius == 0 else ''))
+    elif m:
+        yield f'    degree {m.degree}, radius {m.radius:,} ({in_micrometres(m.radius)})'
+    if outcome.refusal:
+        yield f'    REFUSED with {outcome.refusal}: {outcome.cause}'
+
+
+def cover_lines(checked):
+    """What the radius speaks of, and what it does not."""
+    loads = covered.loads(checked.job)
+    exact = [i for i, m in loads if m.radius == 0]
+    yield ('The radii bound how far each result is from the exact operation on the LOADED curves, within '
+           'the radius that each load states.')
+    if exact:
+        yield (f'Loaded with radius 0, so taken as exact: result{"s" if len(exact) > 1 else ""} '
+               f'{covered.numbers_text(exact)}. If such a curve was rounded or cut from another, the '
+               'difference is not covered by any radius here.')
+    for line in covered.cautions(checked.job):
+        yield 'CAUTION: ' + line + '.'
+    ends = checked.last_results()
+    if checked.accepted and ends:
+        worst = max(checked.results[i].radius for i in ends)
+        yield (f'Results that no later command names: {covered.numbers_text(ends)}; their largest radius is '
+               f'{worst:,} units = {in_micrometres(worst)}.')
+
+
+def explanation(job, checked):
+    for outcome in checked.outcomes:
+        yield from outcome_lines(outcome)
+    if not checked.accepted and (not checked.outcomes or not checked.outcomes[-1].refusal):
+        yield f'command {checked.command}, byte {checked.offset}:'
+        yield f'    REFUSED with {checked.refusal}: {checked.cause}'
+    yield ''
+    if checked.accepted:
+        yield 'What is covered'
+        yield from ('    ' + line for line in cover_lines(checked))
+    else:
+        refusal = REFUSAL[checked.refusal]
+        yield f'Refusal {refusal.number}: {refusal.meaning}. What to do: {refusal.advice}.'
+        for line in covered.cautions(job):
+            yield 'CAUTION: ' + line + '.'
+    lines = list(dict.fromkeys(([] if checked.accepted else misread.causes(job, checked))
+                               + misfit.causes(job, checked)))
+    if lines:
+        yield ''
+        yield 'Likely mistakes (found by trying)'
+        yield from ('    ' + line for line in lines)
+
+
+def main(options):
+    name = options.job
+    try:
+        job = program.read_job(name)
+        checked = Checked(job)
+        for line in explanation(job, checked):
+            print(line)
+        print()
+        answer = program.run(program.find(options.jobcheck), job, name)
+    except NotChecked as error:
+        print(f'ferruntzo: {error}. Only jobcheck decides, and it has not.', file=sys.stderr)
+        return 2
+    if answer.text != checked.text():
+        lines = zip_longest(answer.text.split('\n'), checked.text().split('\n'), fillvalue='')
+        number, (said, own) = next((i, pair) for i, pair in enumerate(lines, 1) if pair[0] != pair[1])
+        print(f'ferruntzo: {name}: line {number} of jobcheck is "{said}", of this explanation "{own}", so the '
+              'explanation is wrong or the program is not the one it was written for. Do not mill.',
+              file=sys.stderr)
+        return 2
+    last = answer.text.splitlines()[-1]
+    print(f'This explains; jobcheck decides. It says "{last}", as explained.')
+    return 0 if answer.accepted else 1
