@@ -1,4 +1,4 @@
--- The rows of the commands, and what an arm of a match on a kind says of it: the kinds are numbered 0 to 3 in the order of
+-- The layouts of the commands, and what an arm of a match on a kind says of it: the kinds are numbered 0 to 3 in the order of
 -- their declaration, and the kind's number is one of the arm's.
 use mathlib.Core.Path.{_≡_, refl}
 use mathlib.Core.Bool.{false, _&&_}
@@ -32,7 +32,7 @@ kind-unknown [] b known h = refl
 kind-unknown (r ∷ rs) b known h =
     simp (ne-eqb b (r .0) (none-known rs b (known × (b ≡ r .0 → ⊥)) h .1)) (kind-unknown rs b (known × (b ≡ r .0 → ⊥)) h)
 
--- ---- the rows
+-- ---- the layouts
 
 -- the bytes that reading looks at are operand bytes, and those that name results are the results that the command names
 pub record Agrees (kind : Kind) : Type 0 where

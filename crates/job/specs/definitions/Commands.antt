@@ -8,7 +8,7 @@ use Rattle.model.specs.definitions.Models.{maxDegree}
 use Rattle.model.specs.definitions.Outcomes.{passing, numberOf}
 use Rattle.certificate.specs.definitions.Tests.{byDiscriminant}
 use Rattle.job.specs.definitions.Bytes.{byteAt, unsignedAt, blockAt}
-use Rattle.job.specs.definitions.Makers.{Maker, load, add, subtract, multiply, quotient, root, namesBad}
+use Rattle.job.specs.definitions.Makers.{Maker, load, add, subtract, multiply, quotient, root, makingFor, namesIn, namesBad}
 use Rattle.job.specs.declared.types.Operation.{Operation}
 use Rattle.job.specs.declared.types.Operation.the-variants.{Load, Add, Subtract, Multiply, Quotient, Root}
 use Rattle.job.specs.declared.types.Kind.{Kind}
@@ -53,39 +53,40 @@ pub record Layout : Type 0 where
   pub names : Names
   pub values : Values
 
--- the row of an operation: its operands, and what they mean where the command's byte stands at a position of the job
+-- the row of an operation: the width of its operands, the values that are asked of them, and what they mean where the command's
+-- byte stands at a position of the job
 pub record OperationRow : Type 0 where
-  pub operands : Layout
+  pub width : ℕ
+  pub values : Values
   pub maker : List ℕ → ℕ → Maker
 
 abbrev pub operationRow : Operation → OperationRow
-operationRow Load = record {
-  operands = record { width = 137; names = Nothing; values = Any };
-  maker = λ job at. load (blockAt job (at + 1) (unsignedAt job (at + 134)));
-}
-operationRow Add = record {
-  operands = record { width = 2; names = Two; values = Any };
-  maker = λ job at. add (byteAt job (at + 1)) (byteAt job (at + 2));
-}
-operationRow Subtract = record {
-  operands = record { width = 2; names = Two; values = Any };
-  maker = λ job at. subtract (byteAt job (at + 1)) (byteAt job (at + 2));
-}
+operationRow Load =
+    record { width = 137; values = Any; maker = λ job at. load (blockAt job (at + 1) (unsignedAt job (at + 134))) }
+operationRow Add =
+    record { width = 2; values = Any; maker = λ job at. add (byteAt job (at + 1)) (byteAt job (at + 2)) }
+operationRow Subtract =
+    record { width = 2; values = Any; maker = λ job at. subtract (byteAt job (at + 1)) (byteAt job (at + 2)) }
 operationRow Multiply = record {
-  operands = record { width = 3; names = Two; values = KeptDegree };
+  width = 3;
+  values = KeptDegree;
   maker = λ job at. multiply (byteAt job (at + 1)) (byteAt job (at + 2)) (keptByte (byteAt job (at + 3)));
 }
 operationRow Quotient = record {
-  operands = record { width = 268; names = Two; values = Any };
+  width = 268;
+  values = Any;
   maker = λ job at. quotient (byteAt job (at + 1)) (byteAt job (at + 2)) (blockAt job (at + 3) 0) (blockAt job (at + 136) 0);
 }
 operationRow Root = record {
-  operands = record { width = 267; names = One; values = Any };
+  width = 267;
+  values = Any;
   maker = λ job at. root byDiscriminant (byteAt job (at + 1)) (blockAt job (at + 2) 0) (blockAt job (at + 135) 0);
 }
 
+-- how many results a command names does not depend on the job's bytes, so the maker on the empty job tells it
 abbrev pub operandsFor : Operation → Layout
-operandsFor op = operationRow op .operands
+operandsFor op =
+    let r = operationRow op in record { width = r .width; names = namesIn (makingFor (r .maker [] 0)); values = r .values }
 
 unfoldable pub makerAt : Operation → List ℕ → ℕ → Maker
 makerAt op job at = operationRow op .maker job at
