@@ -11,7 +11,7 @@ use crate::decode::shape_of;
 use crate::types::CommandReading;
 use crate::types::Kind;
 use crate::types::Names;
-use crate::types::Values;
+use crate::types::OperandValues;
 use model::types::Model;
 use model::types::Refusal;
 
@@ -40,14 +40,14 @@ fn is_bad_degree(d: u8) -> bool
 }
 
 // Edition not 1; a bad kept degree.
-fn has_bad_values(values: Values, job: &[u8], at: usize) -> bool
+fn has_bad_values(values: OperandValues, job: &[u8], at: usize) -> bool
     requires { ⌜ at + 1 + valueBytes values ≤ length (now job) ⌝ }
     ensures { λ r. ⌜ r ≡ badValues values (now (job .entry)) at ⌝ }
 {
     match values {
-        Values::Any => false,
-        Values::EditionOne => job[at + 1] != 1,
-        Values::KeptDegree => is_bad_degree(job[at + 3]),
+        OperandValues::Any => false,
+        OperandValues::EditionOne => job[at + 1] != 1,
+        OperandValues::KeptDegree => is_bad_degree(job[at + 3]),
     }
 }
 

@@ -47,7 +47,7 @@ fn number(n: u64) {
 fn line(work: &[i32], i: usize)
     requires { ⌜ Printable (now work) (i + 1) ⌝ }
 {
-    let m = job::work::stretch_at(work, i);
+    let m = job::work::stored_result(work, i);
     number(i as u64);
     text(b" ");
     number(m.degree as u64);

@@ -9,7 +9,7 @@ use lib.ListN.{length, drop}
 use Rattle.model.specs.definitions.Areas.{modelSize, words, areaModel}
 use Rattle.model.specs.definitions.Evaluation.{Bounds, zeroBounds, evaluation}
 use Rattle.model.specs.definitions.Models.{zeroModel}
-use Rattle.model.specs.definitions.Outcomes.{Outcome, refused, number, values}
+use Rattle.model.specs.definitions.Outcomes.{Outcome, refused, number, payload}
 use Rattle.model.specs.definitions.Operations.{addition, subtraction, multiplication}
 use Rattle.model.specs.declared.types.Model.{Model}
 use Rattle.ferruntzo.specs.declared.operations.Operation.{Operation}
@@ -51,7 +51,7 @@ operationAnswer n o = record { number = n; out = o }
 
 -- an outcome, answered over an area
 unfoldable pub outcomeIn : Outcome Model → List ℤ → OperationAnswer
-outcomeIn o out = operationAnswer (number o) (areaOut modelSize (words (values o)) out)
+outcomeIn o out = operationAnswer (number o) (areaOut modelSize (words (payload o)) out)
 
 -- of two models
 abbrev pub binaryAnswer : (Model → Model → Outcome Model) → List ℤ → List ℤ → List ℤ → OperationAnswer
@@ -81,7 +81,7 @@ abbrev pub evaluationAnswer : ℕ → List ℤ → EvaluationAnswer
 evaluationAnswer n b = record { number = n; bounds = b }
 
 unfoldable pub boundsIn : Outcome Bounds → List ℤ → EvaluationAnswer
-boundsIn o bounds = evaluationAnswer (number o) (areaOut boundsSize (values o .low ∷ values o .high ∷ []) bounds)
+boundsIn o bounds = evaluationAnswer (number o) (areaOut boundsSize (payload o .low ∷ payload o .high ∷ []) bounds)
 
 abbrev pub evaluateAnswer : List ℤ → ℤ → List ℤ → EvaluationAnswer
 evaluateAnswer a p bounds =

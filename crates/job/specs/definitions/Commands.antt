@@ -15,8 +15,8 @@ use Rattle.job.specs.declared.types.Kind.{Kind}
 use Rattle.job.specs.declared.types.Kind.the-variants.{End, Edition, Result, Unknown}
 use Rattle.job.specs.declared.types.Names.{Names}
 use Rattle.job.specs.declared.types.Names.the-variants.{Nothing, One, Two}
-use Rattle.job.specs.declared.types.Values.{Values}
-use Rattle.job.specs.declared.types.Values.the-variants.{Any, EditionOne, KeptDegree}
+use Rattle.job.specs.declared.types.OperandValues.{OperandValues}
+use Rattle.job.specs.declared.types.OperandValues.the-variants.{Any, EditionOne, KeptDegree}
 use Rattle.job.specs.declared.types.Shape.{Shape}
 use Rattle.job.specs.declared.types.CommandReading.{CommandReading as CodeReading}
 use Rattle.job.specs.declared.types.CommandReading.the-variants.{Found, Refused}
@@ -51,13 +51,13 @@ keptByte d = cond (eqb d 0xFF) maxDegree d
 pub record Layout : Type 0 where
   pub width : ℕ
   pub names : Names
-  pub values : Values
+  pub values : OperandValues
 
 -- the row of an operation: the width of its operands, the values that are asked of them, and what they mean where the command's
 -- byte stands at a position of the job
 pub record OperationRow : Type 0 where
   pub width : ℕ
-  pub values : Values
+  pub values : OperandValues
   pub maker : List ℕ → ℕ → Maker
 
 abbrev pub operationRow : Operation → OperationRow
@@ -128,7 +128,7 @@ badKind k (Result o) = eqb k 0
 badKind k Unknown = true
 
 -- "operand values: 9, edition not 1; d from 33 to 254"
-abbrev pub badValues : Values → List ℕ → ℕ → Bool
+abbrev pub badValues : OperandValues → List ℕ → ℕ → Bool
 badValues Any job at = false
 badValues EditionOne job at = not (eqb (byteAt job (at + 1)) 1)
 badValues KeptDegree job at = ltb maxDegree (keptByte (byteAt job (at + 3)))
@@ -152,7 +152,7 @@ nameBytes Nothing = 0
 nameBytes One = 1
 nameBytes Two = 2
 
-abbrev pub valueBytes : Values → ℕ
+abbrev pub valueBytes : OperandValues → ℕ
 valueBytes Any = 0
 valueBytes EditionOne = 1
 valueBytes KeptDegree = 3

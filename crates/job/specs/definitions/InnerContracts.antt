@@ -9,7 +9,7 @@ use lib.IntN.{ℤ}
 use lib.ListN.{length, drop}
 use Rattle.integer.specs.definitions.Lists.{zeros}
 use Rattle.model.specs.definitions.Models.{coefficientCount}
-use Rattle.model.specs.definitions.Outcomes.{Outcome, accepted, refused, values, numberOf}
+use Rattle.model.specs.definitions.Outcomes.{Outcome, accepted, refused, payload, numberOf}
 use Rattle.model.specs.definitions.Areas.{Storable}
 use Rattle.certificate.specs.definitions.Tests.{scratchSize, scratchAfter, Certificate}
 use Rattle.model.specs.declared.types.Model.{Model}
@@ -70,7 +70,7 @@ untestedOutcome (refused n m) = refused n (untested m)
 
 -- an outcome is what a maker gives for the results that a work area holds
 pub record Performs (m : Maker) (w : List ℤ) (o : Outcome Certificate) : Type 0 where
-  pub storable : Storable (values o .model)
+  pub storable : Storable (payload o .model)
   pub gives : (count : ℕ) (rs : List Model) (t : List ℤ) → Holds w count rs t → namesBad m count ≡ false → o ≡ operation m rs
 
 -- a command that was read, as its operation needs it
@@ -99,7 +99,7 @@ pub record Performable (kind : Kind) (job : List ℕ) (count at : ℕ) (work : L
   pub room : at + 1 + layoutFor kind .width ≤ length job
   pub long : workSize ≤ length work
 
--- a model and the stretch i that takes it
+-- a model and the result i that it becomes
 pub record Storing (work : List ℤ) (i : ℕ) (m : Model) : Type 0 where
   pub long : workSize ≤ length work
   pub inside : i < maxResults

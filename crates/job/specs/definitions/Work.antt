@@ -17,26 +17,26 @@ use Rattle.job.specs.definitions.Jobs.{jobOutcome}
 abbrev pub workSize : ℕ
 workSize = 1120
 
--- the model in stretch i of a work area
-abbrev pub stretch : List ℤ → ℕ → Model
-stretch w i = areaModel (take modelSize (drop (modelSize * i) w))
+-- the model of result i in a work area
+abbrev pub storedResult : List ℤ → ℕ → Model
+storedResult w i = areaModel (take modelSize (drop (modelSize * i) w))
 
--- the models in the first n stretches
+-- the models of the first n results
 unfoldable pub modelsIn : List ℤ → ℕ → List Model
 modelsIn w zero = []
-modelsIn w (suc n) = modelsIn w n ++ (stretch w n ∷ [])
+modelsIn w (suc n) = modelsIn w n ++ (storedResult w n ∷ [])
 
--- the area with a model written into stretch i
+-- the area with a model written as result i
 abbrev pub storedAt : List ℤ → ℕ → Model → List ℤ
 storedAt w i m = take (modelSize * i) w ++ (words m ++ drop (modelSize * i + modelSize) w)
 
-unfoldable pub stretches : List Model → List ℤ
-stretches [] = []
-stretches (m ∷ rs) = words m ++ stretches rs
+unfoldable pub resultWords : List Model → List ℤ
+resultWords [] = []
+resultWords (m ∷ rs) = words m ++ resultWords rs
 
--- the 1,120 numbers: the results, later stretches zero
+-- the 1,120 numbers: those of the results, the rest zero
 unfoldable pub workWith : List Model → List ℤ
-workWith rs = stretches rs ++ zeros (workSize - modelSize * length rs)
+workWith rs = resultWords rs ++ zeros (workSize - modelSize * length rs)
 
 -- ---- the entry
 

@@ -7,7 +7,7 @@ use Prim.Native.Nat.{ℕ, _≤_, _<_}
 use borrow.Author.Tests.{leb-false, ltb-false}
 use lib.Dec.{leb}
 use lib.ListN.{length}
-use Rattle.model.specs.definitions.Outcomes.{Outcome, accepted, values, Passed, First}
+use Rattle.model.specs.definitions.Outcomes.{Outcome, accepted, payload, Passed, First}
 use Rattle.model.specs.laws.PlaceLaws.{passing-passed, outcome-passed, first-parts, passed-append, passing-first, none-first}
 use Rattle.certificate.specs.definitions.Tests.{zeroCertificate}
 use Rattle.model.specs.declared.types.Model.{Model}
@@ -22,10 +22,10 @@ use Rattle.job.specs.declared.types.Kind.the-variants.{End, Edition, Res
 
 -- a maker whose places are all passed gives its certificate
 pub operation-passed : (m : Maker) (rs : List Model) → Passed (makerPlaces m rs)
-    → operation m rs ≡ accepted (values (operation m rs))
+    → operation m rs ≡ accepted (payload (operation m rs))
 unfolding operation
 operation-passed m rs f =
-    let e = outcome-passed (makerPlaces m rs) (givenIn (makingFor m) rs .certificate) zeroCertificate f in e ∙ ap accepted (ap values (sym e))
+    let e = outcome-passed (makerPlaces m rs) (givenIn (makingFor m) rs .certificate) zeroCertificate f in e ∙ ap accepted (ap payload (sym e))
 
 pub operation-refuses : (m : Maker) (rs : List Model) {n : ℕ} → First (makerPlaces m rs) n → operation m rs ≡ Outcome.refused n zeroCertificate
 unfolding operation

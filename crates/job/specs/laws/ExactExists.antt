@@ -16,7 +16,7 @@ use Rattle.job.specs.definitions.Makers.{Maker, load, add, subtract, mul
 use Rattle.job.specs.definitions.Commands.{Command, result}
 use Rattle.job.specs.definitions.JobReading.{commandFor}
 use Rattle.job.specs.definitions.Outcomes.{JobOutcome, accepted}
-use Rattle.job.specs.definitions.Work.{stretch}
+use Rattle.job.specs.definitions.Work.{storedResult}
 use Rattle.job.specs.laws.WorkLaws.{length-modelsIn}
 use Rattle.job.specs.laws.CommandLaws.{both-below}
 use Rattle.job.specs.definitions.Requirement.{Requirement3}
@@ -85,7 +85,7 @@ module _ {areas : List (Bool × ℕ)} {job : List ℕ} {answer : JobOutcome ℕ}
   -- for every choice there are values that follow it, and those of a result that it suits are exact and allowed by its model
   pub exact-values : (x : ℚ) → OnInterval x → (choice : ℕ → ℚ)
       → (v : ℕ → ℚ) × Follows commands choice count v
-      × ((i : ℕ) → i < count → Chosen commands x choice v i → Exact commands x v i × Allows (stretch work i) x (v i))
+      × ((i : ℕ) → i < count → Chosen commands x choice v i → Exact commands x v i × Allows (storedResult work i) x (v i))
   exact-values x on choice =
       let r = values-to commands named choice count in (
         r .0,

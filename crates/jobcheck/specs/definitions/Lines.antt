@@ -6,6 +6,6 @@ use lib.ListN.{length}
 use Rattle.job.specs.definitions.Commands.{maxResults}
 use Rattle.job.specs.definitions.Work.{workSize}
 
--- a whole work area, and no more results than it has stretches
+-- a whole work area, and no more results than it has room for
 abbrev pub Printable : List ℤ → ℕ → Type 0
 Printable work count = (workSize ≤ length work) × (count ≤ maxResults)

@@ -1,4 +1,4 @@
--- `work::store` meets its contract: the stretch lent on is what is replaced.
+-- `work::store` meets its contract: the part of the work area lent on is what is replaced.
 use borrow.Author.Needs.{needs}
 use borrow.Rule.Slice.PartMut.{putMid, post-is}
 use mathlib.Core.Path.{ap, _∙_}
