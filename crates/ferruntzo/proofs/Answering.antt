@@ -6,15 +6,15 @@ use Prim.Native.Nat.{ℕ, _≤_, _<_}
 use borrow.Author.Tests.{leb-true, le-leb, lt-leb}
 use lib.IntN.{ℤ}
 use lib.ListN.{length, drop}
-use Rattle.model.specs.definitions.Areas.{modelSize, candidateSize, Storable}
+use Rattle.model.specs.definitions.Area.{modelSize, candidateSize, Storable}
 use Rattle.model.specs.definitions.Outcomes.{Outcome, payload, outcomeOf}
 use Rattle.model.specs.laws.OutcomeLaws.{payload-judged}
 use Rattle.model.specs.declared.types.Model.{Model}
 use Rattle.model.specs.declared.types.ModelOutcome.{ModelOutcome}
 use Rattle.certificate.specs.definitions.Tests.{scratchSize, scratchAfter, Certificate, testOf}
 use Rattle.certificate.specs.declared.types.TestOutcome.{TestOutcome}
-use Rattle.ferruntzo.specs.definitions.Answers.{fits, areaOut}
-use Rattle.ferruntzo.specs.definitions.TestAnswers.{numbersSize, testAnswer, testIn, testFits}
+use Rattle.ferruntzo.specs.definitions.Areas.{fits, areaOut, numbersSize}
+use Rattle.ferruntzo.specs.definitions.Certificates.{testAnswer, testIn, testFits}
 
 -- ---- areas that have their numbers
 

@@ -9,7 +9,8 @@ use borrow.Author.Tests.{ne-eqb}
 use lib.Dec.{eqb, leb, ltb}
 use denote.Enum.Declared.{tagOf}
 use types.Run.{OneOf, miss}
-use Rattle.job.specs.definitions.Commands.{maxResults, kindIn, layoutFor, makerAt, commandAt, badKind, badNames, badBytes, nameBytes, valueBytes, makesResult, isEnd}
+use Rattle.job.specs.definitions.Reading.{maxResults, badKind, badNames, badBytes, nameBytes, valueBytes, makesResult, isEnd}
+use Rattle.job.specs.definitions.Decode.{kindIn, layoutFor, makerAt, commandAt}
 use Rattle.job.specs.declared.types.Operation.{Operation}
 use Rattle.job.specs.declared.types.Operation.the-variants.{Load, Add, Subtract, Multiply, Quotient, Root}
 use Rattle.job.specs.declared.types.Kind.{Kind}

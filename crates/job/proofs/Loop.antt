@@ -10,9 +10,10 @@ use Rattle.model.specs.definitions.Outcomes.{numberOf}
 use Rattle.integer.specs.definitions.Lists.{zeros}
 use Rattle.model.specs.declared.types.Model.{Model}
 use Rattle.model.specs.declared.types.Refusal.{Refusal}
-use Rattle.job.specs.definitions.Commands.{maxResults}
+use Rattle.job.specs.definitions.Reading.{maxResults}
 use Rattle.job.specs.definitions.Outcomes.{accepted, refused, jobOutcomeOf, counted}
-use Rattle.job.specs.definitions.Jobs.{Step, more, over, command, jobOutcome}
+use Rattle.job.specs.definitions.Step.{Step, more, over, command}
+use Rattle.job.specs.definitions.Run.{jobOutcome}
 use Rattle.job.specs.definitions.Work.{workSize, workWith, resultWords, resultsIn}
 use Rattle.job.specs.definitions.Order.{Reaches, start}
 use Rattle.job.specs.laws.OrderLaws.{reaches-bounds, stops-there, ends-there, moves-on, refused-exactly}

@@ -8,9 +8,9 @@ use lib.Dec.{leb}
 use lib.IntN.{ℤ}
 use Rattle.model.specs.definitions.Models.{good, zeroModel}
 use Rattle.model.specs.definitions.Outcomes.{Outcome, accepted, refused, payload, judged}
-use Rattle.model.specs.definitions.Operations.{loadingPlaces, loading}
+use Rattle.model.specs.definitions.Load.{loadingPlaces, loading}
 use Rattle.model.specs.laws.ModelLaws.{good-is}
-use Rattle.model.specs.definitions.Areas.{Storable}
+use Rattle.model.specs.definitions.Area.{Storable}
 use Rattle.model.specs.laws.ResultLaws.{outcome-payload, zero-storable}
 use Rattle.model.specs.laws.OutcomeLaws.{payload-judged}
 use Rattle.certificate.specs.definitions.Tests.{Certificate, testOf}
@@ -18,10 +18,10 @@ use Rattle.certificate.specs.declared.types.TestOutcome.{TestOutcome}
 use Rattle.model.specs.declared.types.Model.{Model}
 use Rattle.model.specs.declared.types.Verdict.{Verdict}
 use Rattle.model.specs.declared.types.Verdict.the-variants.{Accepted, Refused}
-use Rattle.job.specs.definitions.Makers.{Maker, untested, resultAt, namesBad, operation}
+use Rattle.job.specs.definitions.Operations.{Maker, untested, resultAt, namesBad, operation}
 use Rattle.job.specs.laws.CommandLaws.{both-below}
 use Rattle.job.specs.definitions.Work.{storedResult}
-use Rattle.job.specs.definitions.Commands.{makerAt}
+use Rattle.job.specs.definitions.Decode.{makerAt}
 use Rattle.job.specs.definitions.InnerContracts.{Holds, untestedOutcome, Performs, Operable}
 use Rattle.job.specs.declared.types.Operation.{Operation}
 use Rattle.job.proofs.Results.{result-held}

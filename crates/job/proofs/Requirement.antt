@@ -10,13 +10,13 @@ use lib.ListN.{length}
 use Rattle.integer.specs.laws.OrderedRingLaws.{lt-le}
 use Rattle.integer.specs.definitions.Fraction.{ℚ}
 use Rattle.integer.specs.laws.FractionOrder.{ℚ-ordered}
-use Rattle.model.specs.definitions.Values.{Allows}
+use Rattle.model.specs.definitions.Allowed.{Allows}
 use Rattle.model.specs.declared.types.Model.{Model}
-use Rattle.job.specs.definitions.Makers.{Maker, quotient, root, resultAt, namesBad}
-use Rattle.job.specs.definitions.Commands.{Command, result}
+use Rattle.job.specs.definitions.Operations.{Maker, quotient, root, resultAt, namesBad}
+use Rattle.job.specs.definitions.Decode.{Command, result}
 use Rattle.job.specs.definitions.Outcomes.{accepted}
-use Rattle.job.specs.definitions.Jobs.{jobOutcome}
-use Rattle.job.specs.definitions.JobReading.{commandFor}
+use Rattle.job.specs.definitions.Run.{jobOutcome}
+use Rattle.job.specs.definitions.Reader.{commandFor}
 use Rattle.job.specs.definitions.Work.{storedResult}
 use Rattle.job.specs.definitions.InnerContracts.{Holds}
 use Rattle.job.specs.laws.CommandLaws.{both-below}

@@ -9,11 +9,11 @@ use lib.Seq.{take-at, take-suc, take-length, drop-at, drop-append-add, drop-drop
 use Rattle.integer.specs.definitions.Lists.{zeros}
 use Rattle.integer.specs.laws.Clearing.{length-zeros, zeros-append}
 use Rattle.model.specs.definitions.Models.{coefficientCount, zeroModel}
-use Rattle.model.specs.definitions.Areas.{modelSize, words, areaModel}
+use Rattle.model.specs.definitions.Area.{modelSize, words, areaModel}
 use Rattle.model.specs.laws.AreaLaws.{length-words, model-words}
 use Rattle.model.specs.declared.types.Model.{Model}
-use Rattle.job.specs.definitions.Commands.{maxResults}
-use Rattle.job.specs.definitions.Makers.{resultAt}
+use Rattle.job.specs.definitions.Reading.{maxResults}
+use Rattle.job.specs.definitions.Operations.{resultAt}
 use Rattle.job.specs.definitions.Work.{workSize, storedResult, modelsIn, resultWords, workWith, storedAt}
 use Rattle.job.specs.definitions.InnerContracts.{Sized, Holds}
 

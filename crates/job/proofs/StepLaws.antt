@@ -11,9 +11,10 @@ use lib.ListN.{length}
 use Rattle.model.specs.definitions.Outcomes.{Passed, First}
 use Rattle.model.specs.laws.PlaceLaws.{passing-passed, passing-unrefused, first-or-passed, passing-first}
 use Rattle.model.specs.declared.types.Model.{Model}
-use Rattle.job.specs.definitions.Makers.{Maker, Making, of-none, of-one, of-two, makingFor, badIn, namesBad}
-use Rattle.job.specs.definitions.Commands.{maxResults, shapeAt, nextAt, commandAt, readingPlaces, CommandReading, found, commandReading}
-use Rattle.job.specs.definitions.Jobs.{refused, performed, command}
+use Rattle.job.specs.definitions.Operations.{Maker, Making, of-none, of-one, of-two, makingFor, badIn, namesBad}
+use Rattle.job.specs.definitions.Reading.{maxResults, shapeAt, nextAt, readingPlaces, CommandReading, found, commandReading}
+use Rattle.job.specs.definitions.Decode.{commandAt}
+use Rattle.job.specs.definitions.Step.{refused, performed, command}
 use Rattle.job.specs.laws.CommandLaws.{both-below, Readable, readable}
 use Rattle.job.specs.definitions.Work.{workSize}
 use Rattle.job.specs.definitions.InnerContracts.{Performable}

@@ -1,6 +1,6 @@
 // The command byte decides a command's shape: its kind, the width of its operands, and what reading asks of them.
 ghost use mathlib.Core.Path.{_≡_};
-ghost use Rattle.job.specs.definitions.Commands.{shapeOf};
+ghost use Rattle.job.specs.definitions.Decode.{shapeOf};
 use crate::types::Kind;
 use crate::types::Names;
 use crate::types::OperandValues;

@@ -7,7 +7,7 @@ ghost use lib.ListN.{length};
 ghost use Rattle.model.specs.definitions.Outcomes.{outcomeOf};
 ghost use Rattle.certificate.specs.definitions.Tests.{testOf};
 ghost use Rattle.job.specs.definitions.Bytes.{byteAt};
-ghost use Rattle.job.specs.definitions.Commands.{keptByte, makerAt};
+ghost use Rattle.job.specs.definitions.Decode.{keptByte, makerAt};
 ghost use Rattle.job.specs.definitions.Work.{storedResult};
 ghost use Rattle.job.specs.definitions.InnerContracts.{untestedOutcome, Performs, Operable, NamesOne, NamesTwo, Clear};
 use crate::bytes::read_candidate;

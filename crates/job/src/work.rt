@@ -5,7 +5,7 @@ ghost use Prim.Native.Nat.{_≤_, _<_};
 ghost use lib.ListN.{length, drop};
 ghost use Rattle.integer.specs.definitions.Lists.{zeros};
 ghost use Rattle.certificate.specs.definitions.Tests.{scratchSize};
-ghost use Rattle.job.specs.definitions.Commands.{maxResults};
+ghost use Rattle.job.specs.definitions.Reading.{maxResults};
 ghost use Rattle.job.specs.definitions.Work.{workSize, storedResult, storedAt};
 ghost use Rattle.job.specs.definitions.InnerContracts.{Storing};
 use certificate::types::SCRATCH_SIZE;

@@ -1,6 +1,6 @@
 // Checks a job from standard input: a line for each result, number, degree, radius, then 'accepted' and the count; or one
 // line: 'refused', number, command; 'too long'; or 'unreadable', if a read failed.
-ghost use Rattle.jobcheck.specs.definitions.Lines.{Printable};
+ghost use Rattle.jobcheck.specs.definitions.Main.{Printable};
 ghost use Prim.Native.Nat.{_+_};
 use certificate::types::SCRATCH_SIZE;
 use input::Input;

@@ -18,9 +18,10 @@ use Rattle.integer.specs.definitions.Rounding.{upℕ}
 use Rattle.chebyshev.specs.definitions.Coefficients.{weight, addLists, subtractLists, scaleList, coefficientSum}
 use Rattle.chebyshev.specs.definitions.Product.{addAt, addPair, addTerm, addTerms, product}
 use Rattle.model.specs.definitions.Models.{scale, good, tooLarge, makeModel, constantModel, zeroModel}
-use Rattle.model.specs.definitions.Operations.{productList}
+use Rattle.model.specs.definitions.Multiply.{productList}
 use Rattle.model.specs.definitions.Outcomes.{number, passing}
-use Rattle.certificate.specs.definitions.Tests.{byDiscriminant, rootOutcome, rootPlaces, rootContraction, rootResidual, rootModel, displacement}
+use Rattle.certificate.specs.definitions.Root.{byDiscriminant, rootOutcome, rootPlaces, rootContraction, rootResidual, rootModel}
+use Rattle.certificate.specs.definitions.Tests.{displacement}
 
 pub discriminant-quotient : (b M m : ℕ) → 0 < M → (8 * b * M ≤ (scale - m) * (scale - m)) ↔ (b ≤ (scale - m) * (scale - m) / (8 * M))
 discriminant-quotient b M m h =

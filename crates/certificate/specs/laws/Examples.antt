@@ -9,9 +9,10 @@ use Rattle.chebyshev.specs.definitions.Product.{addAt, addPair, addTerm, addTer
 use Rattle.model.specs.definitions.Models.{good, tooLarge, makeModel, constantModel, zeroModel}
 use Rattle.model.specs.definitions.Outcomes.{accepted, refused, passing}
 use Rattle.model.specs.declared.types.Model.{Model}
-use Rattle.model.specs.definitions.Operations.{productList}
-use Rattle.certificate.specs.definitions.Tests.{makeCertificate, zeroCertificate, byDiscriminant}
-use Rattle.certificate.specs.definitions.Tests.{quotientOutcome, rootOutcome, rootPlaces, quotientContraction, quotientResidual, quotientModel, rootContraction, rootResidual, rootModel, displacement}
+use Rattle.model.specs.definitions.Multiply.{productList}
+use Rattle.certificate.specs.definitions.Tests.{makeCertificate, zeroCertificate, displacement}
+use Rattle.certificate.specs.definitions.Root.{byDiscriminant, rootOutcome, rootPlaces, rootContraction, rootResidual, rootModel}
+use Rattle.certificate.specs.definitions.Quotient.{quotientOutcome, quotientContraction, quotientResidual, quotientModel}
 
 abbrev h : Model
 h = constantModel (pos 2097152)

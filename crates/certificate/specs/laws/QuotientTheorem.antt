@@ -8,8 +8,8 @@ use borrow.Author.Tests.{ltb-false, le-ltb}
 use Rattle.model.specs.definitions.Models.{scale, maxRadius, good, makeModel}
 use Rattle.model.specs.definitions.Outcomes.{accepted}
 use Rattle.model.specs.declared.types.Model.{Model}
-use Rattle.certificate.specs.definitions.Tests.{scratchSize, quotientOutcome, quotientContraction, quotientResidual, quotientModel, displacement}
-use Rattle.certificate.specs.definitions.Tests.{Certificate, makeCertificate, quotientCertificate}
+use Rattle.certificate.specs.definitions.Tests.{scratchSize, displacement, Certificate, makeCertificate}
+use Rattle.certificate.specs.definitions.Quotient.{quotientOutcome, quotientContraction, quotientResidual, quotientModel, quotientCertificate}
 use Rattle.certificate.specs.definitions.TwoSums.{quotient-m, quotient-N, quotient-b, quotientRadius}
 use Rattle.certificate.specs.laws.TwoSumsLaws.{productList-good}
 use Rattle.certificate.specs.laws.Stages.{large-radius}

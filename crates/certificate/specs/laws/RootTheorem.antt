@@ -8,8 +8,8 @@ use Prim.Native.Nat.{ℕ, _^_, _≤_}
 use Rattle.model.specs.definitions.Models.{good, makeModel}
 use Rattle.model.specs.definitions.Outcomes.{accepted}
 use Rattle.model.specs.declared.types.Model.{Model}
-use Rattle.certificate.specs.definitions.Tests.{scratchSize, rootModel, rootContraction, rootResidual, displacement}
-use Rattle.certificate.specs.definitions.Tests.{Certificate, makeCertificate, byDiscriminant, rootCertificate, rootOutcome}
+use Rattle.certificate.specs.definitions.Tests.{scratchSize, displacement, Certificate, makeCertificate}
+use Rattle.certificate.specs.definitions.Root.{rootModel, rootContraction, rootResidual, byDiscriminant, rootCertificate, rootOutcome}
 use Rattle.certificate.specs.definitions.TwoSums.{root-m, root-N, root-b, rootRadius, RootHolds}
 use Rattle.certificate.specs.laws.TwoSumsLaws.{productList-good}
 use Rattle.certificate.specs.laws.RootConditions.{RootConditions, root-passes, root-result}

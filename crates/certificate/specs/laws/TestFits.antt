@@ -6,12 +6,13 @@ use Prim.Native.Nat.{ℕ}
 use Rattle.model.specs.definitions.Models.{good}
 use Rattle.model.specs.laws.ModelLaws.{good-is}
 use Rattle.model.specs.definitions.Outcomes.{accepted, payload}
-use Rattle.model.specs.definitions.Areas.{Storable}
+use Rattle.model.specs.definitions.Area.{Storable}
 use Rattle.model.specs.laws.ResultLaws.{small-storable, zero-storable, outcome-payload}
 use Rattle.model.specs.laws.GoodResults.{good-small}
 use Rattle.model.specs.declared.types.Model.{Model}
-use Rattle.certificate.specs.definitions.Tests.{Certificate, zeroCertificate, quotientPlaces, quotientOutcome, quotientModel}
-use Rattle.certificate.specs.definitions.Tests.{byDiscriminant, rootTestPlaces, rootOutcome, rootModel}
+use Rattle.certificate.specs.definitions.Tests.{Certificate, zeroCertificate}
+use Rattle.certificate.specs.definitions.Quotient.{quotientPlaces, quotientOutcome, quotientModel}
+use Rattle.certificate.specs.definitions.Root.{byDiscriminant, rootTestPlaces, rootOutcome, rootModel}
 use Rattle.certificate.specs.laws.QuotientConditions.{quotient-conditions, quotient-passes}
 use Rattle.certificate.specs.laws.RootConditions.{root-conditions, root-passes}
 

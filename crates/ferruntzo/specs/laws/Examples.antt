@@ -11,17 +11,22 @@ use Rattle.chebyshev.specs.definitions.Coefficients.{weight, addLists, subtract
 use Rattle.chebyshev.specs.definitions.Product.{addAt, addPair, addTerm, addTerms, product}
 use Rattle.model.specs.definitions.Models.{good, tooLarge, zeroModel}
 use Rattle.model.specs.definitions.Outcomes.{passing}
-use Rattle.model.specs.definitions.Operations.{sumModel, addition, productList}
-use Rattle.model.specs.definitions.Evaluation.{pointTerm, pointSum, pointError, lowBound, highBound, evaluation}
-use Rattle.certificate.specs.definitions.Tests.{scratchAfter, rootOutcome, rootPlaces, rootContraction, rootResidual, rootModel, displacement}
+use Rattle.model.specs.definitions.Add.{sumModel, addition}
+use Rattle.model.specs.definitions.Multiply.{productList}
+use Rattle.model.specs.definitions.Evaluate.{pointTerm, pointSum, pointError, lowBound, highBound, evaluation}
+use Rattle.certificate.specs.definitions.Tests.{scratchAfter, displacement}
+use Rattle.certificate.specs.definitions.Root.{rootOutcome, rootPlaces, rootContraction, rootResidual, rootModel}
 use Rattle.job.specs.definitions.Bytes.{signedsAt}
-use Rattle.job.specs.definitions.Makers.{makerPlaces, operation}
-use Rattle.job.specs.definitions.Commands.{makerAt, readingPlaces}
-use Rattle.job.specs.definitions.Jobs.{command, run, jobOutcome}
+use Rattle.job.specs.definitions.Operations.{makerPlaces, operation}
+use Rattle.job.specs.definitions.Decode.{makerAt}
+use Rattle.job.specs.definitions.Reading.{readingPlaces}
+use Rattle.job.specs.definitions.Step.{command}
+use Rattle.job.specs.definitions.Run.{run, jobOutcome}
 use Rattle.job.specs.definitions.Work.{checkOutcome, workAfter, workWith, resultWords, scratchAfterJob}
-use Rattle.ferruntzo.specs.definitions.Answers.{areaOut, operationAnswer, outcomeIn, binaryAnswer, evaluationAnswer, boundsIn, evaluateAnswer}
-use Rattle.ferruntzo.specs.definitions.TestAnswers.{testAnswer, testIn, rootAnswer}
-use Rattle.ferruntzo.specs.definitions.JobAnswers.{jobAnswer, checkAnswer}
+use Rattle.ferruntzo.specs.definitions.Areas.{areaOut}
+use Rattle.ferruntzo.specs.definitions.Operations.{operationAnswer, outcomeIn, binaryAnswer, evaluationAnswer, boundsIn, evaluateAnswer}
+use Rattle.ferruntzo.specs.definitions.Certificates.{testAnswer, testIn, rootAnswer}
+use Rattle.ferruntzo.specs.definitions.Jobs.{jobAnswer, checkAnswer}
 
 -- the numbers of a model, or of a candidate, from its degree, its first coefficients and how many numbers follow
 abbrev area : ℕ → List ℤ → ℕ → List ℤ

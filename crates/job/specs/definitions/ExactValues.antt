@@ -6,13 +6,13 @@ use mathlib.Core.Logic.{_⊎_}
 use Prim.Native.Nat.{ℕ, _<_}
 use lib.IntN.{pos}
 use Rattle.integer.specs.definitions.Fraction.{ℚ, whole, _+ℚ_, _-ℚ_, _*ℚ_, _≤ℚ_, ∣_∣ℚ, _/ℚ_}
-use Rattle.model.specs.definitions.Values.{Allows}
-use Rattle.certificate.specs.definitions.Tests.{RootRule}
+use Rattle.model.specs.definitions.Allowed.{Allows}
+use Rattle.certificate.specs.definitions.Root.{RootRule}
 use Rattle.model.specs.declared.types.Model.{Model}
-use Rattle.job.specs.definitions.Makers.{Maker, load, add, subtract, multiply, quotient, root, Making}
-use Rattle.job.specs.definitions.Makers.{of-none, of-one, of-two, makingFor}
-use Rattle.job.specs.definitions.Commands.{Command, result}
-use Rattle.job.specs.definitions.JobReading.{commandFor}
+use Rattle.job.specs.definitions.Operations.{Maker, load, add, subtract, multiply, quotient, root, Making}
+use Rattle.job.specs.definitions.Operations.{of-none, of-one, of-two, makingFor}
+use Rattle.job.specs.definitions.Decode.{Command, result}
+use Rattle.job.specs.definitions.Reader.{commandFor}
 
 -- v i is an exact value of result i at x, and so are the values of all that it is formed from
 pub data Exact (cs : List Command) (x : ℚ) (v : ℕ → ℚ) : ℕ → Type 0 where

@@ -10,13 +10,14 @@ use lib.ListN.{length, drop}
 use Rattle.integer.specs.definitions.Lists.{zeros}
 use Rattle.model.specs.definitions.Models.{coefficientCount}
 use Rattle.model.specs.definitions.Outcomes.{Outcome, accepted, refused, payload, numberOf}
-use Rattle.model.specs.definitions.Areas.{Storable}
+use Rattle.model.specs.definitions.Area.{Storable}
 use Rattle.certificate.specs.definitions.Tests.{scratchSize, scratchAfter, Certificate}
 use Rattle.model.specs.declared.types.Model.{Model}
 use Rattle.job.specs.definitions.Bytes.{byteAt}
-use Rattle.job.specs.definitions.Makers.{Maker, untested, namesBad, operation}
-use Rattle.job.specs.definitions.Commands.{maxResults, operandsFor, layoutFor, makerAt, commandAt, badNames, makesResult}
-use Rattle.job.specs.definitions.Jobs.{Step, more, over}
+use Rattle.job.specs.definitions.Operations.{Maker, untested, namesBad, operation}
+use Rattle.job.specs.definitions.Reading.{maxResults, badNames, makesResult}
+use Rattle.job.specs.definitions.Decode.{operandsFor, layoutFor, makerAt, commandAt}
+use Rattle.job.specs.definitions.Step.{Step, more, over}
 use Rattle.job.specs.definitions.Work.{workSize, workWith}
 use Rattle.job.specs.declared.types.Step.{Step as CodeStep}
 use Rattle.job.specs.declared.types.Step.the-variants.{More, Over, Refused}

@@ -8,9 +8,9 @@ use Prim.Native.Nat.{ℕ, _+_}
 use lib.ListN.{length}
 use Rattle.model.specs.definitions.Outcomes.{payload, Passed, First}
 use Rattle.model.specs.declared.types.Model.{Model}
-use Rattle.job.specs.definitions.Makers.{operation, makerPlaces}
-use Rattle.job.specs.definitions.Commands.{Command, edition, result, finish, unknown}
-use Rattle.job.specs.definitions.Commands.{shapeAt, commandRead, nextAt, isEnd, readingPlaces}
+use Rattle.job.specs.definitions.Operations.{operation, makerPlaces}
+use Rattle.job.specs.definitions.Decode.{Command, edition, result, finish, unknown}
+use Rattle.job.specs.definitions.Reading.{shapeAt, commandRead, nextAt, isEnd, readingPlaces}
 
 -- the places that a command's operation passes through
 abbrev pub operationPlaces : Command → List Model → List (Bool × ℕ)

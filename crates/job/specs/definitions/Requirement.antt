@@ -1,12 +1,12 @@
 -- Requirement 3 as one definition, `Requirement3`, the owner's sentences beside its fields, 01's beside what they speak of. What
 -- else a reader believes, besides the library's numbers and lists:
---   the commands in the bytes, signed numbers among them: Bytes, Commands, JobReading; the types of src/types.rt
---   what each command gives: Makers; model's Models, src/types.rt, Operations; certificate's Tests; chebyshev's Coefficients,
---     Product; integer's Rounding, Ring, Integer
+--   the commands in the bytes, signed numbers among them: Bytes, Decode, Reading, Reader; the types of src/types.rt
+--   what each command gives: Operations; model's Models, src/types.rt, Load, Add, Multiply; certificate's Tests, Quotient,
+--     Root; chebyshev's Coefficients, Product; integer's Rounding, Ring, Integer
 --   what refusals there are, and their order: `Meets` of Order, `areaPlaces` of Work; model's Outcomes
---   what the code's answer means: `jobOutcomeOf` of Outcomes; for C, `answerIn`, `exportedPlaces` of ferruntzo's JobAnswers
---   where the models stand in the work area: `storedResult`, `modelsIn` of Work; model's Areas
---   what a model allows, "from -1 to 1": model's Values; chebyshev's Allows, Coefficients, Recurrences
+--   what the code's answer means: `jobOutcomeOf` of Outcomes; for C, `answerIn`, `exportedPlaces` of ferruntzo's Jobs
+--   where the models stand in the work area: `storedResult`, `modelsIn` of Work; model's Area
+--   what a model allows, "from -1 to 1": model's Allowed; chebyshev's Allows, Coefficients, Recurrences
 --   fractions, their order and division: integer's Fraction, Pairs, FractionRing
 use mathlib.Core.Path.{_≡_}
 use mathlib.Core.Bool.{Bool, false}
@@ -16,13 +16,14 @@ use Prim.Native.Nat.{ℕ, _<_}
 use lib.IntN.{ℤ, pos}
 use lib.ListN.{length}
 use Rattle.integer.specs.definitions.Fraction.{ℚ, whole, _+ℚ_, _-ℚ_, _*ℚ_, _≤ℚ_, _<ℚ_, _/ℚ_}
-use Rattle.model.specs.definitions.Values.{Allows, OnInterval}
+use Rattle.model.specs.definitions.Allowed.{Allows, OnInterval}
 use Rattle.model.specs.definitions.Outcomes.{Outcome}
-use Rattle.certificate.specs.definitions.Tests.{Certificate, RootRule}
+use Rattle.certificate.specs.definitions.Tests.{Certificate}
+use Rattle.certificate.specs.definitions.Root.{RootRule}
 use Rattle.model.specs.declared.types.Model.{Model}
-use Rattle.job.specs.definitions.Makers.{Maker, load, add, subtract, multiply, quotient, root, namesBad, operation}
-use Rattle.job.specs.definitions.Commands.{Command, result}
-use Rattle.job.specs.definitions.JobReading.{jobReading, well, commandFor}
+use Rattle.job.specs.definitions.Operations.{Maker, load, add, subtract, multiply, quotient, root, namesBad, operation}
+use Rattle.job.specs.definitions.Decode.{Command, result}
+use Rattle.job.specs.definitions.Reader.{jobReading, well, commandFor}
 use Rattle.job.specs.definitions.Outcomes.{JobOutcome, accepted}
 use Rattle.job.specs.definitions.Order.{Meets}
 use Rattle.job.specs.definitions.Work.{storedResult, modelsIn}

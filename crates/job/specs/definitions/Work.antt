@@ -7,11 +7,11 @@ use lib.Dec.{leb}
 use lib.IntN.{ℤ}
 use lib.ListN.{length, take, drop}
 use Rattle.integer.specs.definitions.Lists.{zeros}
-use Rattle.model.specs.definitions.Areas.{modelSize, words, areaModel}
+use Rattle.model.specs.definitions.Area.{modelSize, words, areaModel}
 use Rattle.certificate.specs.definitions.Tests.{scratchSize}
 use Rattle.model.specs.declared.types.Model.{Model}
 use Rattle.job.specs.definitions.Outcomes.{JobOutcome, accepted, refused}
-use Rattle.job.specs.definitions.Jobs.{jobOutcome}
+use Rattle.job.specs.definitions.Run.{jobOutcome}
 
 -- the numbers of the whole area
 abbrev pub workSize : ℕ

@@ -10,11 +10,12 @@ use lib.Dec.{eqb}
 use lib.IntN.{ℤ}
 use lib.ListN.{length, length-append}
 use Rattle.model.specs.declared.types.Model.{Model}
-use Rattle.job.specs.definitions.Makers.{operation}
-use Rattle.job.specs.definitions.Commands.{makerAt, commandAt, shapeAt, maxResults, badKind, isEnd}
+use Rattle.job.specs.definitions.Operations.{operation}
+use Rattle.job.specs.definitions.Decode.{makerAt, commandAt}
+use Rattle.job.specs.definitions.Reading.{shapeAt, maxResults, badKind, isEnd}
 use Rattle.model.specs.definitions.Outcomes.{payload}
 use Rattle.job.specs.definitions.Outcomes.{JobOutcome, accepted, refused, counted, refusedCommand, resultCount}
-use Rattle.job.specs.definitions.Jobs.{jobOutcome}
+use Rattle.job.specs.definitions.Run.{jobOutcome}
 use Rattle.job.specs.definitions.Work.{areasFit, checkOutcome}
 use Rattle.job.specs.definitions.Order.{resultsAfter, Reaches, start, next}
 use Rattle.job.specs.laws.OrderLaws.{reaches-bounds, refused-exactly, accepted-exactly}

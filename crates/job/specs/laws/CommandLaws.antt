@@ -11,9 +11,10 @@ use Rattle.model.specs.definitions.Outcomes.{Outcome, accepted, payload, Passed
 use Rattle.model.specs.laws.PlaceLaws.{passing-passed, outcome-passed, first-parts, passed-append, passing-first, none-first}
 use Rattle.certificate.specs.definitions.Tests.{zeroCertificate}
 use Rattle.model.specs.declared.types.Model.{Model}
-use Rattle.job.specs.definitions.Makers.{Maker, makingFor, givenIn, operation, makerPlaces}
-use Rattle.job.specs.definitions.Commands.{Command, edition, result, finish, unknown, makerAt, commandAt, shapeAt, commandRead, nextAt, maxResults, badKind, badValues, badNames, makesResult, isEnd, readingPlaces}
-use Rattle.job.specs.definitions.Jobs.{more, over, refused, resulting, performed, command}
+use Rattle.job.specs.definitions.Operations.{Maker, makingFor, givenIn, operation, makerPlaces}
+use Rattle.job.specs.definitions.Decode.{Command, edition, result, finish, unknown, makerAt, commandAt}
+use Rattle.job.specs.definitions.Reading.{shapeAt, commandRead, nextAt, maxResults, badKind, badValues, badNames, makesResult, isEnd, readingPlaces}
+use Rattle.job.specs.definitions.Step.{more, over, refused, resulting, performed, command}
 use Rattle.job.specs.definitions.Order.{operationPlaces, resultsAfter, commandPlaces, isLast}
 use Rattle.job.specs.declared.types.Kind.{Kind}
 use Rattle.job.specs.declared.types.Kind.the-variants.{End, Edition, Result, Unknown}

@@ -9,12 +9,12 @@ use lib.IntN.{ℤ, pos}
 use Rattle.integer.specs.laws.OrderedRingLaws.{le-refl, le-of-eq}
 use Rattle.integer.specs.definitions.Fraction.{ℚ, whole, _*ℚ_, _≤ℚ_, _<ℚ_}
 use Rattle.integer.specs.laws.FractionOrder.{ℚ-ordered, ≤ℚ-antisym, ≤ℚ-decide}
-use Rattle.model.specs.definitions.Values.{Allows, OnInterval}
-use Rattle.certificate.specs.definitions.Tests.{RootRule}
+use Rattle.model.specs.definitions.Allowed.{Allows, OnInterval}
+use Rattle.certificate.specs.definitions.Root.{RootRule}
 use Rattle.model.specs.declared.types.Model.{Model}
-use Rattle.job.specs.definitions.Makers.{quotient, root}
-use Rattle.job.specs.definitions.Commands.{Command, result}
-use Rattle.job.specs.definitions.JobReading.{commandFor}
+use Rattle.job.specs.definitions.Operations.{quotient, root}
+use Rattle.job.specs.definitions.Decode.{Command, result}
+use Rattle.job.specs.definitions.Reader.{commandFor}
 use Rattle.job.specs.definitions.Outcomes.{JobOutcome, accepted}
 use Rattle.job.specs.definitions.Work.{storedResult}
 use Rattle.job.specs.definitions.Requirement.{Box, Lies, Permitted, load-box, add-box, subtract-box, multiply-box, quotient-box, root-box, Results, Requirement3}

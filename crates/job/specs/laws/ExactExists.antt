@@ -11,10 +11,10 @@ use lib.IntN.{ℤ}
 use Rattle.integer.specs.definitions.Fraction.{ℚ, _*ℚ_, -ℚ_, ∣_∣ℚ}
 use Rattle.integer.specs.laws.FractionSolver.{reifyℚ, solveℚ}
 use Rattle.integer.specs.laws.FractionOrder.{absℚ-nonneg, absℚ-cases}
-use Rattle.model.specs.definitions.Values.{Allows, OnInterval}
-use Rattle.job.specs.definitions.Makers.{Maker, load, add, subtract, multiply, quotient, root, makingFor, namesBad}
-use Rattle.job.specs.definitions.Commands.{Command, result}
-use Rattle.job.specs.definitions.JobReading.{commandFor}
+use Rattle.model.specs.definitions.Allowed.{Allows, OnInterval}
+use Rattle.job.specs.definitions.Operations.{Maker, load, add, subtract, multiply, quotient, root, makingFor, namesBad}
+use Rattle.job.specs.definitions.Decode.{Command, result}
+use Rattle.job.specs.definitions.Reader.{commandFor}
 use Rattle.job.specs.definitions.Outcomes.{JobOutcome, accepted}
 use Rattle.job.specs.definitions.Work.{storedResult}
 use Rattle.job.specs.laws.WorkLaws.{length-modelsIn}

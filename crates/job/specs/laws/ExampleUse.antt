@@ -14,7 +14,7 @@ use Rattle.integer.specs.laws.PairLaws.{den-is}
 use Rattle.integer.specs.laws.FractionOrder.{fraction-le, fraction-neg}
 use Rattle.model.specs.definitions.Outcomes.{Passed}
 use Rattle.model.specs.laws.PlaceLaws.{none-first}
-use Rattle.model.specs.definitions.Values.{Allows, OnInterval}
+use Rattle.model.specs.definitions.Allowed.{Allows, OnInterval}
 use Rattle.job.specs.definitions.Outcomes.{JobOutcome, accepted}
 use Rattle.job.specs.definitions.Order.{Meets}
 use Rattle.job.specs.laws.OrderLaws.{accepted-unless-refused}

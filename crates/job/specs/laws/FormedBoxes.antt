@@ -9,10 +9,10 @@ use native.Mathlib.Omega.{arith}
 use borrow.Author.Tests.{leb-false}
 use lib.IntN.{ℤ, pos}
 use Rattle.integer.specs.definitions.Fraction.{ℚ, whole, _+ℚ_, _-ℚ_, _*ℚ_, _≤ℚ_, _<ℚ_, _/ℚ_}
-use Rattle.model.specs.definitions.Values.{Allows, OnInterval}
-use Rattle.job.specs.definitions.Makers.{Maker, load, add, subtract, multiply, quotient, root}
-use Rattle.job.specs.definitions.Commands.{Command, result}
-use Rattle.job.specs.definitions.JobReading.{commandFor}
+use Rattle.model.specs.definitions.Allowed.{Allows, OnInterval}
+use Rattle.job.specs.definitions.Operations.{Maker, load, add, subtract, multiply, quotient, root}
+use Rattle.job.specs.definitions.Decode.{Command, result}
+use Rattle.job.specs.definitions.Reader.{commandFor}
 use Rattle.job.specs.definitions.Outcomes.{JobOutcome, accepted}
 use Rattle.job.specs.definitions.Work.{storedResult}
 use Rattle.job.specs.laws.CommandLaws.{both-below}

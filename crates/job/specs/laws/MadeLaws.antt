@@ -13,9 +13,9 @@ use Rattle.model.specs.definitions.Models.{zeroModel}
 use Rattle.model.specs.definitions.Outcomes.{accepted, outcome}
 use Rattle.certificate.specs.definitions.Tests.{Certificate, zeroCertificate}
 use Rattle.model.specs.declared.types.Model.{Model}
-use Rattle.job.specs.definitions.Makers.{Maker, Given, Making, of-none, of-one, of-two, makingFor, badIn, resultAt, givenIn, namesBad, makerPlaces, operation}
-use Rattle.job.specs.definitions.Commands.{Command, edition, result, finish, unknown}
-use Rattle.job.specs.definitions.JobReading.{commandFor}
+use Rattle.job.specs.definitions.Operations.{Maker, Given, Making, of-none, of-one, of-two, makingFor, badIn, resultAt, givenIn, namesBad, makerPlaces, operation}
+use Rattle.job.specs.definitions.Decode.{Command, edition, result, finish, unknown}
+use Rattle.job.specs.definitions.Reader.{commandFor}
 use Rattle.job.specs.definitions.Requirement.{Made, nothing, one-more}
 use Rattle.job.specs.laws.CommandLaws.{both-below}
 

@@ -9,9 +9,9 @@ use Rattle.model.specs.definitions.Models.{zeroModel}
 use Rattle.model.specs.definitions.Outcomes.{Outcome, payload}
 use Rattle.certificate.specs.definitions.Tests.{Certificate}
 use Rattle.model.specs.declared.types.Model.{Model}
-use Rattle.job.specs.definitions.Makers.{resultAt}
-use Rattle.job.specs.definitions.Commands.{Command, edition, result, finish, unknown}
-use Rattle.job.specs.definitions.JobReading.{commandFor}
+use Rattle.job.specs.definitions.Operations.{resultAt}
+use Rattle.job.specs.definitions.Decode.{Command, edition, result, finish, unknown}
+use Rattle.job.specs.definitions.Reader.{commandFor}
 use Rattle.job.specs.definitions.Requirement.{Made}
 use Rattle.job.specs.laws.MadeLaws.{MadeBy, made-at, made-length}
 

@@ -11,14 +11,19 @@ use Rattle.chebyshev.specs.definitions.Coefficients.{weight, addLists, subtract
 use Rattle.chebyshev.specs.definitions.Product.{addAt, addPair, addTerm, addTerms, product}
 use Rattle.model.specs.definitions.Models.{makeModel, good, tooLarge, zeroModel}
 use Rattle.model.specs.definitions.Outcomes.{passing}
-use Rattle.model.specs.definitions.Operations.{sumModel, differenceModel, productModel, productList, productLoss, rounded, roundingLoss}
+use Rattle.model.specs.definitions.Add.{sumModel, differenceModel}
+use Rattle.model.specs.definitions.Multiply.{productModel, productList, productLoss, rounded, roundingLoss}
 use Rattle.model.specs.declared.types.Model.{Model}
-use Rattle.certificate.specs.definitions.Tests.{rootPlaces, quotientContraction, quotientResidual, quotientModel, rootContraction, rootResidual, rootModel, displacement}
+use Rattle.certificate.specs.definitions.Root.{rootPlaces, rootContraction, rootResidual, rootModel}
+use Rattle.certificate.specs.definitions.Quotient.{quotientContraction, quotientResidual, quotientModel}
+use Rattle.certificate.specs.definitions.Tests.{displacement}
 use Rattle.job.specs.definitions.Bytes.{signedsAt}
-use Rattle.job.specs.definitions.Makers.{makerPlaces, operation}
-use Rattle.job.specs.definitions.Commands.{makerAt, readingPlaces}
+use Rattle.job.specs.definitions.Operations.{makerPlaces, operation}
+use Rattle.job.specs.definitions.Decode.{makerAt}
+use Rattle.job.specs.definitions.Reading.{readingPlaces}
 use Rattle.job.specs.definitions.Outcomes.{JobOutcome, accepted, refused}
-use Rattle.job.specs.definitions.Jobs.{command, run, jobOutcome}
+use Rattle.job.specs.definitions.Step.{command}
+use Rattle.job.specs.definitions.Run.{run, jobOutcome}
 use Rattle.job.specs.definitions.Work.{checkOutcome, workWith, resultWords, workAfter, scratchAfterJob}
 use Rattle.job.specs.laws.ExampleBytes.{block, modelBy, job, loadBytes, one, two}
 

@@ -10,7 +10,7 @@ use lib.IntN.{ℤ}
 use lib.ListN.{length, length-append, List·getD-append}
 use lib.Seq.{getD-at}
 use Rattle.model.specs.definitions.Models.{zeroModel}
-use Rattle.job.specs.definitions.Makers.{resultAt}
+use Rattle.job.specs.definitions.Operations.{resultAt}
 use Rattle.job.specs.definitions.Work.{storedResult, modelsIn}
 
 pub length-modelsIn : (w : List ℤ) (n : ℕ) → length (modelsIn w n) ≡ n

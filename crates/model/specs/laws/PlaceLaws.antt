@@ -8,7 +8,8 @@ use native.Mathlib.Omega.{arith}
 use borrow.Author.Tests.{not-false}
 use Rattle.model.specs.definitions.Models.{good, zeroModel, badPlace}
 use Rattle.model.specs.definitions.Outcomes.{accepted, refused, number, payload, outcome, passing, Passed, First, here, later}
-use Rattle.model.specs.definitions.Operations.{sumModel, differenceModel, productModel, addition, subtraction, multiplication}
+use Rattle.model.specs.definitions.Add.{sumModel, differenceModel, addition, subtraction}
+use Rattle.model.specs.definitions.Multiply.{productModel, multiplication}
 use Rattle.model.specs.declared.types.Model.{Model}
 
 module _ {A : Type 0} where

@@ -9,9 +9,10 @@ use lib.Dec.{ltb}
 use Rattle.chebyshev.specs.definitions.Coefficients.{weight}
 use Rattle.model.specs.definitions.Models.{maxDegree, maxWeight, maxRadius, tooLarge, zeroModel}
 use Rattle.model.specs.definitions.Outcomes.{refused, payload, outcome, passing, Passed}
-use Rattle.model.specs.definitions.Areas.{Storable}
-use Rattle.model.specs.definitions.Operations.{addition, subtraction, multiplication}
-use Rattle.model.specs.definitions.Integral.{integration}
+use Rattle.model.specs.definitions.Area.{Storable}
+use Rattle.model.specs.definitions.Add.{addition, subtraction}
+use Rattle.model.specs.definitions.Multiply.{multiplication}
+use Rattle.model.specs.definitions.Integrate.{integration}
 use Rattle.model.specs.declared.types.Model.{Model}
 
 pub neither : (a b : Bool) → (a || b) ≡ false → (a ≡ false) × (b ≡ false)

@@ -5,10 +5,10 @@ use Prim.Native.Nat.{_≤_}
 use lib.ListN.{length}
 use denote.Ref.{now}
 use Rattle.model.specs.definitions.Outcomes.{Outcome, payload}
-use Rattle.model.specs.definitions.Areas.{modelSize, Storable}
+use Rattle.model.specs.definitions.Area.{modelSize, Storable}
 use Rattle.model.specs.laws.ResultLaws.{addition-storable, subtraction-storable, multiplication-storable}
 use Rattle.model.specs.declared.types.Model.{Model}
-use Rattle.ferruntzo.specs.definitions.Answers.{operationFor, outcomeIn}
+use Rattle.ferruntzo.specs.definitions.Operations.{operationFor, outcomeIn}
 use Rattle.ferruntzo.specs.declared.operations.Operation.{Operation}
 use Rattle.ferruntzo.specs.declared.operations.Operation.the-variants.{Add, Subtract, Multiply}
 use Rattle.ferruntzo.proofs.Answering.{three-fit, outcome-storable}

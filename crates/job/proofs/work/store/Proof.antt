@@ -8,7 +8,7 @@ use native.Mathlib.Omega.{arith}
 use lib.IntN.{ℤ}
 use lib.ListN.{take}
 use denote.Ref.{now}
-use Rattle.model.specs.definitions.Areas.{modelSize, words}
+use Rattle.model.specs.definitions.Area.{modelSize, words}
 use Rattle.job.proofs.work.store.Statement.{statement}
 use Rattle.job.proofs.work.store.Tie as tie
 

@@ -5,7 +5,7 @@ use Prim.Native.Nat.{ℕ, _*_}
 use native.Mathlib.Nat.{add-sub-cancel-left}
 use lib.ListN.{take, drop}
 use denote.Ref.{now}
-use Rattle.model.specs.definitions.Areas.{modelSize, areaModel}
+use Rattle.model.specs.definitions.Area.{modelSize, areaModel}
 use Rattle.job.proofs.work.stored_result.Statement.{statement}
 use Rattle.job.proofs.work.stored_result.Tie as tie
 

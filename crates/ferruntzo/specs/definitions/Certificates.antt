@@ -5,13 +5,11 @@ use Prim.Native.Nat.{ℕ}
 use lib.IntN.{ℤ}
 use lib.ListN.{length}
 use Rattle.model.specs.definitions.Outcomes.{Outcome, refused, number, payload}
-use Rattle.model.specs.definitions.Areas.{modelSize, candidateSize, words, areaModel, areaCandidate}
-use Rattle.certificate.specs.definitions.Tests.{scratchSize, scratchAfter, Certificate, zeroCertificate, quotientTest, rootTest}
-use Rattle.ferruntzo.specs.definitions.Answers.{fits, areaOut}
-
--- how many numbers m, N and b are
-abbrev pub numbersSize : ℕ
-numbersSize = 3
+use Rattle.model.specs.definitions.Area.{modelSize, candidateSize, words, areaModel, areaCandidate}
+use Rattle.certificate.specs.definitions.Tests.{scratchSize, scratchAfter, Certificate, zeroCertificate}
+use Rattle.certificate.specs.definitions.Quotient.{quotientTest}
+use Rattle.certificate.specs.definitions.Root.{rootTest}
+use Rattle.ferruntzo.specs.definitions.Areas.{fits, areaOut, numbersSize}
 
 -- refusal 1, whichever area is too short: "Any other number an entry answers … is zero on refusal too"
 abbrev pub shortTest : Outcome Certificate

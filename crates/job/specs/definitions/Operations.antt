@@ -8,10 +8,12 @@ use lib.Dec.{leb}
 use lib.ListN.{getD}
 use Rattle.model.specs.definitions.Models.{zeroModel}
 use Rattle.model.specs.definitions.Outcomes.{Outcome, outcome}
-use Rattle.model.specs.definitions.Operations.{loadingPlaces, sumModel, additionPlaces, differenceModel, subtractionPlaces}
-use Rattle.model.specs.definitions.Operations.{productModel, multiplicationPlaces}
+use Rattle.model.specs.definitions.Load.{loadingPlaces}
+use Rattle.model.specs.definitions.Add.{sumModel, additionPlaces, differenceModel, subtractionPlaces}
+use Rattle.model.specs.definitions.Multiply.{productModel, multiplicationPlaces}
 use Rattle.certificate.specs.definitions.Tests.{scratchSize, Certificate, makeCertificate, zeroCertificate}
-use Rattle.certificate.specs.definitions.Tests.{quotientPlaces, quotientCertificate, RootRule, rootTestPlaces, rootCertificate}
+use Rattle.certificate.specs.definitions.Quotient.{quotientPlaces, quotientCertificate}
+use Rattle.certificate.specs.definitions.Root.{RootRule, rootTestPlaces, rootCertificate}
 use Rattle.model.specs.declared.types.Model.{Model}
 use Rattle.job.specs.declared.types.Names.{Names}
 use Rattle.job.specs.declared.types.Names.the-variants.{Nothing, One, Two}
