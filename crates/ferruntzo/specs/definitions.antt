@@ -1,3 +1,4 @@
-pub mod Answers
-pub mod TestAnswers
-pub mod JobAnswers
+pub mod Areas
+pub mod Operations
+pub mod Certificates
+pub mod Jobs

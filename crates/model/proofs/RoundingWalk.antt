@@ -11,7 +11,7 @@ use Rattle.chebyshev.specs.definitions.Coefficients.{weight}
 use Rattle.chebyshev.specs.laws.Weight.{weight-step, weight-end}
 use Rattle.model.specs.definitions.InnerContracts.{RoundedFrom}
 use Rattle.model.specs.definitions.Models.{coefficientCount, maxWeight}
-use Rattle.model.specs.definitions.Operations.{rounded, roundingLoss}
+use Rattle.model.specs.definitions.Multiply.{rounded, roundingLoss}
 use Rattle.model.specs.laws.RoundingPassLaws.{roundedAt, lossAt, rounded-length, rounded-at, rounded-weight, loss-step, loss-end, loss-weight}
 
 -- k of the numbers are rounded: their weight and their loss in rest form, with `dropped` lost besides; they are written as

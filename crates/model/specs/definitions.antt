@@ -1,8 +1,10 @@
 pub mod Models
 pub mod Outcomes
 pub mod InnerContracts
-pub mod Areas
-pub mod Values
-pub mod Operations
-pub mod Integral
-pub mod Evaluation
+pub mod Area
+pub mod Allowed
+pub mod Load
+pub mod Add
+pub mod Multiply
+pub mod Integrate
+pub mod Evaluate

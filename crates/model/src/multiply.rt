@@ -8,7 +8,7 @@ ghost use Rattle.model.specs.definitions.InnerContracts.{Factors, Limite
 ghost use Rattle.model.specs.definitions.InnerContracts.{RoundedFrom, unlessLarge};
 ghost use Rattle.model.specs.definitions.Models.{coefficientCount, productSize};
 ghost use Rattle.model.specs.definitions.Outcomes.{outcomeOf};
-ghost use Rattle.model.specs.definitions.Operations.{productModel, multiplication};
+ghost use Rattle.model.specs.definitions.Multiply.{productModel, multiplication};
 use crate::measure::measure;
 use crate::measure::weigh;
 use crate::products::add_products;

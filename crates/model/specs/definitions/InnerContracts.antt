@@ -11,8 +11,8 @@ use Rattle.chebyshev.specs.definitions.Coefficients.{weight, addLists, scaleLis
 use Rattle.model.specs.definitions.Models.{scale, coefficientCount, maxDegree, maxWeight, maxRadius, good}
 use Rattle.model.specs.definitions.Models.{makeModel, zeroModel, badPlace, largePlace}
 use Rattle.model.specs.definitions.Outcomes.{Outcome, outcome}
-use Rattle.model.specs.definitions.Operations.{rounded, roundingLoss}
-use Rattle.model.specs.definitions.Integral.{halved, alternating}
+use Rattle.model.specs.definitions.Multiply.{rounded, roundingLoss}
+use Rattle.model.specs.definitions.Integrate.{halved, alternating}
 use Rattle.model.specs.declared.types.Model.{Model}
 use Rattle.model.specs.declared.multiply.Rounded.{Rounded}
 

@@ -1,4 +1,4 @@
--- Laws of the rounding in a product (Operations.antt): `rounded` and `roundingLoss` at a place, their steps, and their bounds.
+-- Laws of the rounding in a product (Multiply.antt): `rounded` and `roundingLoss` at a place, their steps, and their bounds.
 use mathlib.Core.Path.{_≡_, sym, _∙_, ap}
 use mathlib.Core.List.{List, [], _∷_}
 use Prim.Native.Nat.{ℕ, _+_, _*_, _<_, _≤_}
@@ -16,7 +16,7 @@ use Rattle.chebyshev.specs.definitions.Coefficients.{weight}
 use Rattle.chebyshev.specs.laws.Weight.{weight-split}
 use Rattle.model.specs.definitions.InnerContracts.{RoundedFrom}
 use Rattle.model.specs.definitions.Models.{scale}
-use Rattle.model.specs.definitions.Operations.{rounded, roundingLoss}
+use Rattle.model.specs.definitions.Multiply.{rounded, roundingLoss}
 use Rattle.model.specs.declared.multiply.Rounded.{Rounded}
 
 -- one number: c = near(C/(2S)), and |C − 2S·c|
