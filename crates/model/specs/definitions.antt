@@ -3,6 +3,7 @@ pub mod Outcomes
 pub mod InnerContracts
 pub mod Areas
 pub mod Values
+pub mod Round
 pub mod Operations
 pub mod Integral
 pub mod Evaluation

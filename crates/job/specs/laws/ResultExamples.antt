@@ -11,7 +11,8 @@ use Rattle.chebyshev.specs.definitions.Coefficients.{weight, addLists, subtract
 use Rattle.chebyshev.specs.definitions.Product.{addAt, addPair, addRow, addRows, product}
 use Rattle.model.specs.definitions.Models.{makeModel, good, tooLarge, zeroModel}
 use Rattle.model.specs.definitions.Outcomes.{passing}
-use Rattle.model.specs.definitions.Operations.{sumModel, differenceModel, productModel, productList, productLoss, rounded, roundingLoss}
+use Rattle.model.specs.definitions.Operations.{sumModel, differenceModel, productModel, productList, productLoss}
+use Rattle.model.specs.definitions.Round.{rounded, roundingLoss}
 use Rattle.model.specs.declared.types.Model.{Model}
 use Rattle.certificate.specs.definitions.Tests.{rootPlaces, quotientContraction, quotientResidual, quotientModel, rootContraction, rootResidual, rootModel, displacement}
 use Rattle.job.specs.definitions.Bytes.{signedsAt}

@@ -11,10 +11,8 @@ use Rattle.chebyshev.specs.definitions.Coefficients.{weight, addLists, scaleLis
 use Rattle.model.specs.definitions.Models.{scale, coefficientCount, maxDegree, maxWeight, maxRadius, good}
 use Rattle.model.specs.definitions.Models.{makeModel, zeroModel, badPlace, largePlace}
 use Rattle.model.specs.definitions.Outcomes.{Outcome, outcome}
-use Rattle.model.specs.definitions.Operations.{rounded, roundingLoss}
 use Rattle.model.specs.definitions.Integral.{halved, alternating}
 use Rattle.model.specs.declared.types.Model.{Model}
-use Rattle.model.specs.declared.multiply.Rounded.{Rounded}
 
 -- ---- what is asked
 
@@ -61,12 +59,6 @@ pub record Integrable (degree : ℕ) (doubled : List ℤ) : Type 0 where
   pub degree-fits : degree < maxDegree
   pub light : weight doubled ≤ 2 * maxWeight
 
--- a list of which the first numbers are to be rounded
-pub record Roundable (c : List ℤ) (kept : ℕ) : Type 0 where
-  pub kept-fits : kept ≤ coefficientCount
-  pub there : kept ≤ length c
-  pub light : weight c < 2 ^ 62
-
 -- ---- a result that is formed
 
 -- a result, refused with 3 where it is too large
@@ -90,13 +82,6 @@ combinedModel s a b =
 unfoldable pub combination : ℤ → Model → Model → Outcome Model
 combination s a b =
     outcome (badPlace a ∷ badPlace b ∷ largePlace (combinedModel s a b) ∷ []) (combinedModel s a b) zeroModel
-
--- ---- the pass over a list c, of which the first n numbers are kept
-
-pub record RoundedFrom (c : List ℤ) (n : ℕ) (r : Rounded) : Type 0 where
-  pub weight-is : r .weight ≡ weight (rounded (take n c))
-  pub loss-is : r .loss ≡ roundingLoss (take n c) + weight (drop n c)
-  pub coefficients-are : r .weight ≤ maxWeight → r .coefficients ≡ rounded (take n c) ++ replicate (coefficientCount - n) (pos 0)
 
 -- ---- the integral from the list ds = 2·a_0, a_1, …
 

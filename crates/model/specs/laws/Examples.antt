@@ -9,7 +9,8 @@ use Rattle.chebyshev.specs.definitions.Coefficients.{weight, addLists, subtract
 use Rattle.chebyshev.specs.definitions.Product.{addAt, addPair, addRow, addRows, product}
 use Rattle.model.specs.definitions.Models.{coefficientCount, good, tooLarge, makeModel, constantModel, zeroModel}
 use Rattle.model.specs.definitions.Outcomes.{accepted, passing}
-use Rattle.model.specs.definitions.Operations.{multiplication, productModel, productList, productLoss, rounded, roundingLoss}
+use Rattle.model.specs.definitions.Operations.{multiplication, productModel, productList, productLoss}
+use Rattle.model.specs.definitions.Round.{rounded, roundingLoss}
 use Rattle.model.specs.definitions.Integral.{integration, integralModel, integralList, halved, numerators, doubleFirst, alternating}
 use Rattle.model.specs.definitions.Evaluation.{evaluation, lowBound, highBound, pointTerm, pointSum, pointError}
 use Rattle.model.specs.declared.types.Model.{Model}

@@ -15,7 +15,7 @@ use Rattle.chebyshev.specs.definitions.Product.{product}
 use Rattle.chebyshev.specs.laws.ProductLaws.{length-product}
 use Rattle.chebyshev.specs.laws.ProductWeight.{weight-product}
 use Rattle.chebyshev.specs.laws.ProductEnd.{product-end}
-use Rattle.model.specs.definitions.Models.{productSize}
+use Rattle.model.specs.definitions.Models.{scale, productSize}
 use Rattle.model.specs.laws.RoundingPassLaws.{rounded-prefix}
 use Rattle.model.proofs.multiply.round_product.Statement.{statement}
 use Rattle.model.proofs.multiply.round_product.Tie as tie
@@ -56,7 +56,7 @@ round-requires c κs =
 returns : tie.Need-returns
 returns c =
     let s = c .before .before .before .before .before in
-    rounded-prefix (C s) (end s) (s .args .kept) (c .round .result) (product-end productSize (end s) (a s) (b s) (omega arith)) (omega (arith, s .pre))
+    rounded-prefix (2 * scale) (C s) (end s) (s .args .kept) (c .round .result) (product-end productSize (end s) (a s) (b s) (omega arith)) (omega (arith, s .pre))
     (rw (formed (c .before .before .before)) at (c .round .ensures))
 
 pub round-product-spec : {M : Type 1} → statement M

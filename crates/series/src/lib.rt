@@ -1,0 +1,2 @@
+// Models from power series.
+pub mod table;
