@@ -1,1 +1,3 @@
 pub mod Table
+pub mod Convert
+pub mod SeriesValue

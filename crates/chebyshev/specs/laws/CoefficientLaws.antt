@@ -121,6 +121,18 @@ module _ (R : CommutativeRing) where
   unfolding subtractLists
   getD-subtract a b i = rw (getD-add, opposite-scale, getD-scale, ← opp-is)
 
+  pub add-nil : (a : List A) → addLists R a [] ≡ a
+  unfolding addLists
+  add-nil [] = refl
+  add-nil (x ∷ a) = refl
+
+  pub addLists-assoc : (a b c : List A) → addLists R (addLists R a b) c ≡ addLists R a (addLists R b c)
+  unfolding addLists
+  addLists-assoc [] b c = refl
+  addLists-assoc (x ∷ a) [] c = refl
+  addLists-assoc (x ∷ a) (y ∷ b) [] = refl
+  addLists-assoc (x ∷ a) (y ∷ b) (z ∷ c) = ap₂ _∷_ (add-assoc x y z) (addLists-assoc a b c)
+
   -- where b is the shorter list, the sum changes only the places of b
   add-split : (a b : List A) → length b ≤ length a → addLists R a b ≡ addLists R (take (length b) a) b ++ drop (length b) a
   unfolding addLists
