@@ -1,7 +1,7 @@
 -- Laws of the expanded series (Convert.antt) for code that forms it: a row's part of the table, steps, lengths and weights; and the
 -- series within its limits.
 use mathlib.Core.Path.{_≡_, refl, sym, _∙_, ap, ap₂}
-use mathlib.Core.Bool.{true}
+use mathlib.Core.Bool.{true, false}
 use mathlib.Core.List.{List, [], _∷_, _++_}
 use Prim.Native.Nat.{ℕ, zero, suc, _+_, _-_, _*_, _<_, _≤_, max}
 use native.Mathlib.Omega.{arith}
@@ -9,14 +9,24 @@ use native.Mathlib.Numerals.{add-one}
 use native.Mathlib.Nat.{mul-le-mul}
 use lib.IntN.{ℤ, pos, natAbs}
 use lib.ListN.{length, getD, take, drop, replicate, length-append, length-replicate, drop-of-length-le}
-use lib.Seq.{drop-cons, take-append-seam, drop-append-add}
+use lib.Seq.{drop-cons, take-all, take-append-seam, drop-append-add}
 use Rattle.integer.specs.definitions.Integer.{ℤ-ring}
 use Rattle.chebyshev.specs.definitions.Coefficients.{weight, addLists, scaleList}
 use Rattle.chebyshev.specs.laws.CoefficientLaws.{length-add, length-scale}
-use Rattle.chebyshev.specs.laws.Weight.{weight-add, weight-scale}
-use Rattle.model.specs.definitions.Models.{maxDegree, coefficientCount}
+use Rattle.chebyshev.specs.laws.Weight.{weight-add, weight-scale, weight-append-zeros, weight-end}
+use Rattle.integer.specs.definitions.Rounding.{upℕ}
+use Rattle.model.specs.definitions.Areas.{Storable}
+use Rattle.model.specs.definitions.InnerContracts.{formedOutcome, unlessLarge}
+use Rattle.model.specs.definitions.Models.{maxDegree, coefficientCount, makeModel, zeroModel, good}
+use Rattle.model.specs.definitions.Outcomes.{refused, values, passing}
+use Rattle.model.specs.definitions.Round.{rounded, roundingLoss, RoundedFrom}
+use Rattle.model.specs.laws.FormedLaws.{formed-is}
+use Rattle.model.specs.laws.ModelLaws.{Good, good-is}
+use Rattle.model.specs.laws.ResultLaws.{stored}
+use Rattle.model.specs.declared.round.Rounded.{Rounded}
 use Rattle.series.specs.definitions.Table.{expansionUnit, expansionRow, rowsFrom, expansionTable}
-use Rattle.series.specs.definitions.Convert.{expandedFrom}
+use Rattle.series.specs.definitions.Convert.{powers, goodSeries, expandedFrom, expanded, seriesModel, conversion}
+use Rattle.series.specs.declared.types.Series.{Series}
 use Rattle.series.specs.laws.RowLaws.{length-row, weight-row}
 
 -- ---- where row k stands in the table
@@ -93,3 +103,52 @@ weight-expanded k (p ∷ ps) h =
       multiple-weight k p (omega arith),
       weight-expanded (suc k) ps (omega arith),
     )
+
+-- added to zeros, the expanded series stands in the first places
+pub from-zeros : (m : ℕ) (e : List ℤ) → length e ≤ m → take (length e) (addLists ℤ-ring (replicate m (pos 0)) e) ≡ e
+unfolding addLists
+from-zeros zero [] h = refl
+from-zeros zero (x ∷ e) h = absurd (omega arith)
+from-zeros (suc m) [] h = refl
+from-zeros (suc m) (x ∷ e) h = ap₂ _∷_ (ℤ-ring .zero-add x) (from-zeros m e (omega arith))
+
+-- ---- a series within its limits
+
+-- the limits are a model's, with radius 0
+pub series-good : (s : Series) → good (makeModel (s .degree) (s .coefficients) 0) ≡ goodSeries s
+unfolding good goodSeries
+series-good s = refl
+
+pub limits : (s : Series) → goodSeries s ≡ true → Good (makeModel (s .degree) (s .coefficients) 0)
+limits s h = good-is (makeModel (s .degree) (s .coefficients) 0) (series-good s ∙ h)
+
+-- ---- the result from the rounded sums
+
+pub series-formed : (s : Series) (r : Rounded) → length (powers s) ≡ suc (s .degree) → RoundedFrom expansionUnit (expanded s) (suc (s .degree)) r
+    → formedOutcome (s .degree) (r .coefficients) (r .weight) (upℕ (r .loss) expansionUnit) ≡ unlessLarge (seriesModel s)
+unfolding seriesModel
+series-formed s r l f =
+    let m = seriesModel s in
+    let n = suc (s .degree) in
+    let all : take n (expanded s) ≡ expanded s = take-all n (expanded s) (omega (arith, l, length-expanded (powers s))) in
+    let w : r .weight ≡ weight (m .coefficients) =
+        f .weight-is ∙ ap (λ c. weight (rounded expansionUnit c)) all
+        ∙ sym (weight-append-zeros (rounded expansionUnit (expanded s)) (coefficientCount - n)) in
+    let loss : r .loss ≡ roundingLoss expansionUnit (expanded s) =
+        f .loss-is ∙ omega (arith, ap (roundingLoss expansionUnit) all, weight-end (expanded s) n (omega (arith, l, length-expanded (powers s)))) in
+    let e : upℕ (r .loss) expansionUnit ≡ m .radius = ap (λ z. upℕ z expansionUnit) loss in
+    (λ t. formedOutcome (s .degree) (r .coefficients) (w t) (e t))
+    ∙ formed-is m (r .coefficients) (λ h. f .coefficients-are (omega arith) ∙ ap (λ c. rounded expansionUnit c ++ replicate (coefficientCount - n) (pos 0)) all)
+
+-- of a series within its limits only the result is tested
+pub conversion-of-good : (s : Series) → goodSeries s ≡ true → unlessLarge (seriesModel s) ≡ conversion s
+unfolding conversion unlessLarge passing
+conversion-of-good s h = rw h
+
+pub conversion-of-bad : (s : Series) → goodSeries s ≡ false → refused 14 zeroModel ≡ conversion s
+unfolding conversion passing
+conversion-of-bad s h = rw h
+
+pub conversion-storable : (s : Series) → Storable (values (conversion s))
+unfolding conversion
+conversion-storable s = stored _ _ (λ p. p .1 .0)
