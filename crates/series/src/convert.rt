@@ -59,7 +59,12 @@ fn convert_good(s: Series) -> ModelOutcome
     add_powers(&mut sums, &powers[..count], &table);
     let rounded = round(&sums[..count], count, UNIT);
     let coefficients = rounded.coefficients;
-    ModelOutcome::formed(s.degree, coefficients, rounded.weight, up_unsigned(rounded.loss, UNIT as u64))
+    ModelOutcome::formed(
+        s.degree,
+        coefficients,
+        rounded.weight,
+        up_unsigned(rounded.loss, UNIT as u64),
+    )
 }
 
 pub fn from_series(s: Series) -> ModelOutcome

@@ -42,9 +42,11 @@ row-in (suc n) k zero h b =
 row-in (suc n) k (suc i) h b =
     let z = replicate (maxDegree - k) (pos 0) in
     let e : k + suc i ≡ suc k + i = omega arith in
-    rw (e,
+    rw (
+      e,
       drop-front (expansionRow k) (z ++ rowsFrom n (suc k)) (33 * suc i) (maxDegree - k + 33 * i) (omega (arith, length-row k)),
-      drop-front z (rowsFrom n (suc k)) (maxDegree - k + 33 * i) (33 * i) (omega (arith, length-replicate (maxDegree - k) (pos 0))))
+      drop-front z (rowsFrom n (suc k)) (maxDegree - k + 33 * i) (33 * i) (omega (arith, length-replicate (maxDegree - k) (pos 0))),
+    )
     (row-in n (suc k) i (omega arith) (omega arith))
 
 pub row-in-table : (k : ℕ) → k ≤ maxDegree → take (suc k) (drop (33 * k) expansionTable) ≡ expansionRow k
@@ -132,10 +134,10 @@ series-formed s r l f =
     let n = suc (s .degree) in
     let all : take n (expanded s) ≡ expanded s = take-all n (expanded s) (omega (arith, l, length-expanded (powers s))) in
     let w : r .weight ≡ weight (m .coefficients) =
-        f .weight-is ∙ ap (λ c. weight (rounded expansionUnit c)) all
-        ∙ sym (weight-append-zeros (rounded expansionUnit (expanded s)) (coefficientCount - n)) in
+    f .weight-is ∙ ap (λ c. weight (rounded expansionUnit c)) all
+    ∙ sym (weight-append-zeros (rounded expansionUnit (expanded s)) (coefficientCount - n)) in
     let loss : r .loss ≡ roundingLoss expansionUnit (expanded s) =
-        f .loss-is ∙ omega (arith, ap (roundingLoss expansionUnit) all, weight-end (expanded s) n (omega (arith, l, length-expanded (powers s)))) in
+    f .loss-is ∙ omega (arith, ap (roundingLoss expansionUnit) all, weight-end (expanded s) n (omega (arith, l, length-expanded (powers s)))) in
     let e : upℕ (r .loss) expansionUnit ≡ m .radius = ap (λ z. upℕ z expansionUnit) loss in
     (λ t. formedOutcome (s .degree) (r .coefficients) (w t) (e t))
     ∙ formed-is m (r .coefficients) (λ h. f .coefficients-are (omega arith) ∙ ap (λ c. rounded expansionUnit c ++ replicate (coefficientCount - n) (pos 0)) all)

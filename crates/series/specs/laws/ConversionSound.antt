@@ -41,8 +41,8 @@ value-expanded x k [] h = solveℚ [] (search reifyℚ depth 20) (search reify�
 value-expanded x k (p ∷ ps) h =
     valueAt-add x (scaleList ℤ-ring p (expansionRow k)) (expandedFrom (suc k) ps)
     ∙ ap₂ _+ℚ_
-      (valueAt-scale x p (expansionRow k) ∙ ap (λ v. whole p *ℚ v) (expansion-value k (omega arith) x))
-      (value-expanded x (suc k) ps (omega arith))
+    (valueAt-scale x p (expansionRow k) ∙ ap (λ v. whole p *ℚ v) (expansion-value k (omega arith) x))
+    (value-expanded x (suc k) ps (omega arith))
     ∙ regroup (whole (pos expansionUnit)) (whole p) (power x k) (seriesFrom x (suc k) ps)
   where
     regroup : (d p v w : ℚ) → p *ℚ (d *ℚ v) +ℚ d *ℚ w ≡ d *ℚ (p *ℚ v +ℚ w)
