@@ -8,7 +8,7 @@ ghost use Rattle.integer.specs.definitions.Integer.{ℤ-ring};
 ghost use Rattle.chebyshev.specs.definitions.Coefficients.{weight, addLists, scaleList};
 ghost use Rattle.model.specs.definitions.InnerContracts.{unlessLarge};
 ghost use Rattle.model.specs.definitions.Outcomes.{outcomeOf};
-ghost use Rattle.series.specs.definitions.Convert.{Expandable, goodSeries, expandedFrom, seriesModel, conversion};
+ghost use Rattle.series.specs.definitions.Convert.{Addable, Expandable, goodSeries, expandedFrom, seriesModel, conversion};
 use crate::table::expansion_table;
 use crate::types::Series;
 use integer::rounding::up_unsigned;
@@ -22,15 +22,15 @@ use model::types::Refusal;
 // One unit of a coefficient in the sums.
 const UNIT: i64 = 4294967296;
 
-// p times a row, added to the sums.
+// p times a row, added to the sums. Every other entry of a row is zero, and is passed over.
 fn add_multiple(sums: &mut [i64], p: i64, row: &[i64])
-    requires { ⌜ (length (now row) ≤ length (now sums)) × (weight (now sums) + natAbs p * weight (now row) < 2 ^ 63) ⌝ }
+    requires { ⌜ Addable (now sums) p (now row) ⌝ }
     ensures { λ _. ⌜ now (sums .exit) ≡ addLists ℤ-ring (now (sums .entry)) (scaleList ℤ-ring p (now (row .entry))) ⌝ }
 {
-    let mut j = 0;
+    let mut j = 1 - row.len() % 2;
     while j < row.len() {
         sums[j] = sums[j] + p * row[j];
-        j += 1;
+        j += 2;
     }
 }
 

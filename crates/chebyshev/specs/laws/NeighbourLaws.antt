@@ -1,10 +1,11 @@
--- Laws of a list times 2·x (Neighbours.antt): its value, its multiples, its length, its weight, whole numbers in the ring.
+-- Laws of a list times 2·x (Neighbours.antt): its value, its multiples, its places, its length, its weight, whole numbers
+-- in the ring.
 use mathlib.Core.Path.{_≡_, refl, sym, _∙_, ap, ap₂}
 use mathlib.Core.List.{List, [], _∷_, map}
 use Prim.Native.Nat.{ℕ, suc, _+_, _*_, _≤_}
 use native.Mathlib.Omega.{arith}
 use lib.IntN.{ℤ, pos, _*ℤ_}
-use lib.ListN.{length}
+use lib.ListN.{length, getD}
 use Rattle.integer.specs.definitions.Ring.{CommutativeRing}
 use Rattle.integer.specs.definitions.Integer.{ℤ-ring}
 use Rattle.integer.specs.laws.Parts.{abs-mul}
@@ -12,11 +13,11 @@ use Rattle.integer.specs.laws.Solver.{reify, solve}
 use Rattle.chebyshev.specs.definitions.Recurrences.{firstKind}
 use Rattle.chebyshev.specs.definitions.Coefficients.{valueFrom, value, addLists, scaleList, weight}
 use Rattle.chebyshev.specs.definitions.Neighbours.{neighbourSums}
-use Rattle.chebyshev.specs.laws.CoefficientLaws.{valueFrom-add, length-add, scale-add, map-ι-add}
+use Rattle.chebyshev.specs.laws.CoefficientLaws.{valueFrom-add, length-add, getD-add, scale-add, map-ι-add}
 use Rattle.chebyshev.specs.laws.Weight.{weight-add}
 
 module _ (R : CommutativeRing) where
-  open CommutativeRing R using (A, add as _⊕_, mul as _⊗_, opp as ⊖_, ι, ι-mul)
+  open CommutativeRing R using (A, add as _⊕_, mul as _⊗_, opp as ⊖_, ι, zero-add, ι-mul)
 
   infixl 6 _⊕_
   infixl 7 _⊗_
@@ -58,6 +59,24 @@ module _ (R : CommutativeRing) where
 
       twice : ι (pos 2) ⊗ (s ⊗ e) ≡ s ⊗ (ι (pos 2) ⊗ e)
       twice = solve R (s ∷ e ∷ []) (search reify depth 20) (search reify depth 20) tt
+
+  -- ---- the places
+
+  pub neighbours-zeroth : (e : List A) → getD (neighbourSums R e) 0 (ι (pos 0)) ≡ getD e 1 (ι (pos 0))
+  unfolding neighbourSums
+  neighbours-zeroth [] = refl
+  neighbours-zeroth (e ∷ es) = getD-add R (ι (pos 0) ∷ (ι (pos 2) ⊗ e) ∷ es) es 0 ∙ zero-add (getD es 0 (ι (pos 0)))
+
+  pub neighbours-first : (e : List A) → getD (neighbourSums R e) 1 (ι (pos 0)) ≡ ι (pos 2) ⊗ getD e 0 (ι (pos 0)) ⊕ getD e 2 (ι (pos 0))
+  unfolding neighbourSums
+  neighbours-first [] = solve R [] (search reify depth 20) (search reify depth 20) tt
+  neighbours-first (e ∷ es) = getD-add R (ι (pos 0) ∷ (ι (pos 2) ⊗ e) ∷ es) es 1
+
+  pub neighbours-at : (e : List A) (i : ℕ)
+      → getD (neighbourSums R e) (suc (suc i)) (ι (pos 0)) ≡ getD e (suc i) (ι (pos 0)) ⊕ getD e (suc (suc (suc i))) (ι (pos 0))
+  unfolding neighbourSums
+  neighbours-at [] i = solve R [] (search reify depth 20) (search reify depth 20) tt
+  neighbours-at (e ∷ es) i = getD-add R (ι (pos 0) ∷ (ι (pos 2) ⊗ e) ∷ es) es (suc (suc i))
 
   pub length-neighbours : (e : A) (es : List A) → length (neighbourSums R (e ∷ es)) ≡ suc (suc (length es))
   unfolding neighbourSums

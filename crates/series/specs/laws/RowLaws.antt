@@ -5,8 +5,8 @@ use mathlib.Core.List.{List, [], _∷_, map}
 use Prim.Native.Nat.{ℕ, zero, suc, _+_, _-_, _*_, _^_, _<_, _≤_}
 use native.Mathlib.Nat.{mul-le-mul}
 use native.Mathlib.Omega.{arith}
-use lib.IntN.{ℤ, pos, _+ℤ_, _*ℤ_}
-use lib.ListN.{length, length-map}
+use lib.IntN.{ℤ, pos, _+ℤ_, _*ℤ_, *ℤ-comm, zero-*ℤ}
+use lib.ListN.{length, getD, length-map, List·getD-eq-default}
 use lib.Pow.{pow-add}
 use Rattle.integer.specs.laws.Difference.{all1, differences}
 use Rattle.integer.specs.laws.RoundingLaws.{floor-left}
@@ -19,9 +19,9 @@ use Rattle.integer.specs.laws.FractionRounding.{natural-mul}
 use Rattle.integer.specs.laws.FractionSolver.{solveℚ, reifyℚ}
 use Rattle.chebyshev.specs.definitions.Coefficients.{weight, scaleList, value}
 use Rattle.chebyshev.specs.definitions.Neighbours.{neighbourSums}
-use Rattle.chebyshev.specs.laws.CoefficientLaws.{value-constant}
+use Rattle.chebyshev.specs.laws.CoefficientLaws.{value-constant, getD-scale}
 use Rattle.chebyshev.specs.laws.Weight.{weight-scale}
-use Rattle.chebyshev.specs.laws.NeighbourLaws.{value-neighbours, map-ι-neighbours, length-neighbours, weight-neighbours, scale-neighbours}
+use Rattle.chebyshev.specs.laws.NeighbourLaws.{value-neighbours, scale-neighbours, neighbours-zeroth, neighbours-first, neighbours-at, length-neighbours, weight-neighbours, map-ι-neighbours}
 use Rattle.model.specs.definitions.Models.{maxDegree}
 use Rattle.model.specs.laws.ValueLaws.{valueAt, valueAt-scale}
 use Rattle.series.specs.definitions.Table.{expansionUnit, expansionRow}
@@ -46,6 +46,27 @@ weight-doubled : (k : ℕ) → weight (doubledPower k) ≤ 2 ^ k
 unfolding doubledPower weight
 weight-doubled zero = omega arith
 weight-doubled (suc k) = omega (arith, weight-neighbours (doubledPower k), weight-doubled k)
+
+-- every other coefficient is zero, the last but one among them
+abbrev Alternate : ℕ → Type 0
+Alternate k = (i m : ℕ) → suc (suc i) + 2 * m ≡ suc k → getD (doubledPower k) i (pos 0) ≡ pos 0
+
+-- the same of places counted from 1: the one above the last, or one of those
+above : (k : ℕ) → Alternate k → (i m : ℕ) → i + 2 * m ≡ k → getD (doubledPower k) (suc i) (pos 0) ≡ pos 0
+above k a i zero e = List·getD-eq-default (doubledPower k) (pos 0) {n = suc i} (omega (arith, length-doubled k))
+above k a i (suc m) e = a (suc i) m (omega arith)
+
+alternate-next : (k : ℕ) → Alternate k → Alternate (suc k)
+unfolding doubledPower
+alternate-next k a zero m e = neighbours-zeroth ℤ-ring (doubledPower k) ∙ above k a 0 m (omega arith)
+alternate-next k a (suc zero) m e =
+    neighbours-first ℤ-ring (doubledPower k) ∙ ap₂ (λ x y. pos 2 *ℤ x +ℤ y) (a 0 m (omega arith)) (above k a 1 m (omega arith))
+alternate-next k a (suc (suc i)) m e =
+    neighbours-at ℤ-ring (doubledPower k) i ∙ ap₂ _+ℤ_ (a (suc i) m (omega arith)) (above k a (suc (suc i)) m (omega arith))
+
+doubled-alternate : (k : ℕ) → Alternate k
+doubled-alternate zero i m h = absurd (omega arith)
+doubled-alternate (suc k) i m h = alternate-next k (doubled-alternate k) i m h
 
 twice-power : (k : ℕ) → 2 * 2 ^ k ≡ 2 ^ suc k
 twice-power k = omega arith
@@ -120,6 +141,16 @@ weight-row k h =
 
     whole-power : (m : ℕ) → m + k ≡ maxDegree → 2 ^ m * 2 ^ k ≡ expansionUnit
     whole-power m q = sym (pow-add 2 m k) ∙ ap (λ n. 2 ^ n) q
+
+-- every other entry is zero, the last but one among them
+pub row-alternate : (k i m : ℕ) → k ≤ maxDegree → suc (suc i) + 2 * m ≡ suc k → getD (expansionRow k) i (pos 0) ≡ pos 0
+row-alternate k i m h e =
+    let n = maxDegree - k in
+    ap (λ r. getD r i (pos 0)) (row-is k n (omega arith))
+    ∙ getD-scale ℤ-ring (pos (2 ^ n)) (doubledPower k) i
+    ∙ ap (λ z. pos (2 ^ n) *ℤ z) (doubled-alternate k i m e)
+    ∙ *ℤ-comm (pos (2 ^ n)) (pos 0)
+    ∙ zero-*ℤ (pos (2 ^ n))
 
 -- the row's value is 2^32·x^k
 pub expansion-value : (k : ℕ) → k ≤ maxDegree → (x : ℚ) → valueAt x (expansionRow k) ≡ whole (pos expansionUnit) *ℚ power x k

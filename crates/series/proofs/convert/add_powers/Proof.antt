@@ -15,9 +15,10 @@ use Rattle.integer.specs.laws.Machine.{signed-needs, fits-widens}
 use Rattle.chebyshev.specs.definitions.Coefficients.{weight, addLists, scaleList}
 use Rattle.chebyshev.specs.laws.CoefficientLaws.{length-add, length-scale, add-nil, addLists-assoc}
 use Rattle.chebyshev.specs.laws.Weight.{weight-add, weight-step, weight-scale}
+use Rattle.model.specs.definitions.Models.{maxDegree}
 use Rattle.series.specs.definitions.Table.{expansionUnit, expansionRow, expansionTable}
 use Rattle.series.specs.definitions.Convert.{expandedFrom, Expandable}
-use Rattle.series.specs.laws.RowLaws.{length-row}
+use Rattle.series.specs.laws.RowLaws.{length-row, row-alternate}
 use Rattle.series.specs.laws.ConversionLaws.{row-in-table, length-table, expanded-step, expanded-end, multiple-weight}
 use Rattle.series.proofs.convert.add_powers.Statement.{statement}
 use Rattle.series.proofs.convert.add_powers.Tie as tie
@@ -83,17 +84,15 @@ module _ (c : tie.After-add-multiple-arg3 Inv-loop μ-loop) where
 add-multiple-requires : tie.Need-add-multiple-requires Inv-loop μ-loop
 add-multiple-requires c κs =
     let l = head c in
+    let b : k l ≤ maxDegree = omega (arith, l .before .pre .few) in
     rw (lent (k l) (l .before .pre) (omega arith))
-    (simp (toZ-ofZ (fits-p c), toZ-ofZ (fits-widens (fits-p c)))
-    (omega (
-      arith,
-      length-row (k l),
-      l .loop .inv,
-      l .before .pre,
-      weight-scale (p l) (expansionRow (k l)),
-      multiple-weight (k l) (p l) (omega (arith, l .before .pre .few)),
-      weight-step (ps l) (k l) (omega arith),
-    )))
+    (simp (toZ-ofZ (fits-p c), toZ-ofZ (fits-widens (fits-p c))) (record {
+      short = omega (arith, length-row (k l), b);
+      room = omega (arith, length-row (k l), l .loop .inv, l .before .pre);
+      light =
+          omega (arith, l .loop .inv, l .before .pre, weight-scale (p l) (expansionRow (k l)), multiple-weight (k l) (p l) b, weight-step (ps l) (k l) (omega arith));
+      alternate = λ i m e. row-alternate (k l) i m b (e ∙ length-row (k l));
+    }))
 
 loop-again : tie.Need-loop-again Inv-loop μ-loop
 loop-again c =
