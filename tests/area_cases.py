@@ -7,8 +7,8 @@ import jobs
 from cases import Case
 from examples_of_01 import example_job
 from header import (
-    ACCEPTED, ANSWER_SIZE, BAD_MODEL, BAD_SERIES, BAD_VALUE, BOUNDS_SIZE, BYTES_AFTER_END, CANDIDATE_SIZE,
-    HELPER_NOT_POSITIVE, JOB_ENDS, LARGE_RESIDUAL, LARGE_RESULT, MAX_DEGREE, MAX_RESULTS,
+    ACCEPTED, ANSWER_SIZE, BAD_MODEL, BAD_SERIES, BAD_VALUE, BOUNDS_SIZE, BYTES_AFTER_END,
+    CANDIDATE_SIZE, HELPER_NOT_POSITIVE, JOB_ENDS, LARGE_RESIDUAL, LARGE_RESULT, MAX_DEGREE, MAX_RESULTS,
     MODEL_SIZE, NEGATIVE_DISCRIMINANT, NOT_A_RESULT, NOT_CONTRACTING, NUMBERS_SIZE, POINT_OUTSIDE,
     SCRATCH_SIZE, SERIES_SIZE, TOO_MANY_RESULTS, WORK_SIZE)
 from oracle import LIMIT, S, constant, model, power, series, term
@@ -73,8 +73,8 @@ WITNESSES = {
         LARGE_RESULT: one_load(jobs.add(0, 0), loaded=MOST),
         BYTES_AFTER_END: example_job() + jobs.END,
     }.items()},
-    'from_series': {ACCEPTED: (series([S, -7, S // 3, 5]),), BAD_SERIES: (power(MAX_DEGREE, LIMIT + 1),),
-                    LARGE_RESULT: (GROWN[0],)},
+    'from_series': {ACCEPTED: (series([S, -7, S // 3, 5]),), LARGE_RESULT: (GROWN[0],),
+                    BAD_SERIES: (power(MAX_DEGREE, LIMIT + 1),)},
 }
 
 

@@ -176,7 +176,8 @@ def build_harness(folder, entries, library, plain, flags):
 def make_cases(entries, wanted, rng):
     """All fixed cases of the entries, then random ones up to the number wanted."""
     fixed = {**cases.FIXED, **certificate_cases.FIXED, **job_cases.FIXED, **series_cases.FIXED}
-    drawn = {**cases.RANDOM, **certificate_cases.RANDOM, 'check': job_cases.RandomJobs(), **series_cases.RANDOM}
+    drawn = {**cases.RANDOM, **certificate_cases.RANDOM, 'check': job_cases.RandomJobs(),
+             **series_cases.RANDOM}
     made = 0
     for entry in entries:
         for case in (*area_cases(entry), *fixed[entry]()):

@@ -81,8 +81,9 @@ def soundness_integrate(rng, a, result):
 def series_value(s, point):
     """The exact value of a power series at the point."""
     p, q = point
-    n = len(s.coefficients) - 1
-    return Fraction(sum(c * p ** k * q ** (n - k) for k, c in enumerate(s.coefficients) if c), q ** n * S)
+    n = o.MAX_DEGREE
+    numerator = sum(c * p ** k * q ** (n - k) for k, c in enumerate(s.coefficients) if c)
+    return Fraction(numerator, q ** n * S)
 
 
 def soundness_from_series(rng, s, result):

@@ -6,8 +6,9 @@
 //! rustc --edition 2021 -L target/staticlib -L . --extern ferruntzo program.rs
 //! ```
 //!
-//! The typed functions ([`Model::add`], [`Model::from_series`], [`quotient`], [`check`], ...) lend the library areas of
-//! the right size. The functions in [`areas`] take the caller's own slices of every length.
+//! The typed functions ([`Model::add`], [`Model::from_series`], [`quotient`], [`check`], ...) lend
+//! the library areas of the right size. The functions in [`areas`] take the caller's own slices of
+//! every length.
 //! The crate needs `core` alone, allocates nothing and has no state.
 //!
 //! ```

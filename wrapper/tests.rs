@@ -149,7 +149,7 @@ fn refusals_of_series() {
     assert_eq!(of(&series(32, &[(0, LIMIT), (32, -1)])), Err(Refusal::BadSeries));
     assert_eq!(of(&series(32, &[(0, i32::MIN)])), Err(Refusal::BadSeries));
     assert!(of(&series(1, &[(0, LIMIT - 1), (1, -1)])).is_ok());
-    // Weights at the limit that grow past it by rounding alone, whichever way ties go; their neighbours.
+    // Weights that grow past the limit by rounding alone, whichever way ties go; their neighbours.
     let grown = [(14, -152), (31, 268435304)];
     assert_eq!(of(&series(31, &grown)), Err(Refusal::LargeResult));
     assert_eq!(of(&series(30, &grown)), Err(Refusal::BadSeries));
