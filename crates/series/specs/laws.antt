@@ -1,1 +1,3 @@
-pub mod TableLaws
+pub mod RowLaws
+pub mod ConversionLaws
+pub mod ConversionSound

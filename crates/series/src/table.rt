@@ -1,13 +1,10 @@
 // Printed by scripts/expansion_table. Row k of the table has the weights of T_0 to T_32 in x^k, times 2^32.
 ghost use mathlib.Core.Path.{_≡_};
-ghost use Prim.Native.Nat.{_≤_};
-ghost use lib.IntN.{pos};
-ghost use lib.ListN.{getD};
-ghost use Rattle.series.specs.definitions.Table.{expansionRow};
+ghost use Rattle.series.specs.definitions.Table.{expansionTable};
 
-const SIZE: usize = 33;
+pub(crate) const TABLE_SIZE: usize = 1089;
 
-const TABLE: [i64; 1089] = [
+const TABLE: [i64; TABLE_SIZE] = [
     4294967296,
     0,
     0,
@@ -1099,10 +1096,9 @@ const TABLE: [i64; 1089] = [
     2,
 ];
 
-// The weight of T_j in x^k.
-pub(crate) fn entry(k: usize, j: usize) -> i64
-    requires { ⌜ (j ≤ k) × (k ≤ 32) ⌝ }
-    ensures { λ r. ⌜ r ≡ getD (expansionRow k) j (pos 0) ⌝ }
+// The table in the caller's own memory: the language has no statics.
+pub(crate) fn expansion_table() -> [i64; TABLE_SIZE]
+    ensures { λ r. ⌜ r ≡ expansionTable ⌝ }
 {
-    TABLE[SIZE * k + j]
+    TABLE
 }

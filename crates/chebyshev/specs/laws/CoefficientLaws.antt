@@ -14,7 +14,7 @@ use Rattle.chebyshev.specs.definitions.Recurrences.{firstKind}
 use Rattle.chebyshev.specs.definitions.Coefficients.{valueFrom, value, addLists, scaleList, subtractLists}
 
 module _ (R : CommutativeRing) where
-  open CommutativeRing R using (A, add as _⊕_, mul as _⊗_, opp as ⊖_, ι, add-assoc, zero-add, opp-is, ι-add, ι-mul)
+  open CommutativeRing R using (A, add as _⊕_, mul as _⊗_, opp as ⊖_, ι, add-assoc, dist, zero-add, opp-is, ι-add, ι-mul)
 
   infixl 6 _⊕_
   infixl 7 _⊗_
@@ -132,6 +132,12 @@ module _ (R : CommutativeRing) where
   addLists-assoc (x ∷ a) [] c = refl
   addLists-assoc (x ∷ a) (y ∷ b) [] = refl
   addLists-assoc (x ∷ a) (y ∷ b) (z ∷ c) = ap₂ _∷_ (add-assoc x y z) (addLists-assoc a b c)
+
+  pub scale-add : (s : A) (a b : List A) → scaleList R s (addLists R a b) ≡ addLists R (scaleList R s a) (scaleList R s b)
+  unfolding addLists scaleList
+  scale-add s [] b = refl
+  scale-add s (x ∷ a) [] = refl
+  scale-add s (x ∷ a) (y ∷ b) = ap₂ _∷_ (dist s x y) (scale-add s a b)
 
   -- where b is the shorter list, the sum changes only the places of b
   add-split : (a b : List A) → length b ≤ length a → addLists R a b ≡ addLists R (take (length b) a) b ++ drop (length b) a

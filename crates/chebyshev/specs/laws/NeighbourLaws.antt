@@ -1,4 +1,4 @@
--- Laws of a list times 2·x (Neighbours.antt): its value, its length, its weight, whole numbers in the ring.
+-- Laws of a list times 2·x (Neighbours.antt): its value, its multiples, its length, its weight, whole numbers in the ring.
 use mathlib.Core.Path.{_≡_, refl, sym, _∙_, ap, ap₂}
 use mathlib.Core.List.{List, [], _∷_, map}
 use Prim.Native.Nat.{ℕ, suc, _+_, _*_, _≤_}
@@ -10,9 +10,9 @@ use Rattle.integer.specs.definitions.Integer.{ℤ-ring}
 use Rattle.integer.specs.laws.Parts.{abs-mul}
 use Rattle.integer.specs.laws.Solver.{reify, solve}
 use Rattle.chebyshev.specs.definitions.Recurrences.{firstKind}
-use Rattle.chebyshev.specs.definitions.Coefficients.{valueFrom, value, addLists, weight}
+use Rattle.chebyshev.specs.definitions.Coefficients.{valueFrom, value, addLists, scaleList, weight}
 use Rattle.chebyshev.specs.definitions.Neighbours.{neighbourSums}
-use Rattle.chebyshev.specs.laws.CoefficientLaws.{valueFrom-add, length-add, map-ι-add}
+use Rattle.chebyshev.specs.laws.CoefficientLaws.{valueFrom-add, length-add, scale-add, map-ι-add}
 use Rattle.chebyshev.specs.laws.Weight.{weight-add}
 
 module _ (R : CommutativeRing) where
@@ -45,6 +45,19 @@ module _ (R : CommutativeRing) where
   map-ι-neighbours [] = refl
   map-ι-neighbours (e ∷ es) =
       map-ι-add R (pos 0 ∷ (pos 2 *ℤ e) ∷ es) es ∙ ap (λ v. addLists R (ι (pos 0) ∷ v ∷ map ι es) (map ι es)) (ι-mul (pos 2) e)
+
+  pub scale-neighbours : (s : A) (e : List A) → neighbourSums R (scaleList R s e) ≡ scaleList R s (neighbourSums R e)
+  unfolding neighbourSums scaleList
+  scale-neighbours s [] = refl
+  scale-neighbours s (e ∷ es) =
+      ap (λ l. addLists R l (scaleList R s es)) (ap₂ (λ u v. u ∷ v ∷ scaleList R s es) zero twice)
+      ∙ sym (scale-add R s (ι (pos 0) ∷ (ι (pos 2) ⊗ e) ∷ es) es)
+    where
+      zero : ι (pos 0) ≡ s ⊗ ι (pos 0)
+      zero = solve R (s ∷ []) (search reify depth 20) (search reify depth 20) tt
+
+      twice : ι (pos 2) ⊗ (s ⊗ e) ≡ s ⊗ (ι (pos 2) ⊗ e)
+      twice = solve R (s ∷ e ∷ []) (search reify depth 20) (search reify depth 20) tt
 
   pub length-neighbours : (e : A) (es : List A) → length (neighbourSums R (e ∷ es)) ≡ suc (suc (length es))
   unfolding neighbourSums

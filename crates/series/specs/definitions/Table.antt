@@ -22,7 +22,7 @@ expansionRow (suc k) = map (λ n. floor n 2) (neighbourSums ℤ-ring (expansionR
 -- n rows from row k on, one behind the other, each with its 33 places
 abbrev pub rowsFrom : ℕ → ℕ → List ℤ
 rowsFrom zero k = []
-rowsFrom (suc n) k = expansionRow k ++ replicate (maxDegree - k) (pos 0) ++ rowsFrom n (suc k)
+rowsFrom (suc n) k = expansionRow k ++ (replicate (maxDegree - k) (pos 0) ++ rowsFrom n (suc k))
 
 -- "a table of 33 × 33 entries"
 unfoldable pub expansionTable : List ℤ
