@@ -1,3 +1,4 @@
 pub mod Answers
 pub mod TestAnswers
 pub mod JobAnswers
+pub mod Conversions

@@ -140,7 +140,7 @@ module _ (R : CommutativeRing) where
   scale-add s (x ∷ a) (y ∷ b) = ap₂ _∷_ (dist s x y) (scale-add s a b)
 
   -- where b is the shorter list, the sum changes only the places of b
-  add-split : (a b : List A) → length b ≤ length a → addLists R a b ≡ addLists R (take (length b) a) b ++ drop (length b) a
+  pub add-split : (a b : List A) → length b ≤ length a → addLists R a b ≡ addLists R (take (length b) a) b ++ drop (length b) a
   unfolding addLists
   add-split [] [] h = refl
   add-split [] (y ∷ b) h = absurd (omega arith)

@@ -9,7 +9,7 @@ use Rattle.model.specs.declared.types.Refusal.{Refusal}
 use Rattle.model.specs.declared.types.Refusal.the-variants.{ShortArea, BadModel, LargeResult, PointOutside}
 use Rattle.model.specs.declared.types.Refusal.the-variants.{NotContracting, LargeResidual, HelperNotPositive}
 use Rattle.model.specs.declared.types.Refusal.the-variants.{NegativeDiscriminant, BadValue, JobEnds, BytesAfterEnd}
-use Rattle.model.specs.declared.types.Refusal.the-variants.{NotAResult, TooManyResults}
+use Rattle.model.specs.declared.types.Refusal.the-variants.{NotAResult, TooManyResults, BadSeries}
 use Rattle.model.specs.declared.types.Verdict.{Verdict}
 use Rattle.model.specs.declared.types.Verdict.the-variants.{Accepted, Refused}
 
@@ -66,6 +66,7 @@ numberOf JobEnds = 10
 numberOf BytesAfterEnd = 11
 numberOf NotAResult = 12
 numberOf TooManyResults = 13
+numberOf BadSeries = 14
 
 abbrev pub verdictNumber : Verdict → ℕ
 verdictNumber Accepted = 0
