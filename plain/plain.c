@@ -396,7 +396,7 @@ static int known(uint8_t byte, size_t *width, size_t *names)
     }
 }
 
-/* One command that makes a result; out is its own stretch, zero so far. */
+/* One command that makes a result; out is its own 35 numbers of the work area, zero so far. */
 static uint32_t operate(uint8_t byte, const uint8_t *operands, size_t names,
                         const int32_t *work, int64_t *scratch, int32_t *out)
 {

@@ -1,6 +1,7 @@
 #!/usr/bin/env python3
 """The papers name files and edits that are there: every path in backquotes that begins with a folder of the repository, and every
-must-fail edit that docs/ENTRIES.md names; and ENTRIES names every edit."""
+must-fail edit that docs/ENTRIES.md names; and ENTRIES names every edit. A definitions file bears the name of a src file of its crate
+or is in the list of docs/DECISIONS.md, "Names of files"."""
 import pathlib
 import re
 import sys
@@ -32,6 +33,19 @@ for name in sorted(edits - named):
 functions = {n for p in ROOT.glob('crates/*/src/**/*.rt') for n in re.findall(r'\bfn (\w+)', p.read_text())}
 for name in sorted(named - edits - functions):
     wrong.append(f'docs/ENTRIES.md names {name}, which is no edit and no function')
+listed = {}
+crate = None
+for name in re.findall(r'`(\w+)`', (ROOT / 'docs' / 'DECISIONS.md').read_text().split('## Names of files')[1].split('These are')[1].split('\n## ')[0]):
+    crate = name if (ROOT / 'crates' / name).is_dir() else crate
+    listed.setdefault(crate, set()).add(name)
+for path in sorted(ROOT.glob('crates/*/specs/definitions/*.antt')):
+    crate = path.relative_to(ROOT / 'crates').parts[0]
+    by_file = (ROOT / 'crates' / crate / 'src' / f'{path.stem[0].lower()}{path.stem[1:]}.rt').exists()
+    if by_file == (path.stem in listed.get(crate, set())):
+        wrong.append(f'docs/DECISIONS.md, "Names of files": {path.relative_to(ROOT)} ' + ('has a src file and is listed' if by_file else 'is not listed'))
+for crate, found in listed.items():
+    wrong += [f'docs/DECISIONS.md, "Names of files": {crate} has no {name}' for name in sorted(found - {crate})
+              if not (ROOT / 'crates' / crate / 'specs' / 'definitions' / f'{name}.antt').exists()]
 print(f'papers: {seen} paths, {len(edits)} edits, {len(wrong)} wrong')
 print('\n'.join(wrong))
 sys.exit(1 if wrong else 0)

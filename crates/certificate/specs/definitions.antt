@@ -1,4 +1,6 @@
 pub mod Tests
+pub mod Quotient
+pub mod Root
 pub mod InnerContracts
 pub mod TwoSums
 pub mod RootBounds

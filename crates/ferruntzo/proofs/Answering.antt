@@ -6,15 +6,15 @@ use Prim.Native.Nat.{ℕ, _≤_, _<_}
 use borrow.Author.Tests.{leb-true, le-leb, lt-leb}
 use lib.IntN.{ℤ}
 use lib.ListN.{length, drop}
-use Rattle.model.specs.definitions.Areas.{modelSize, candidateSize, Storable}
-use Rattle.model.specs.definitions.Outcomes.{Outcome, values, outcomeOf}
-use Rattle.model.specs.laws.OutcomeLaws.{values-judged}
+use Rattle.model.specs.definitions.Area.{modelSize, candidateSize, Storable}
+use Rattle.model.specs.definitions.Outcomes.{Outcome, payload, outcomeOf}
+use Rattle.model.specs.laws.OutcomeLaws.{payload-judged}
 use Rattle.model.specs.declared.types.Model.{Model}
 use Rattle.model.specs.declared.types.ModelOutcome.{ModelOutcome}
 use Rattle.certificate.specs.definitions.Tests.{scratchSize, scratchAfter, Certificate, testOf}
 use Rattle.certificate.specs.declared.types.TestOutcome.{TestOutcome}
-use Rattle.ferruntzo.specs.definitions.Answers.{fits, areaOut}
-use Rattle.ferruntzo.specs.definitions.TestAnswers.{numbersSize, testAnswer, testIn, testFits}
+use Rattle.ferruntzo.specs.definitions.Areas.{fits, areaOut, numbersSize}
+use Rattle.ferruntzo.specs.definitions.Certificates.{testAnswer, testIn, testFits}
 
 -- ---- areas that have their numbers
 
@@ -56,12 +56,12 @@ module _ {A : Type 0} (n : ℕ) (new old : List A) where
 
 -- ---- the model beside a verdict
 
-pub outcome-storable : (r : ModelOutcome) {o : Outcome Model} → outcomeOf r ≡ o → Storable (values o) → Storable (r .model)
-outcome-storable r e h = subst Storable (ap values (sym e) ∙ values-judged (r .verdict) (r .model)) h
+pub outcome-storable : (r : ModelOutcome) {o : Outcome Model} → outcomeOf r ≡ o → Storable (payload o) → Storable (r .model)
+outcome-storable r e h = subst Storable (ap payload (sym e) ∙ payload-judged (r .verdict) (r .model)) h
 
-pub test-storable : (r : TestOutcome) {o : Outcome Certificate} → testOf r ≡ o → Storable (values o .model) → Storable (r .model)
+pub test-storable : (r : TestOutcome) {o : Outcome Certificate} → testOf r ≡ o → Storable (payload o .model) → Storable (r .model)
 test-storable r e h =
-    subst (λ (c : Certificate). Storable (c .model)) (ap values (sym e) ∙ values-judged (r .verdict) _) h
+    subst (λ (c : Certificate). Storable (c .model)) (ap payload (sym e) ∙ payload-judged (r .verdict) _) h
 
 -- ---- what a test answers over its areas
 

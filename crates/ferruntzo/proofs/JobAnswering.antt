@@ -1,4 +1,4 @@
--- The step from what the check of a job answers and leaves to the definitions of JobAnswers.antt, and to requirement 3 over
+-- The step from what the check of a job answers and leaves to the definitions of Jobs.antt, and to requirement 3 over
 -- one more lent area.
 use mathlib.Core.Path.{_≡_, refl, ap, sym, subst, _∙_}
 use mathlib.Core.Bool.{not}
@@ -17,8 +17,8 @@ use Rattle.job.specs.definitions.Requirement.{Requirement3}
 use Rattle.job.specs.laws.RequirementLaws.{refused-required, required-behind}
 use Rattle.job.specs.declared.types.JobOutcome.{JobOutcome as CodeOutcome}
 use Rattle.job.specs.declared.types.JobOutcome.the-variants.{Accepted, Refused}
-use Rattle.ferruntzo.specs.definitions.Answers.{areaOut}
-use Rattle.ferruntzo.specs.definitions.JobAnswers.{answerSize, jobAnswer, checkAnswer, answerIn, exportedPlaces}
+use Rattle.ferruntzo.specs.definitions.Areas.{areaOut}
+use Rattle.ferruntzo.specs.definitions.Jobs.{answerSize, jobAnswer, checkAnswer, answerIn, exportedPlaces}
 
 -- the numbers of an answer, in an area that has room for them
 abbrev pub answerOver : CodeOutcome → List ℕ → List ℕ

@@ -1,4 +1,5 @@
-pub mod Answers
-pub mod TestAnswers
-pub mod JobAnswers
+pub mod Areas
+pub mod Operations
+pub mod Certificates
+pub mod Jobs
 pub mod Conversions

@@ -2,9 +2,9 @@
 ghost use mathlib.Core.Path.{_≡_};
 ghost use mathlib.Core.List.{List};
 ghost use lib.IntN.{ℤ};
-ghost use Rattle.model.specs.definitions.Areas.{Storable};
+ghost use Rattle.model.specs.definitions.Area.{Storable};
 ghost use Rattle.certificate.specs.definitions.Tests.{scratchAfter, testOf};
-ghost use Rattle.ferruntzo.specs.definitions.TestAnswers.{shortTest, testIn, testAnswer, quotientAnswer, rootAnswer};
+ghost use Rattle.ferruntzo.specs.definitions.Certificates.{shortTest, testIn, testAnswer, quotientAnswer, rootAnswer};
 use crate::areas::NUMBERS_SIZE;
 use crate::areas::candidate_in;
 use crate::areas::clear_scratch;

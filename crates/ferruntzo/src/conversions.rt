@@ -2,7 +2,7 @@
 ghost use mathlib.Core.Path.{_≡_};
 ghost use Prim.Native.Nat.{_≤_};
 ghost use lib.ListN.{length};
-ghost use Rattle.ferruntzo.specs.definitions.Answers.{operationAnswer};
+ghost use Rattle.ferruntzo.specs.definitions.Operations.{operationAnswer};
 ghost use Rattle.ferruntzo.specs.definitions.Conversions.{seriesSize, areaSeries, seriesAnswer};
 use crate::areas::candidate_in;
 use crate::operations::answer_operation;

@@ -1,7 +1,7 @@
 // The check of a job over lent areas.
 ghost use mathlib.Core.Path.{_≡_};
 ghost use Rattle.job.specs.definitions.Requirement.{Requirement3};
-ghost use Rattle.ferruntzo.specs.definitions.JobAnswers.{jobAnswer, checkAnswer, answerIn, exportedPlaces};
+ghost use Rattle.ferruntzo.specs.definitions.Jobs.{jobAnswer, checkAnswer, answerIn, exportedPlaces};
 use job::run::check;
 use job::types::JobOutcome;
 use model::types::number_of;

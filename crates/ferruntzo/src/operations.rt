@@ -2,13 +2,14 @@
 // models that the areas hold; if an area is too short, refusal 1 and zeros.
 ghost use mathlib.Core.Path.{_≡_};
 ghost use Rattle.model.specs.definitions.Outcomes.{outcomeOf};
-ghost use Rattle.model.specs.definitions.Areas.{Storable};
-ghost use Rattle.model.specs.definitions.Operations.{addition, subtraction, multiplication};
-ghost use Rattle.model.specs.definitions.Integral.{integration};
-ghost use Rattle.model.specs.definitions.Evaluation.{boundsOf};
-ghost use Rattle.ferruntzo.specs.definitions.Answers.{operationFor, shortOutcome, outcomeIn, operationAnswer};
-ghost use Rattle.ferruntzo.specs.definitions.Answers.{binaryAnswer, unaryAnswer};
-ghost use Rattle.ferruntzo.specs.definitions.Answers.{boundsIn, evaluationAnswer, evaluateAnswer};
+ghost use Rattle.model.specs.definitions.Area.{Storable};
+ghost use Rattle.model.specs.definitions.Add.{addition, subtraction};
+ghost use Rattle.model.specs.definitions.Multiply.{multiplication};
+ghost use Rattle.model.specs.definitions.Integrate.{integration};
+ghost use Rattle.model.specs.definitions.Evaluate.{boundsOf};
+ghost use Rattle.ferruntzo.specs.definitions.Operations.{operationFor, shortOutcome, outcomeIn, operationAnswer};
+ghost use Rattle.ferruntzo.specs.definitions.Operations.{binaryAnswer, unaryAnswer};
+ghost use Rattle.ferruntzo.specs.definitions.Operations.{boundsIn, evaluationAnswer, evaluateAnswer};
 use crate::areas::BOUNDS_SIZE;
 use crate::areas::model_in;
 use crate::areas::store_bounds;

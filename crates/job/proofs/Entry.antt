@@ -14,7 +14,7 @@ use Rattle.certificate.specs.laws.Stages.{scratch-cleared}
 use Rattle.integer.specs.definitions.Lists.{zeros}
 use Rattle.integer.specs.laws.Clearing.{length-zeros}
 use Rattle.job.specs.definitions.Outcomes.{jobOutcomeOf, counted}
-use Rattle.job.specs.definitions.Jobs.{jobOutcome}
+use Rattle.job.specs.definitions.Run.{jobOutcome}
 use Rattle.job.specs.definitions.Work.{workSize, workWith, areaPlaces, areasFit, checkOutcome, workAfter, scratchAfterJob, resultsIn}
 use Rattle.job.specs.laws.CheckLaws.{areas-fit, areas-short}
 use Rattle.job.specs.definitions.Requirement.{Requirement3}

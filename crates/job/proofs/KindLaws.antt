@@ -1,4 +1,4 @@
--- The rows of the commands, and what an arm of a match on a kind says of it: the kinds are numbered 0 to 3 in the order of
+-- The layouts of the commands, and what an arm of a match on a kind says of it: the kinds are numbered 0 to 3 in the order of
 -- their declaration, and the kind's number is one of the arm's.
 use mathlib.Core.Path.{_≡_, refl}
 use mathlib.Core.Bool.{false, _&&_}
@@ -9,7 +9,8 @@ use borrow.Author.Tests.{ne-eqb}
 use lib.Dec.{eqb, leb, ltb}
 use denote.Enum.Declared.{tagOf}
 use types.Run.{OneOf, miss}
-use Rattle.job.specs.definitions.Commands.{maxResults, kindIn, layoutFor, makerAt, commandAt, badKind, badNames, badBytes, nameBytes, valueBytes, makesResult, isEnd}
+use Rattle.job.specs.definitions.Reading.{maxResults, badKind, badNames, badBytes, nameBytes, valueBytes, makesResult, isEnd}
+use Rattle.job.specs.definitions.Decode.{kindIn, layoutFor, makerAt, commandAt}
 use Rattle.job.specs.declared.types.Operation.{Operation}
 use Rattle.job.specs.declared.types.Operation.the-variants.{Load, Add, Subtract, Multiply, Quotient, Root}
 use Rattle.job.specs.declared.types.Kind.{Kind}
@@ -32,7 +33,7 @@ kind-unknown [] b known h = refl
 kind-unknown (r ∷ rs) b known h =
     simp (ne-eqb b (r .0) (none-known rs b (known × (b ≡ r .0 → ⊥)) h .1)) (kind-unknown rs b (known × (b ≡ r .0 → ⊥)) h)
 
--- ---- the rows
+-- ---- the layouts
 
 -- the bytes that reading looks at are operand bytes, and those that name results are the results that the command names
 pub record Agrees (kind : Kind) : Type 0 where

@@ -10,10 +10,11 @@ use Rattle.model.specs.definitions.Outcomes.{numberOf}
 use Rattle.integer.specs.definitions.Lists.{zeros}
 use Rattle.model.specs.declared.types.Model.{Model}
 use Rattle.model.specs.declared.types.Refusal.{Refusal}
-use Rattle.job.specs.definitions.Commands.{maxResults}
+use Rattle.job.specs.definitions.Reading.{maxResults}
 use Rattle.job.specs.definitions.Outcomes.{accepted, refused, jobOutcomeOf, counted}
-use Rattle.job.specs.definitions.Jobs.{Step, more, over, command, jobOutcome}
-use Rattle.job.specs.definitions.Work.{workSize, workWith, stretches, resultsIn}
+use Rattle.job.specs.definitions.Step.{Step, more, over, command}
+use Rattle.job.specs.definitions.Run.{jobOutcome}
+use Rattle.job.specs.definitions.Work.{workSize, workWith, resultWords, resultsIn}
 use Rattle.job.specs.definitions.Order.{Reaches, start}
 use Rattle.job.specs.laws.OrderLaws.{reaches-bounds, stops-there, ends-there, moves-on, refused-exactly}
 use Rattle.job.specs.definitions.InnerContracts.{Holds, Stepped}
@@ -39,7 +40,7 @@ pub record Going (job : List ℕ) (begun work : List ℤ) (at k count : ℕ) : T
 
 pub going-begins : (job : List ℕ) (w : List ℤ) → workSize ≤ length w
     → w ≡ zeros workSize ++ drop workSize w → Going job w w 0 0 0
-unfolding workWith stretches
+unfolding workWith resultWords
 going-begins job w long e = record {
   rs = [];
   reaches = start;
@@ -98,7 +99,7 @@ module _ {job : List ℕ} {begun work : List ℤ} {at k count : ℕ} (g : Going 
   -- after a refusal the area is cleared
   pub going-stops : (s : Step (List Model)) (v : Refusal) (work″ : List ℤ) → command job k (g .rs) at ≡ s
       → Stepped (Stopped v) work′ (g .rs) t s → work″ ≡ zeros workSize ++ drop workSize work′ → Ran job begun (Refused v k) work″
-  unfolding workWith stretches
+  unfolding workWith resultWords
   going-stops (Step.refused n) v work″ e d c =
       let b = reaches-bounds (g .reaches) in
       let o : jobOutcome job ≡ refused n k = stops-there (g .reaches) e in

@@ -17,7 +17,7 @@ use types.Run.{look, init, forget, stop, from, land, returns, free1, free0}
 use denote.Laws.{Is, shows}
 use denote.Steps.{peeks}
 use denote.Enum.Laws as EL
-use Rattle.job.specs.definitions.Commands.{CommandReading, commandReadingOf}
+use Rattle.job.specs.definitions.Reading.{CommandReading, commandReadingOf}
 use Rattle.job.specs.declared.types.CommandReading.{CommandReading as CodeReading}
 use Rattle.job.proofs.types.CommandReading as S
 use Rattle.job.proofs.types.CommandReading.Laws as S′

@@ -6,7 +6,7 @@ use Prim.Native.Nat.{ℕ, _+_}
 use lib.Dec.{leb, ltb}
 use lib.ListN.{length}
 use Rattle.model.specs.definitions.Outcomes.{passing}
-use Rattle.job.specs.definitions.Commands.{shapeAt, maxResults, badKind, badValues, badBytes, makesResult, isEnd, readingPlaces, CommandReading, found, commandReading}
+use Rattle.job.specs.definitions.Reading.{shapeAt, maxResults, badKind, badValues, badBytes, makesResult, isEnd, readingPlaces, CommandReading, found, commandReading}
 use Rattle.job.specs.declared.types.Shape.{Shape}
 use Rattle.job.proofs.KindLaws.{agrees}
 

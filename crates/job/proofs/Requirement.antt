@@ -10,14 +10,14 @@ use lib.ListN.{length}
 use Rattle.integer.specs.laws.OrderedRingLaws.{lt-le}
 use Rattle.integer.specs.definitions.Fraction.{ℚ}
 use Rattle.integer.specs.laws.FractionOrder.{ℚ-ordered}
-use Rattle.model.specs.definitions.Values.{Allows}
+use Rattle.model.specs.definitions.Allowed.{Allows}
 use Rattle.model.specs.declared.types.Model.{Model}
-use Rattle.job.specs.definitions.Makers.{Maker, quotient, root, resultAt, namesBad}
-use Rattle.job.specs.definitions.Commands.{Command, result}
+use Rattle.job.specs.definitions.Operations.{Maker, quotient, root, resultAt, namesBad}
+use Rattle.job.specs.definitions.Decode.{Command, result}
 use Rattle.job.specs.definitions.Outcomes.{accepted}
-use Rattle.job.specs.definitions.Jobs.{jobOutcome}
-use Rattle.job.specs.definitions.JobReading.{commandFor}
-use Rattle.job.specs.definitions.Work.{stretch}
+use Rattle.job.specs.definitions.Run.{jobOutcome}
+use Rattle.job.specs.definitions.Reader.{commandFor}
+use Rattle.job.specs.definitions.Work.{storedResult}
 use Rattle.job.specs.definitions.InnerContracts.{Holds}
 use Rattle.job.specs.laws.CommandLaws.{both-below}
 use Rattle.job.specs.definitions.Requirement.{Overlaps, Made, Results, Requirement3}
@@ -37,8 +37,8 @@ module _ (job : List ℕ) (rs : List Model) (e : jobOutcome job ≡ accepted rs)
   named : (i : ℕ) (m : Maker) → commandFor cs i ≡ result m → namesBad m i ≡ false
   named i m f = made-maker all-made i m f .names
 
-  -- what a stretch allows, its result allows
-  allowed : (x v : ℚ) (i : ℕ) → i < length rs → Allows (stretch work i) x v → Allows (resultAt rs i) x v
+  -- what a stored result allows, its result allows
+  allowed : (x v : ℚ) (i : ℕ) → i < length rs → Allows (storedResult work i) x v → Allows (resultAt rs i) x v
   allowed x v i h = subst (λ (m : Model). Allows m x v) (result-held holds i h)
 
   results : Results job (length rs) work

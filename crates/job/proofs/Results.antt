@@ -9,41 +9,41 @@ use lib.Seq.{take-at, take-suc, take-length, drop-at, drop-append-add, drop-drop
 use Rattle.integer.specs.definitions.Lists.{zeros}
 use Rattle.integer.specs.laws.Clearing.{length-zeros, zeros-append}
 use Rattle.model.specs.definitions.Models.{coefficientCount, zeroModel}
-use Rattle.model.specs.definitions.Areas.{modelSize, words, areaModel}
+use Rattle.model.specs.definitions.Area.{modelSize, words, areaModel}
 use Rattle.model.specs.laws.AreaLaws.{length-words, model-words}
 use Rattle.model.specs.declared.types.Model.{Model}
-use Rattle.job.specs.definitions.Commands.{maxResults}
-use Rattle.job.specs.definitions.Makers.{resultAt}
-use Rattle.job.specs.definitions.Work.{workSize, stretch, modelsIn, stretches, workWith, storedAt}
+use Rattle.job.specs.definitions.Reading.{maxResults}
+use Rattle.job.specs.definitions.Operations.{resultAt}
+use Rattle.job.specs.definitions.Work.{workSize, storedResult, modelsIn, resultWords, workWith, storedAt}
 use Rattle.job.specs.definitions.InnerContracts.{Sized, Holds}
 
-length-stretches : (rs : List Model) → Sized rs → length (stretches rs) ≡ modelSize * length rs
-unfolding stretches
-length-stretches [] s = refl
-length-stretches (m ∷ rs) s =
-    length-append (words m) (stretches rs) ∙ omega (arith, length-words m (s .0), length-stretches rs (s .1))
+length-resultWords : (rs : List Model) → Sized rs → length (resultWords rs) ≡ modelSize * length rs
+unfolding resultWords
+length-resultWords [] s = refl
+length-resultWords (m ∷ rs) s =
+    length-append (words m) (resultWords rs) ∙ omega (arith, length-words m (s .0), length-resultWords rs (s .1))
 
--- the stretch of result i
-stretch-result : (rs : List Model) (t : List ℤ) (i : ℕ) → Sized rs → i < length rs → stretch (stretches rs ++ t) i ≡ resultAt rs i
-unfolding stretches
-stretch-result [] t i s h = absurd (omega arith)
-stretch-result (m ∷ rs) t zero s h =
-    ap (λ (l : List ℤ). areaModel (take modelSize l)) (append-assoc (words m) (stretches rs) t)
-    ∙ ap areaModel (take-at (words m) (stretches rs ++ t) modelSize (length-words m (s .0)))
+-- the stored result i
+storedResult-is : (rs : List Model) (t : List ℤ) (i : ℕ) → Sized rs → i < length rs → storedResult (resultWords rs ++ t) i ≡ resultAt rs i
+unfolding resultWords
+storedResult-is [] t i s h = absurd (omega arith)
+storedResult-is (m ∷ rs) t zero s h =
+    ap (λ (l : List ℤ). areaModel (take modelSize l)) (append-assoc (words m) (resultWords rs) t)
+    ∙ ap areaModel (take-at (words m) (resultWords rs ++ t) modelSize (length-words m (s .0)))
     ∙ model-words m (s .0)
-stretch-result (m ∷ rs) t (suc i) s h =
+storedResult-is (m ∷ rs) t (suc i) s h =
     let e : modelSize * suc i ≡ length (words m) + modelSize * i = omega (arith, length-words m (s .0)) in
-    ap (λ (k : ℕ). areaModel (take modelSize (drop k ((words m ++ stretches rs) ++ t)))) e
+    ap (λ (k : ℕ). areaModel (take modelSize (drop k ((words m ++ resultWords rs) ++ t)))) e
     ∙ ap (λ (l : List ℤ). areaModel (take modelSize (drop (length (words m) + modelSize * i) l)))
-    (append-assoc (words m) (stretches rs) t)
-    ∙ ap (λ (l : List ℤ). areaModel (take modelSize l)) (drop-append-add (words m) (stretches rs ++ t) (modelSize * i))
-    ∙ stretch-result rs t i (s .1) (omega arith)
+    (append-assoc (words m) (resultWords rs) t)
+    ∙ ap (λ (l : List ℤ). areaModel (take modelSize l)) (drop-append-add (words m) (resultWords rs ++ t) (modelSize * i))
+    ∙ storedResult-is rs t i (s .1) (omega arith)
 
-stretches-snoc : (rs : List Model) (m : Model) → stretches (rs ++ (m ∷ [])) ≡ stretches rs ++ words m
-unfolding stretches
-stretches-snoc [] m = append-nil (words m)
-stretches-snoc (r ∷ rs) m =
-    ap (λ (l : List ℤ). words r ++ l) (stretches-snoc rs m) ∙ sym (append-assoc (words r) (stretches rs) (words m))
+resultWords-snoc : (rs : List Model) (m : Model) → resultWords (rs ++ (m ∷ [])) ≡ resultWords rs ++ words m
+unfolding resultWords
+resultWords-snoc [] m = append-nil (words m)
+resultWords-snoc (r ∷ rs) m =
+    ap (λ (l : List ℤ). words r ++ l) (resultWords-snoc rs m) ∙ sym (append-assoc (words r) (resultWords rs) (words m))
 
 sized-snoc : (rs : List Model) (m : Model) → Sized rs → length (m .coefficients) ≡ coefficientCount → Sized (rs ++ (m ∷ []))
 sized-snoc [] m s h = (h, tt)
@@ -60,8 +60,8 @@ drop-zeros n k t h =
 length-workWith : (rs : List Model) → Sized rs → length rs ≤ maxResults → length (workWith rs) ≡ workSize
 unfolding workWith
 length-workWith rs s few =
-    length-append (stretches rs) (zeros (workSize - modelSize * length rs))
-    ∙ omega (arith, length-stretches rs s, length-zeros (workSize - modelSize * length rs))
+    length-append (resultWords rs) (zeros (workSize - modelSize * length rs))
+    ∙ omega (arith, length-resultWords rs s, length-zeros (workSize - modelSize * length rs))
 
 -- ---- a work area that holds results
 
@@ -69,18 +69,18 @@ module _ {w : List ℤ} {count : ℕ} {rs : List Model} {t : List ℤ} (h : Hold
   abbrev z : List ℤ
   z = zeros (workSize - modelSize * length rs)
 
-  front-is : w ≡ stretches rs ++ (z ++ t)
+  front-is : w ≡ resultWords rs ++ (z ++ t)
   unfolding workWith
-  front-is = h .work-is ∙ append-assoc (stretches rs) z t
+  front-is = h .work-is ∙ append-assoc (resultWords rs) z t
 
   -- the count is the number of results
   pub holds-all : Holds w (length rs) rs t
   holds-all = record { work-is = h .work-is; count-is = refl; sized = h .sized }
 
   -- the model read at result i
-  pub result-held : (i : ℕ) → i < count → stretch w i ≡ resultAt rs i
+  pub result-held : (i : ℕ) → i < count → storedResult w i ≡ resultAt rs i
   result-held i lt =
-      ap (λ (l : List ℤ). stretch l i) front-is ∙ stretch-result rs (z ++ t) i (h .sized) (omega (arith, h .count-is))
+      ap (λ (l : List ℤ). storedResult l i) front-is ∙ storedResult-is rs (z ++ t) i (h .sized) (omega (arith, h .count-is))
 
   models-upto : (n : ℕ) → n ≤ count → modelsIn w n ≡ take n rs
   unfolding modelsIn
@@ -107,21 +107,21 @@ module _ {w : List ℤ} {count : ℕ} {rs : List Model} {t : List ℤ} (h : Hold
       let a : ℕ = modelSize * count in
       let z′ : List ℤ = zeros (workSize - modelSize * length rs′) in
       let ce : count ≡ length rs = h .count-is in
-      let la : length (stretches rs) ≡ a = omega (arith, length-stretches rs (h .sized)) in
+      let la : length (resultWords rs) ≡ a = omega (arith, length-resultWords rs (h .sized)) in
       let lr : length rs′ ≡ length rs + 1 = length-append rs (m ∷ []) in
-      let front : take a w ≡ stretches rs = ap (λ (l : List ℤ). take a l) front-is ∙ take-at (stretches rs) (z ++ t) a la in
+      let front : take a w ≡ resultWords rs = ap (λ (l : List ℤ). take a l) front-is ∙ take-at (resultWords rs) (z ++ t) a la in
       let back : drop (a + modelSize) w ≡ z′ ++ t =
       ap (λ (l : List ℤ). drop (a + modelSize) l) front-is
-      ∙ sym (drop-drop modelSize a (stretches rs ++ (z ++ t)))
-      ∙ ap (λ (l : List ℤ). drop modelSize l) (drop-at (stretches rs) (z ++ t) a la)
+      ∙ sym (drop-drop modelSize a (resultWords rs ++ (z ++ t)))
+      ∙ ap (λ (l : List ℤ). drop modelSize l) (drop-at (resultWords rs) (z ++ t) a la)
       ∙ drop-zeros (workSize - modelSize * length rs) modelSize t (omega arith)
       ∙ ap (λ (k : ℕ). zeros k ++ t) (omega arith) in record {
         work-is =
             ap (λ (l : List ℤ). l ++ (words m ++ drop (a + modelSize) w)) front
-            ∙ ap (λ (l : List ℤ). stretches rs ++ (words m ++ l)) back
-            ∙ sym (append-assoc (stretches rs) (words m) (z′ ++ t))
-            ∙ ap (λ (l : List ℤ). l ++ (z′ ++ t)) (sym (stretches-snoc rs m))
-            ∙ sym (append-assoc (stretches rs′) z′ t);
+            ∙ ap (λ (l : List ℤ). resultWords rs ++ (words m ++ l)) back
+            ∙ sym (append-assoc (resultWords rs) (words m) (z′ ++ t))
+            ∙ ap (λ (l : List ℤ). l ++ (z′ ++ t)) (sym (resultWords-snoc rs m))
+            ∙ sym (append-assoc (resultWords rs′) z′ t);
         count-is = refl;
         sized = sized-snoc rs m (h .sized) h33;
       }

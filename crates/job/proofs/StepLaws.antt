@@ -11,9 +11,10 @@ use lib.ListN.{length}
 use Rattle.model.specs.definitions.Outcomes.{Passed, First}
 use Rattle.model.specs.laws.PlaceLaws.{passing-passed, passing-unrefused, first-or-passed, passing-first}
 use Rattle.model.specs.declared.types.Model.{Model}
-use Rattle.job.specs.definitions.Makers.{Maker, Row, of-none, of-one, of-two, rowFor, badIn, namesBad}
-use Rattle.job.specs.definitions.Commands.{maxResults, shapeAt, nextAt, commandAt, readingPlaces, CommandReading, found, commandReading}
-use Rattle.job.specs.definitions.Jobs.{refused, performed, command}
+use Rattle.job.specs.definitions.Operations.{Maker, Making, of-none, of-one, of-two, makingFor, badIn, namesBad}
+use Rattle.job.specs.definitions.Reading.{maxResults, shapeAt, nextAt, readingPlaces, CommandReading, found, commandReading}
+use Rattle.job.specs.definitions.Decode.{commandAt}
+use Rattle.job.specs.definitions.Step.{refused, performed, command}
 use Rattle.job.specs.laws.CommandLaws.{both-below, Readable, readable}
 use Rattle.job.specs.definitions.Work.{workSize}
 use Rattle.job.specs.definitions.InnerContracts.{Performable}
@@ -81,12 +82,12 @@ module _ (job : List ℕ) (k count at : ℕ) (kind : Kind) (next : ℕ) (work : 
 -- ---- a command that makes a result names results below 32
 
 module _ (count : ℕ) (few : count ≤ maxResults) where
-  row-below : (r : Row) → badIn r count ≡ false → badIn r maxResults ≡ false
-  row-below (of-none g) h = refl
-  row-below (of-one i g) h = lt-leb maxResults i (omega (arith, leb-false count i h))
-  row-below (of-two i j g) h =
+  making-below : (r : Making) → badIn r count ≡ false → badIn r maxResults ≡ false
+  making-below (of-none g) h = refl
+  making-below (of-one i g) h = lt-leb maxResults i (omega (arith, leb-false count i h))
+  making-below (of-two i j g) h =
       let b = both-below count i j h in
       simp (lt-leb maxResults i (omega (arith, b)), lt-leb maxResults j (omega (arith, b)))
 
   pub names-below : (m : Maker) → namesBad m count ≡ false → namesBad m maxResults ≡ false
-  names-below m h = row-below (rowFor m) h
+  names-below m h = making-below (makingFor m) h

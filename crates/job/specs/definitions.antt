@@ -1,9 +1,11 @@
 pub mod Bytes
-pub mod Makers
-pub mod Commands
+pub mod Operations
+pub mod Decode
+pub mod Reading
 pub mod Outcomes
-pub mod Jobs
-pub mod JobReading
+pub mod Step
+pub mod Run
+pub mod Reader
 pub mod Work
 pub mod InnerContracts
 pub mod Order

@@ -1,17 +1,17 @@
 // The command byte decides a command's shape: its kind, the width of its operands, and what reading asks of them.
 ghost use mathlib.Core.Path.{_≡_};
-ghost use Rattle.job.specs.definitions.Commands.{shapeOf};
+ghost use Rattle.job.specs.definitions.Decode.{shapeOf};
 use crate::types::Kind;
 use crate::types::Names;
+use crate::types::OperandValues;
 use crate::types::Operation;
 use crate::types::Shape;
-use crate::types::Values;
 
 const UNKNOWN: Shape = Shape {
     kind: Kind::Unknown,
     width: 0,
     names: Names::Nothing,
-    values: Values::Any,
+    values: OperandValues::Any,
 };
 
 pub(crate) fn shape_of(b: u8) -> Shape
@@ -22,51 +22,51 @@ pub(crate) fn shape_of(b: u8) -> Shape
             kind: Kind::End,
             width: 0,
             names: Names::Nothing,
-            values: Values::Any,
+            values: OperandValues::Any,
         },
         0x01 => Shape {
             kind: Kind::Edition,
             width: 1,
             names: Names::Nothing,
-            values: Values::EditionOne,
+            values: OperandValues::EditionOne,
         },
         0x02..=0x0f => UNKNOWN,
         0x10 => Shape {
             kind: Kind::Result(Operation::Load),
             width: 137,
             names: Names::Nothing,
-            values: Values::Any,
+            values: OperandValues::Any,
         },
         0x11 => Shape {
             kind: Kind::Result(Operation::Add),
             width: 2,
             names: Names::Two,
-            values: Values::Any,
+            values: OperandValues::Any,
         },
         0x12 => Shape {
             kind: Kind::Result(Operation::Subtract),
             width: 2,
             names: Names::Two,
-            values: Values::Any,
+            values: OperandValues::Any,
         },
         0x13 => Shape {
             kind: Kind::Result(Operation::Multiply),
             width: 3,
             names: Names::Two,
-            values: Values::KeptDegree,
+            values: OperandValues::KeptDegree,
         },
         0x14..=0x1f => UNKNOWN,
         0x20 => Shape {
             kind: Kind::Result(Operation::Quotient),
             width: 268,
             names: Names::Two,
-            values: Values::Any,
+            values: OperandValues::Any,
         },
         0x21 => Shape {
             kind: Kind::Result(Operation::Root),
             width: 267,
             names: Names::One,
-            values: Values::Any,
+            values: OperandValues::Any,
         },
         0x22..=0xff => UNKNOWN,
     }

@@ -7,14 +7,14 @@ ghost use lib.ListN.{length};
 ghost use Rattle.model.specs.definitions.Outcomes.{outcomeOf};
 ghost use Rattle.certificate.specs.definitions.Tests.{testOf};
 ghost use Rattle.job.specs.definitions.Bytes.{byteAt};
-ghost use Rattle.job.specs.definitions.Commands.{keptByte, makerAt};
-ghost use Rattle.job.specs.definitions.Work.{stretch};
+ghost use Rattle.job.specs.definitions.Decode.{keptByte, makerAt};
+ghost use Rattle.job.specs.definitions.Work.{storedResult};
 ghost use Rattle.job.specs.definitions.InnerContracts.{untestedOutcome, Performs, Operable, NamesOne, NamesTwo, Clear};
 use crate::bytes::read_candidate;
 use crate::bytes::read_model;
 use crate::bytes::read_unsigned;
 use crate::types::Operation;
-use crate::work::stretch_at;
+use crate::work::stored_result;
 use certificate::types::TestOutcome;
 use model::types::Model;
 use model::types::ModelOutcome;
@@ -22,9 +22,9 @@ use model::types::ModelOutcome;
 // The result that byte i of the job names.
 fn named(job: &[u8], i: usize, work: &[i32]) -> Model
     requires { ⌜ NamesOne (now job) i (now work) ⌝ }
-    ensures { λ (m : Model). ⌜ m ≡ stretch (now (work .entry)) (byteAt (now (job .entry)) i) ⌝ }
+    ensures { λ (m : Model). ⌜ m ≡ storedResult (now (work .entry)) (byteAt (now (job .entry)) i) ⌝ }
 {
-    stretch_at(work, job[i] as usize)
+    stored_result(work, job[i] as usize)
 }
 
 // The results that the two bytes after a command name.
@@ -35,8 +35,8 @@ struct Operands {
 
 fn read_operands(job: &[u8], at: usize, work: &[i32]) -> Operands
     requires { ⌜ NamesTwo (now job) at (now work) ⌝ }
-    ensures { λ (r : Operands). ⌜ r .first ≡ stretch (now (work .entry)) (byteAt (now (job .entry)) (at + 1)) ⌝ }
-    ensures { λ (r : Operands). ⌜ r .second ≡ stretch (now (work .entry)) (byteAt (now (job .entry)) (at + 2)) ⌝ }
+    ensures { λ (r : Operands). ⌜ r .first ≡ storedResult (now (work .entry)) (byteAt (now (job .entry)) (at + 1)) ⌝ }
+    ensures { λ (r : Operands). ⌜ r .second ≡ storedResult (now (work .entry)) (byteAt (now (job .entry)) (at + 2)) ⌝ }
 {
     let first = named(job, at + 1, work);
     let second = named(job, at + 2, work);

@@ -1,7 +1,7 @@
 // The reader: "refers to the job's bytes and to the next unread one". The borrow checker covers no function over a struct
 // that holds a reference, so these are thin, and the work is `read_command`'s.
 ghost use mathlib.Core.Path.{_≡_};
-ghost use Rattle.job.specs.definitions.Commands.{commandReading, commandReadingOf};
+ghost use Rattle.job.specs.definitions.Reading.{commandReading, commandReadingOf};
 use crate::reading::read_command;
 use crate::types::CommandReading;
 

@@ -5,13 +5,14 @@ ghost use Prim.Native.Nat.{_+_, _≤_};
 ghost use lib.Dec.{leb, ltb};
 ghost use lib.ListN.{length};
 ghost use Rattle.model.specs.definitions.Models.{maxDegree};
-ghost use Rattle.job.specs.definitions.Commands.{maxResults, keptByte, badKind, badValues, valueBytes, badBytes, nameBytes};
-ghost use Rattle.job.specs.definitions.Commands.{makesResult, isEnd, commandReading, commandReadingOf};
+ghost use Rattle.job.specs.definitions.Reading.{maxResults, badKind, badValues, valueBytes, badBytes, nameBytes};
+ghost use Rattle.job.specs.definitions.Reading.{makesResult, isEnd, commandReading, commandReadingOf};
+ghost use Rattle.job.specs.definitions.Decode.{keptByte};
 use crate::decode::shape_of;
 use crate::types::CommandReading;
 use crate::types::Kind;
 use crate::types::Names;
-use crate::types::Values;
+use crate::types::OperandValues;
 use model::types::Model;
 use model::types::Refusal;
 
@@ -40,14 +41,14 @@ fn is_bad_degree(d: u8) -> bool
 }
 
 // Edition not 1; a bad kept degree.
-fn has_bad_values(values: Values, job: &[u8], at: usize) -> bool
+fn has_bad_values(values: OperandValues, job: &[u8], at: usize) -> bool
     requires { ⌜ at + 1 + valueBytes values ≤ length (now job) ⌝ }
     ensures { λ r. ⌜ r ≡ badValues values (now (job .entry)) at ⌝ }
 {
     match values {
-        Values::Any => false,
-        Values::EditionOne => job[at + 1] != 1,
-        Values::KeptDegree => is_bad_degree(job[at + 3]),
+        OperandValues::Any => false,
+        OperandValues::EditionOne => job[at + 1] != 1,
+        OperandValues::KeptDegree => is_bad_degree(job[at + 3]),
     }
 }
 

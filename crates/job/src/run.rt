@@ -3,7 +3,7 @@ ghost use mathlib.Core.Path.{_≡_};
 ghost use mathlib.Core.List.{[], _++_};
 ghost use lib.ListN.{drop};
 ghost use Rattle.job.specs.definitions.Outcomes.{jobOutcomeOf, counted};
-ghost use Rattle.job.specs.definitions.Jobs.{jobOutcome};
+ghost use Rattle.job.specs.definitions.Run.{jobOutcome};
 ghost use Rattle.job.specs.definitions.Work.{workSize, workWith, areaPlaces, resultsIn, workAfter};
 ghost use Rattle.job.specs.definitions.Work.{checkOutcome, scratchAfterJob};
 ghost use Rattle.job.specs.definitions.InnerContracts.{Cleared};

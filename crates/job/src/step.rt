@@ -1,8 +1,8 @@
-// One command: its reading, its operation, and its result's stretch of the work area.
+// One command: its reading, its operation, and its result's 35 numbers of the work area.
 ghost use mathlib.Core.Path.{_≡_};
 ghost use Rattle.certificate.specs.definitions.Tests.{testOf};
-ghost use Rattle.job.specs.definitions.Commands.{commandAt};
-ghost use Rattle.job.specs.definitions.Jobs.{resulting, performed, command};
+ghost use Rattle.job.specs.definitions.Decode.{commandAt};
+ghost use Rattle.job.specs.definitions.Step.{resulting, performed, command};
 ghost use Rattle.job.specs.definitions.InnerContracts.{StepsBy, Performable, Storing, Between, Clear};
 use crate::operations::operate;
 use crate::reader::read_next;

@@ -26,8 +26,8 @@ pub enum Names {
     Two,
 }
 
-// What is asked of a command's operand bytes: nothing, an edition of 1, or a kept degree after two names.
-pub enum Values {
+// What values are asked of a command's operand bytes: none, an edition of 1, or a kept degree after two names.
+pub enum OperandValues {
     Any,
     EditionOne,
     KeptDegree,
@@ -38,7 +38,7 @@ pub struct Shape {
     pub kind: Kind,
     pub width: usize,
     pub names: Names,
-    pub values: Values,
+    pub values: OperandValues,
 }
 
 // What reading a command answers: its kind and the next position, or a refusal.

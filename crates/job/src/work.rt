@@ -5,8 +5,8 @@ ghost use Prim.Native.Nat.{_≤_, _<_};
 ghost use lib.ListN.{length, drop};
 ghost use Rattle.integer.specs.definitions.Lists.{zeros};
 ghost use Rattle.certificate.specs.definitions.Tests.{scratchSize};
-ghost use Rattle.job.specs.definitions.Commands.{maxResults};
-ghost use Rattle.job.specs.definitions.Work.{workSize, stretch, storedAt};
+ghost use Rattle.job.specs.definitions.Reading.{maxResults};
+ghost use Rattle.job.specs.definitions.Work.{workSize, storedResult, storedAt};
 ghost use Rattle.job.specs.definitions.InnerContracts.{Storing};
 use certificate::types::SCRATCH_SIZE;
 use model::area::MODEL_SIZE;
@@ -16,7 +16,7 @@ use model::types::Model;
 
 pub const WORK_SIZE: usize = 1120;
 
-// Writes a model into stretch i.
+// Writes a model as result i.
 pub(crate) fn store(work: &mut [i32], i: usize, m: Model)
     requires { ⌜ Storing (now work) i m ⌝ }
     ensures { λ _. ⌜ now (work .exit) ≡ storedAt (now (work .entry)) i m ⌝ }
@@ -25,10 +25,10 @@ pub(crate) fn store(work: &mut [i32], i: usize, m: Model)
     write(&mut work[a..a + MODEL_SIZE], m);
 }
 
-// The model in stretch i.
-pub fn stretch_at(work: &[i32], i: usize) -> Model
+// The model of result i.
+pub fn stored_result(work: &[i32], i: usize) -> Model
     requires { ⌜ (workSize ≤ length (now work)) × (i < maxResults) ⌝ }
-    ensures { λ (m : Model). ⌜ m ≡ stretch (now (work .entry)) i ⌝ }
+    ensures { λ (m : Model). ⌜ m ≡ storedResult (now (work .entry)) i ⌝ }
 {
     let a = MODEL_SIZE * i;
     read(&work[a..a + MODEL_SIZE])

@@ -5,7 +5,7 @@ use Prim.Native.Nat.{ℕ, _≤_}
 use native.Mathlib.Omega.{arith}
 use lib.IntN.{ℤ}
 use Rattle.job.specs.laws.AnswerBounds.{answer-small}
-use Rattle.job.specs.definitions.Commands.{maxResults}
+use Rattle.job.specs.definitions.Reading.{maxResults}
 use Rattle.job.specs.definitions.Outcomes.{jobOutcomeOf, counted, resultCount}
 use Rattle.job.specs.definitions.Work.{checkOutcome}
 use Rattle.job.specs.declared.types.JobOutcome.{JobOutcome}

@@ -1,6 +1,6 @@
 // Checks a job from standard input: a line for each result, number, degree, radius, then 'accepted' and the count; or one
 // line: 'refused', number, command; 'too long'; or 'unreadable', if a read failed.
-ghost use Rattle.jobcheck.specs.definitions.Lines.{Printable};
+ghost use Rattle.jobcheck.specs.definitions.Main.{Printable};
 ghost use Prim.Native.Nat.{_+_};
 use certificate::types::SCRATCH_SIZE;
 use input::Input;
@@ -47,7 +47,7 @@ fn number(n: u64) {
 fn line(work: &[i32], i: usize)
     requires { ⌜ Printable (now work) (i + 1) ⌝ }
 {
-    let m = job::work::stretch_at(work, i);
+    let m = job::work::stored_result(work, i);
     number(i as u64);
     text(b" ");
     number(m.degree as u64);

@@ -14,7 +14,7 @@ use Rattle.integer.specs.laws.RoundingSize.{floor-size, up-size}
 use Rattle.model.specs.definitions.Models.{scale, terms, good}
 use Rattle.model.specs.laws.ModelLaws.{Good, good-is}
 use Rattle.model.specs.laws.GoodLaws.{length-terms, weight-terms}
-use Rattle.model.specs.definitions.Evaluation.{pointSum, pointError, lowBound, highBound}
+use Rattle.model.specs.definitions.Evaluate.{pointSum, pointError, lowBound, highBound}
 use Rattle.model.specs.laws.EvaluationLaws.{sum-size, error-size}
 use Rattle.model.specs.declared.types.Model.{Model}
 

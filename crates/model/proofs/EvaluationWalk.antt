@@ -16,7 +16,7 @@ use Rattle.integer.specs.definitions.Rounding.{near}
 use Rattle.chebyshev.specs.definitions.Coefficients.{weight}
 use Rattle.chebyshev.specs.laws.Weight.{weight-drop}
 use Rattle.model.specs.definitions.Models.{scale, coefficientCount, maxWeight}
-use Rattle.model.specs.definitions.Evaluation.{pointTerm, pointSum, pointError}
+use Rattle.model.specs.definitions.Evaluate.{pointTerm, pointSum, pointError}
 use Rattle.model.specs.laws.EvaluationLaws.{term-size, sum-size, error-size}
 
 -- at place k: what is summed up and what is left of cs make V and W, and t and `next` are t_k and t_(k+1)

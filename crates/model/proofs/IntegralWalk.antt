@@ -13,7 +13,7 @@ use Rattle.chebyshev.specs.definitions.Coefficients.{weight}
 use Rattle.chebyshev.specs.laws.Weight.{weight-step, weight-drop, weight-at}
 use Rattle.model.specs.definitions.InnerContracts.{roundedIntegral, roundedTail}
 use Rattle.model.specs.definitions.Models.{coefficientCount}
-use Rattle.model.specs.definitions.Integral.{alternating}
+use Rattle.model.specs.definitions.Integrate.{alternating}
 use Rattle.model.specs.laws.IntegralLaws.{length-rounded, getD-rounded, weight-rounded, alternating-size, weight-integral}
 
 -- at place k: c_(k+1), c_(k+2), … stand in `out`, `total` is their weight and `first` is c_(k+1) − c_(k+2) + …; `above` and

@@ -1,9 +1,11 @@
 pub mod Models
 pub mod Outcomes
 pub mod InnerContracts
-pub mod Areas
-pub mod Values
+pub mod Area
+pub mod Allowed
 pub mod Round
-pub mod Operations
-pub mod Integral
-pub mod Evaluation
+pub mod Load
+pub mod Add
+pub mod Multiply
+pub mod Integrate
+pub mod Evaluate

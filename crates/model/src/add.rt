@@ -5,7 +5,7 @@ ghost use Rattle.integer.specs.definitions.Integer.{ℤ-ring};
 ghost use Rattle.chebyshev.specs.definitions.Coefficients.{weight, addLists, scaleList};
 ghost use Rattle.model.specs.definitions.InnerContracts.{Summands, combination};
 ghost use Rattle.model.specs.definitions.Outcomes.{outcomeOf};
-ghost use Rattle.model.specs.definitions.Operations.{addition, subtraction};
+ghost use Rattle.model.specs.definitions.Add.{addition, subtraction};
 use crate::measure::is_good;
 use crate::types::COEFFICIENTS;
 use crate::types::Model;

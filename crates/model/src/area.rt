@@ -1,8 +1,8 @@
 // Areas of signed 32-bit numbers: a model is its degree, its coefficients and its radius, a candidate the first two.
 ghost use mathlib.Core.Path.{_≡_};
 ghost use lib.ListN.{length};
-ghost use Rattle.model.specs.definitions.Areas.{modelSize, candidateSize, unsignedOf, areaModel};
-ghost use Rattle.model.specs.definitions.Areas.{areaCandidate, words, Storable};
+ghost use Rattle.model.specs.definitions.Area.{modelSize, candidateSize, unsignedOf, areaModel};
+ghost use Rattle.model.specs.definitions.Area.{areaCandidate, words, Storable};
 use crate::types::COEFFICIENTS;
 use crate::types::Candidate;
 use crate::types::Model;

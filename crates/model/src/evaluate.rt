@@ -3,7 +3,7 @@ ghost use mathlib.Core.Path.{_≡_};
 ghost use Prim.Native.Nat.{suc};
 ghost use lib.ListN.{take};
 ghost use Rattle.model.specs.definitions.InnerContracts.{Evaluable};
-ghost use Rattle.model.specs.definitions.Evaluation.{pointSum, pointError, boundsOf, evaluation};
+ghost use Rattle.model.specs.definitions.Evaluate.{pointSum, pointError, boundsOf, evaluation};
 use crate::measure::is_good;
 use crate::types::BoundsOutcome;
 use crate::types::COEFFICIENTS;

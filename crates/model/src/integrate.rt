@@ -6,7 +6,7 @@ ghost use lib.ListN.{take};
 ghost use Rattle.chebyshev.specs.definitions.Coefficients.{weight};
 ghost use Rattle.model.specs.definitions.InnerContracts.{Integrable, roundedIntegral};
 ghost use Rattle.model.specs.definitions.Outcomes.{outcomeOf};
-ghost use Rattle.model.specs.definitions.Integral.{integration};
+ghost use Rattle.model.specs.definitions.Integrate.{integration};
 use crate::measure::is_good;
 use crate::types::COEFFICIENTS;
 use crate::types::Model;

@@ -1,7 +1,7 @@
 // A model that is handed in: the model itself if it is good.
 ghost use mathlib.Core.Path.{_≡_};
 ghost use Rattle.model.specs.definitions.Outcomes.{outcomeOf};
-ghost use Rattle.model.specs.definitions.Operations.{loading};
+ghost use Rattle.model.specs.definitions.Load.{loading};
 use crate::measure::is_good;
 use crate::types::Model;
 use crate::types::ModelOutcome;

@@ -7,7 +7,7 @@ ghost use Rattle.chebyshev.specs.definitions.Product.{product};
 ghost use Rattle.model.specs.definitions.InnerContracts.{Factors, Limited, Multipliable, unlessLarge};
 ghost use Rattle.model.specs.definitions.Models.{scale, coefficientCount, productSize};
 ghost use Rattle.model.specs.definitions.Outcomes.{outcomeOf};
-ghost use Rattle.model.specs.definitions.Operations.{productModel, multiplication};
+ghost use Rattle.model.specs.definitions.Multiply.{productModel, multiplication};
 ghost use Rattle.model.specs.definitions.Round.{RoundedFrom};
 use crate::measure::measure;
 use crate::products::add_products;

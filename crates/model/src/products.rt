@@ -5,7 +5,7 @@ ghost use lib.IntN.{natAbs};
 ghost use lib.ListN.{length};
 ghost use Rattle.integer.specs.definitions.Integer.{ℤ-ring};
 ghost use Rattle.chebyshev.specs.definitions.Coefficients.{weight};
-ghost use Rattle.chebyshev.specs.definitions.Product.{distance as distanceOf, addAt, addPair, addRow, addRows};
+ghost use Rattle.chebyshev.specs.definitions.Product.{distance as distanceOf, addAt, addPair, addTerm, addTerms};
 
 // |i - j|
 fn distance(i: usize, j: usize) -> usize
@@ -34,7 +34,7 @@ fn add_pair(c: &mut [i64], i: usize, j: usize, v: i64)
 // The pairs of x, at place i, with each element of b, the first of which stands at place j.
 fn add_pairs(c: &mut [i64], x: i64, i: usize, j: usize, b: &[i32])
     requires { ⌜ (i + j + length (now b) ≤ length (now c)) × (weight (now c) + 2 * natAbs x * weight (now b) < 2 ^ 63) ⌝ }
-    ensures { λ _. ⌜ now (c .exit) ≡ addRow ℤ-ring (now (c .entry)) x i j (now (b .entry)) ⌝ }
+    ensures { λ _. ⌜ now (c .exit) ≡ addTerm ℤ-ring (now (c .entry)) x i j (now (b .entry)) ⌝ }
 {
     let mut k = 0;
     while k < b.len() {
@@ -43,10 +43,10 @@ fn add_pairs(c: &mut [i64], x: i64, i: usize, j: usize, b: &[i32])
     }
 }
 
-// The whole row of x, at place i, cut at j = i, so that no loop has to choose between i - j and j - i.
-fn add_row(c: &mut [i64], x: i64, i: usize, b: &[i32])
+// The whole term of x, at place i, cut at j = i, so that no loop has to choose between i - j and j - i.
+fn add_term(c: &mut [i64], x: i64, i: usize, b: &[i32])
     requires { ⌜ (i + length (now b) ≤ length (now c)) × (weight (now c) + 2 * natAbs x * weight (now b) < 2 ^ 63) ⌝ }
-    ensures { λ _. ⌜ now (c .exit) ≡ addRow ℤ-ring (now (c .entry)) x i 0 (now (b .entry)) ⌝ }
+    ensures { λ _. ⌜ now (c .exit) ≡ addTerm ℤ-ring (now (c .entry)) x i 0 (now (b .entry)) ⌝ }
 {
     if i < b.len() {
         add_pairs(c, x, i, 0, &b[..i]);
@@ -60,11 +60,11 @@ fn add_row(c: &mut [i64], x: i64, i: usize, b: &[i32])
 pub fn add_products(c: &mut [i64], a: &[i32], b: &[i32])
     requires { ⌜ length (now a) + length (now b) ≤ suc (length (now c)) ⌝ }
     requires { ⌜ weight (now c) + 2 * weight (now a) * weight (now b) < 2 ^ 63 ⌝ }
-    ensures { λ _. ⌜ now (c .exit) ≡ addRows ℤ-ring (now (c .entry)) 0 (now (a .entry)) (now (b .entry)) ⌝ }
+    ensures { λ _. ⌜ now (c .exit) ≡ addTerms ℤ-ring (now (c .entry)) 0 (now (a .entry)) (now (b .entry)) ⌝ }
 {
     let mut i = 0;
     while i < a.len() {
-        add_row(c, a[i] as i64, i, b);
+        add_term(c, a[i] as i64, i, b);
         i += 1;
     }
 }

@@ -14,9 +14,8 @@ use Rattle.model.specs.definitions.Models.{good, candidateModel, largePlace}
 use Rattle.model.specs.definitions.Outcomes.{Outcome, accepted, refused, outcome, numberOf}
 use Rattle.model.specs.declared.types.Model.{Model}
 use Rattle.model.specs.declared.types.Candidate.{Candidate}
-use Rattle.certificate.specs.definitions.Tests.{Certificate, makeCertificate, zeroCertificate, withRadius}
-use Rattle.certificate.specs.definitions.Tests.{rootPlaces, rootLastPlaces, rootModel, rootContraction}
-use Rattle.certificate.specs.definitions.Tests.{rootResidual, displacement}
+use Rattle.certificate.specs.definitions.Tests.{Certificate, makeCertificate, zeroCertificate, withRadius, displacement}
+use Rattle.certificate.specs.definitions.Root.{rootPlaces, rootLastPlaces, rootModel, rootContraction, rootResidual}
 use Rattle.certificate.specs.declared.types.RootNumbers.{RootNumbers}
 use Rattle.certificate.specs.declared.types.RootNumbers.the-variants.{Refused, Reached}
 

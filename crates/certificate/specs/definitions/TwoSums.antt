@@ -22,16 +22,16 @@ twoSumsList a b = tabulate productSize (λ k. twoSums ℤ-ring k a b)
 -- ---- the quotient test
 
 -- "m = up((weight(2S² − C(w,g)) + 2·M·e_g)/(2S))"
-unfoldable pub quotientM : Model → Model → ℕ
-quotientM g w =
+unfoldable pub quotient-m : Model → Model → ℕ
+quotient-m g w =
     upℕ
     (weight (subtractLists ℤ-ring (pos (2 * scale * scale) ∷ []) (twoSumsList (w .coefficients) (g .coefficients)))
     + 2 * weight (w .coefficients) * g .radius)
     (2 * scale)
 
 -- "N = up((weight(C(g,h) − 2S·f) + 2S·e_f + 2·H·e_g)/(2S))"
-unfoldable pub quotientN : Model → Model → Model → ℕ
-quotientN f g h =
+unfoldable pub quotient-N : Model → Model → Model → ℕ
+quotient-N f g h =
     upℕ
     (weight
     (subtractLists ℤ-ring
@@ -42,23 +42,23 @@ quotientN f g h =
     (2 * scale)
 
 -- "b = up(M·N/S)"
-unfoldable pub quotientB : Model → Model → Model → Model → ℕ
-quotientB f g h w = upℕ (weight (w .coefficients) * quotientN f g h) scale
+unfoldable pub quotient-b : Model → Model → Model → Model → ℕ
+quotient-b f g h w = upℕ (weight (w .coefficients) * quotient-N f g h) scale
 
 -- "radius up(b·S/(S−m))"
 unfoldable pub quotientRadius : Model → Model → Model → Model → ℕ
-quotientRadius f g h w = upℕ (quotientB f g h w * scale) (scale - quotientM g w)
+quotientRadius f g h w = upℕ (quotient-b f g h w * scale) (scale - quotient-m g w)
 
 -- ---- the root test
 
 -- "m = up(weight(S² − C(w,h))/S)"
-unfoldable pub rootM : Model → Model → ℕ
-rootM h w =
+unfoldable pub root-m : Model → Model → ℕ
+root-m h w =
     upℕ (weight (subtractLists ℤ-ring (pos (scale * scale) ∷ []) (twoSumsList (w .coefficients) (h .coefficients)))) scale
 
 -- "N = up((weight(C(h,h) − 2S·f) + 2S·e_f)/(2S))"
-unfoldable pub rootN : Model → Model → ℕ
-rootN f h =
+unfoldable pub root-N : Model → Model → ℕ
+root-N f h =
     upℕ
     (weight
     (subtractLists ℤ-ring
@@ -68,15 +68,15 @@ rootN f h =
     (2 * scale)
 
 -- "b = up(M·N/S)"
-unfoldable pub rootB : Model → Model → Model → ℕ
-rootB f h w = upℕ (weight (w .coefficients) * rootN f h) scale
+unfoldable pub root-b : Model → Model → Model → ℕ
+root-b f h w = upℕ (weight (w .coefficients) * root-N f h) scale
 
 -- "radius up(2·b·S/(S−m))"
 unfoldable pub rootRadius : Model → Model → Model → ℕ
-rootRadius f h w = upℕ (2 * rootB f h w * scale) (scale - rootM h w)
+rootRadius f h w = upℕ (2 * root-b f h w * scale) (scale - root-m h w)
 
 -- "The test: Σ w_k > 0, m < S, N ≤ 2^28, (S−m)² ≥ 8·b·M."
 abbrev pub RootHolds : Model → Model → Model → Type 0
 RootHolds f h w =
-    (pos 0 <ℤ coefficientSum (w .coefficients)) × (rootM h w < scale) × (rootN f h ≤ 2 ^ 28)
-    × (8 * rootB f h w * weight (w .coefficients) ≤ (scale - rootM h w) * (scale - rootM h w))
+    (pos 0 <ℤ coefficientSum (w .coefficients)) × (root-m h w < scale) × (root-N f h ≤ 2 ^ 28)
+    × (8 * root-b f h w * weight (w .coefficients) ≤ (scale - root-m h w) * (scale - root-m h w))

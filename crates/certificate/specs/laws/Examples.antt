@@ -5,13 +5,14 @@ use lib.IntN.{pos}
 use lib.ListN.{replicate}
 use Rattle.integer.specs.definitions.Rounding.{upℕ}
 use Rattle.chebyshev.specs.definitions.Coefficients.{weight, addLists, subtractLists, scaleList, coefficientSum}
-use Rattle.chebyshev.specs.definitions.Product.{addAt, addPair, addRow, addRows, product}
+use Rattle.chebyshev.specs.definitions.Product.{addAt, addPair, addTerm, addTerms, product}
 use Rattle.model.specs.definitions.Models.{good, tooLarge, makeModel, constantModel, zeroModel}
 use Rattle.model.specs.definitions.Outcomes.{accepted, refused, passing}
 use Rattle.model.specs.declared.types.Model.{Model}
-use Rattle.model.specs.definitions.Operations.{productList}
-use Rattle.certificate.specs.definitions.Tests.{makeCertificate, zeroCertificate, byDiscriminant}
-use Rattle.certificate.specs.definitions.Tests.{quotientOutcome, rootOutcome, rootPlaces, quotientContraction, quotientResidual, quotientModel, rootContraction, rootResidual, rootModel, displacement}
+use Rattle.model.specs.definitions.Multiply.{productList}
+use Rattle.certificate.specs.definitions.Tests.{makeCertificate, zeroCertificate, displacement}
+use Rattle.certificate.specs.definitions.Root.{byDiscriminant, rootOutcome, rootPlaces, rootContraction, rootResidual, rootModel}
+use Rattle.certificate.specs.definitions.Quotient.{quotientOutcome, quotientContraction, quotientResidual, quotientModel}
 
 abbrev h : Model
 h = constantModel (pos 2097152)
@@ -30,5 +31,5 @@ Benchmarks =
     × (rootOutcome byDiscriminant 65 (constantModel (pos 1048576)) h w ≡ refused 8 zeroCertificate)
 
 pub benchmarks : Benchmarks
-unfolding quotientOutcome rootOutcome rootPlaces quotientContraction quotientResidual quotientModel rootContraction rootResidual rootModel displacement coefficientSum productList passing good tooLarge constantModel zeroModel weight addLists subtractLists scaleList addAt addPair addRow addRows product upℕ
+unfolding quotientOutcome rootOutcome rootPlaces quotientContraction quotientResidual quotientModel rootContraction rootResidual rootModel displacement coefficientSum productList passing good tooLarge constantModel zeroModel weight addLists subtractLists scaleList addAt addPair addTerm addTerms product upℕ
 benchmarks = (refl, refl, refl, refl)

@@ -11,7 +11,8 @@ use Rattle.chebyshev.specs.definitions.Coefficients.{weight, coefficientSum}
 use Rattle.model.specs.definitions.Models.{scale, maxRadius, good}
 use Rattle.model.specs.definitions.Outcomes.{accepted, refused, passing}
 use Rattle.model.specs.declared.types.Model.{Model}
-use Rattle.certificate.specs.definitions.Tests.{scratchSize, rootPlaces, rootContraction, rootResidual, displacement}
+use Rattle.certificate.specs.definitions.Tests.{scratchSize, displacement}
+use Rattle.certificate.specs.definitions.Root.{rootPlaces, rootContraction, rootResidual}
 use Rattle.certificate.specs.definitions.InnerContracts.{RootReady, makeReach, zeroReach, rootReach}
 use Rattle.certificate.specs.laws.Stages.{bad-model}
 

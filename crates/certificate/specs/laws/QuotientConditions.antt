@@ -8,8 +8,8 @@ use Rattle.model.specs.definitions.Models.{scale, maxRadius, good, tooLarge}
 use Rattle.model.specs.definitions.Outcomes.{accepted, Passed}
 use Rattle.model.specs.laws.PlaceLaws.{outcome-passed, outcome-accepted, not-of-true}
 use Rattle.model.specs.declared.types.Model.{Model}
-use Rattle.certificate.specs.definitions.Tests.{scratchSize, quotientPlaces, quotientOutcome, quotientModel, quotientContraction, quotientResidual, displacement}
-use Rattle.certificate.specs.definitions.Tests.{Certificate, zeroCertificate, quotientCertificate}
+use Rattle.certificate.specs.definitions.Tests.{scratchSize, displacement, Certificate, zeroCertificate}
+use Rattle.certificate.specs.definitions.Quotient.{quotientPlaces, quotientOutcome, quotientModel, quotientContraction, quotientResidual, quotientCertificate}
 
 -- b and the result of the test
 abbrev pub quotientDisplacement : Model → Model → Model → Model → ℕ

@@ -19,13 +19,14 @@ use Rattle.chebyshev.specs.definitions.Coefficients.{weight, subtractLists, sca
 use Rattle.chebyshev.specs.laws.CoefficientLaws.{value-constant}
 use Rattle.chebyshev.specs.definitions.Allows.{allows}
 use Rattle.model.specs.definitions.Models.{scale, good}
-use Rattle.model.specs.definitions.Operations.{productList}
-use Rattle.model.specs.definitions.Values.{position, AllowsAt, Allows, OnInterval}
+use Rattle.model.specs.definitions.Multiply.{productList}
+use Rattle.model.specs.definitions.Allowed.{position, AllowsAt, Allows, OnInterval}
 use Rattle.model.specs.laws.ValueLaws.{valueAt, valueAt-scale, valueAt-weight, valueAt-difference}
 use Rattle.model.specs.laws.GoodLaws.{value-productList}
 use Rattle.model.specs.declared.types.Model.{Model}
 use Rattle.model.specs.definitions.Outcomes.{accepted}
-use Rattle.certificate.specs.definitions.Tests.{Certificate, quotientOutcome, quotientContraction, quotientResidual, quotientModel, displacement}
+use Rattle.certificate.specs.definitions.Tests.{Certificate, displacement}
+use Rattle.certificate.specs.definitions.Quotient.{quotientOutcome, quotientContraction, quotientResidual, quotientModel}
 use Rattle.certificate.specs.laws.QuotientAlgebra.{contraction-bound, residual-bound, divisor-away, divisor-nonzero, quotient-bound}
 use Rattle.certificate.specs.laws.QuotientConditions.{QuotientConditions, quotientDisplacement, quotient-passes}
 

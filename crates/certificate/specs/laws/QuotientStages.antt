@@ -10,7 +10,8 @@ use Rattle.chebyshev.specs.definitions.Coefficients.{weight}
 use Rattle.model.specs.definitions.Models.{scale, maxRadius, good}
 use Rattle.model.specs.definitions.Outcomes.{passing}
 use Rattle.model.specs.declared.types.Model.{Model}
-use Rattle.certificate.specs.definitions.Tests.{scratchSize, displacement, quotientOutcome, quotientContraction, quotientResidual, quotientModel}
+use Rattle.certificate.specs.definitions.Tests.{scratchSize, displacement}
+use Rattle.certificate.specs.definitions.Quotient.{quotientOutcome, quotientContraction, quotientResidual, quotientModel}
 use Rattle.certificate.specs.definitions.InnerContracts.{QuotientReady, refusedTest, formedTest}
 use Rattle.certificate.specs.laws.Stages.{bad-model}
 

@@ -8,38 +8,38 @@ use borrow.Author.Tests.{ltb-false, le-ltb}
 use Rattle.model.specs.definitions.Models.{scale, maxRadius, good, makeModel}
 use Rattle.model.specs.definitions.Outcomes.{accepted}
 use Rattle.model.specs.declared.types.Model.{Model}
-use Rattle.certificate.specs.definitions.Tests.{scratchSize, quotientOutcome, quotientContraction, quotientResidual, quotientModel, displacement}
-use Rattle.certificate.specs.definitions.Tests.{Certificate, makeCertificate, quotientCertificate}
-use Rattle.certificate.specs.definitions.TwoSums.{quotientM, quotientN, quotientB, quotientRadius}
+use Rattle.certificate.specs.definitions.Tests.{scratchSize, displacement, Certificate, makeCertificate}
+use Rattle.certificate.specs.definitions.Quotient.{quotientOutcome, quotientContraction, quotientResidual, quotientModel, quotientCertificate}
+use Rattle.certificate.specs.definitions.TwoSums.{quotient-m, quotient-N, quotient-b, quotientRadius}
 use Rattle.certificate.specs.laws.TwoSumsLaws.{productList-good}
 use Rattle.certificate.specs.laws.Stages.{large-radius}
 use Rattle.certificate.specs.laws.QuotientConditions.{QuotientConditions, quotientResult, quotient-passes, quotient-result}
 
-contraction-is : (g w : Model) → good g ≡ true → good w ≡ true → quotientContraction g w ≡ quotientM g w
-unfolding quotientM quotientContraction
+contraction-is : (g w : Model) → good g ≡ true → good w ≡ true → quotientContraction g w ≡ quotient-m g w
+unfolding quotient-m quotientContraction
 contraction-is g w gg gw = rw (productList-good w g gw gg)
 
-residual-is : (f g h : Model) → good g ≡ true → good h ≡ true → quotientResidual f g h ≡ quotientN f g h
-unfolding quotientN quotientResidual
+residual-is : (f g h : Model) → good g ≡ true → good h ≡ true → quotientResidual f g h ≡ quotient-N f g h
+unfolding quotient-N quotientResidual
 residual-is f g h gg gh = rw (productList-good g h gg gh)
 
 module _ (len : ℕ) (f g h w : Model) (enough : scratchSize ≤ len)
     (gf : good f ≡ true) (gg : good g ≡ true) (gh : good h ≡ true) (gw : good w ≡ true) where
   -- "The test: m < S and N ≤ 2^28.", and the result's radius is within 2^28
   abbrev pub QuotientHolds : Type 0
-  QuotientHolds = (quotientM g w < scale) × (quotientN f g h ≤ 2 ^ 28) × (quotientRadius f g h w ≤ 2 ^ 28)
+  QuotientHolds = (quotient-m g w < scale) × (quotient-N f g h ≤ 2 ^ 28) × (quotientRadius f g h w ≤ 2 ^ 28)
 
   -- "Result h with radius up(b·S/(S−m))", and 01's m, N and b
   abbrev pub quotientGiven : Certificate
   quotientGiven =
-      makeCertificate (makeModel (h .degree) (h .coefficients) (quotientRadius f g h w)) (quotientM g w) (quotientN f g h) (quotientB f g h w)
+      makeCertificate (makeModel (h .degree) (h .coefficients) (quotientRadius f g h w)) (quotient-m g w) (quotient-N f g h) (quotient-b f g h w)
 
   given-is : quotientCertificate f g h w ≡ quotientGiven
-  unfolding quotientRadius quotientB displacement quotientModel
+  unfolding quotientRadius quotient-b displacement quotientModel
   given-is = rw (← contraction-is g w gg gw, ← residual-is f g h gg gh)
 
   conditions-holds : QuotientConditions len f g h w ↔ QuotientHolds
-  unfolding quotientRadius quotientB displacement quotientModel
+  unfolding quotientRadius quotient-b displacement quotientModel
   conditions-holds =
       let radius = (quotientResult f g h w) .radius in
       let large = large-radius h radius gh in

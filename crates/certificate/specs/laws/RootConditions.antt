@@ -15,8 +15,8 @@ use Rattle.model.specs.definitions.Models.{scale, maxRadius, good, tooLarge}
 use Rattle.model.specs.definitions.Outcomes.{accepted, Passed}
 use Rattle.model.specs.laws.PlaceLaws.{outcome-passed, outcome-accepted, not-of-true, passed-append}
 use Rattle.model.specs.declared.types.Model.{Model}
-use Rattle.certificate.specs.definitions.Tests.{scratchSize, rootPlaces, rootLastPlaces, rootModel, rootContraction, rootResidual, displacement}
-use Rattle.certificate.specs.definitions.Tests.{Certificate, zeroCertificate, byDiscriminant, rootTestPlaces, rootCertificate, rootOutcome}
+use Rattle.certificate.specs.definitions.Tests.{scratchSize, displacement, Certificate, zeroCertificate}
+use Rattle.certificate.specs.definitions.Root.{rootPlaces, rootLastPlaces, rootModel, rootContraction, rootResidual, byDiscriminant, rootTestPlaces, rootCertificate, rootOutcome}
 
 -- b and the result of the test
 abbrev pub rootDisplacement : Model → Model → Model → ℕ

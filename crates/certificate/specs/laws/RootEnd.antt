@@ -8,7 +8,8 @@ use Rattle.integer.specs.laws.RoundingLaws.{upℕ-least}
 use Rattle.model.specs.definitions.Models.{scale, maxRadius}
 use Rattle.model.specs.definitions.Outcomes.{passing}
 use Rattle.model.specs.declared.types.Model.{Model}
-use Rattle.certificate.specs.definitions.Tests.{withRadius, rootModel}
+use Rattle.certificate.specs.definitions.Tests.{withRadius}
+use Rattle.certificate.specs.definitions.Root.{rootModel}
 use Rattle.certificate.specs.definitions.InnerContracts.{RootLast, refusedTest, passedTest, rootEnd}
 use Rattle.certificate.specs.laws.Stages.{large-radius}
 use Rattle.certificate.specs.laws.RootRadius.{numerator-bound}

@@ -18,9 +18,9 @@ use Rattle.chebyshev.specs.laws.Weight.{weight-at, weight-take}
 use Rattle.chebyshev.specs.laws.ProductWeight.{weight-product}
 use Rattle.model.specs.definitions.Models.{scale, maxRadius, productSize, terms, tooLarge}
 use Rattle.model.specs.laws.ModelLaws.{good-is}
-use Rattle.model.specs.definitions.Operations.{productList}
+use Rattle.model.specs.definitions.Multiply.{productList}
 use Rattle.model.specs.declared.types.Model.{Model}
-use Rattle.certificate.specs.definitions.Tests.{byDiscriminant, rootOutcome, rootPlaces, negativeDiscriminant, rootModel, rootContraction}
+use Rattle.certificate.specs.definitions.Root.{byDiscriminant, rootOutcome, rootPlaces, negativeDiscriminant, rootModel, rootContraction}
 use Rattle.model.specs.definitions.Outcomes.{number}
 use Rattle.model.specs.laws.PlaceLaws.{passed-append, last-unused}
 use Rattle.certificate.specs.laws.Stages.{large-radius}

@@ -24,13 +24,14 @@ use Rattle.chebyshev.specs.definitions.Allows.{allows}
 use Rattle.chebyshev.specs.laws.AllowsLaws.{allows-quotient}
 use Rattle.chebyshev.specs.laws.Sign.{helper-positive}
 use Rattle.model.specs.definitions.Models.{scale}
-use Rattle.model.specs.definitions.Values.{position, AllowsAt, Allows, OnInterval}
+use Rattle.model.specs.definitions.Allowed.{position, AllowsAt, Allows, OnInterval}
 use Rattle.model.specs.laws.ValueLaws.{valueAt, valueAt-scale, valueAt-weight, valueAt-difference}
 use Rattle.model.specs.laws.GoodLaws.{value-productList}
-use Rattle.model.specs.definitions.Operations.{productList}
+use Rattle.model.specs.definitions.Multiply.{productList}
 use Rattle.model.specs.declared.types.Model.{Model}
 use Rattle.model.specs.definitions.Outcomes.{accepted}
-use Rattle.certificate.specs.definitions.Tests.{Certificate, RootRule, byDiscriminant, rootOutcome, rootModel, rootContraction, rootResidual, displacement}
+use Rattle.certificate.specs.definitions.Tests.{Certificate, displacement}
+use Rattle.certificate.specs.definitions.Root.{RootRule, byDiscriminant, rootOutcome, rootModel, rootContraction, rootResidual}
 use Rattle.certificate.specs.definitions.RootBounds.{RootBounds, ofUnits}
 use Rattle.certificate.specs.laws.RootAlgebra.{helper-bound, residual-bound, root-algebra, root-choice}
 use Rattle.certificate.specs.laws.RootConditions.{RootConditions, rootDisplacement, rootResult, root-passes}

@@ -7,8 +7,8 @@ use Rattle.model.specs.laws.ModelLaws.{good-is}
 use Rattle.model.specs.definitions.Outcomes.{accepted, refused}
 use Rattle.model.specs.laws.PlaceLaws.{outcome-accepted, outcome-behind, outcome-refused}
 use Rattle.model.specs.declared.types.Model.{Model}
-use Rattle.certificate.specs.definitions.Tests.{rootPlaces, rootContraction, rootResidual, displacement}
-use Rattle.certificate.specs.definitions.Tests.{zeroCertificate, byDiscriminant, rootOutcome}
+use Rattle.certificate.specs.definitions.Root.{rootPlaces, rootContraction, rootResidual, byDiscriminant, rootOutcome}
+use Rattle.certificate.specs.definitions.Tests.{displacement, zeroCertificate}
 use Rattle.certificate.specs.definitions.InnerContracts.{RootLast, Reach, makeReach, zeroReach, rootReach, refusedTest, rootEnd}
 use Rattle.certificate.specs.laws.Stages.{displacement-bound}
 use Rattle.certificate.specs.laws.RootConditions.{NumbersConditions, numbers-conditions}

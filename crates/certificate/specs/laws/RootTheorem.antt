@@ -8,24 +8,24 @@ use Prim.Native.Nat.{ℕ, _^_, _≤_}
 use Rattle.model.specs.definitions.Models.{good, makeModel}
 use Rattle.model.specs.definitions.Outcomes.{accepted}
 use Rattle.model.specs.declared.types.Model.{Model}
-use Rattle.certificate.specs.definitions.Tests.{scratchSize, rootModel, rootContraction, rootResidual, displacement}
-use Rattle.certificate.specs.definitions.Tests.{Certificate, makeCertificate, byDiscriminant, rootCertificate, rootOutcome}
-use Rattle.certificate.specs.definitions.TwoSums.{rootM, rootN, rootB, rootRadius, RootHolds}
+use Rattle.certificate.specs.definitions.Tests.{scratchSize, displacement, Certificate, makeCertificate}
+use Rattle.certificate.specs.definitions.Root.{rootModel, rootContraction, rootResidual, byDiscriminant, rootCertificate, rootOutcome}
+use Rattle.certificate.specs.definitions.TwoSums.{root-m, root-N, root-b, rootRadius, RootHolds}
 use Rattle.certificate.specs.laws.TwoSumsLaws.{productList-good}
 use Rattle.certificate.specs.laws.RootConditions.{RootConditions, root-passes, root-result}
 use Rattle.certificate.specs.laws.RootRadius.{root-radius-bound, root-fits}
 
-contraction-is : (h w : Model) → good h ≡ true → good w ≡ true → rootContraction h w ≡ rootM h w
-unfolding rootM rootContraction
+contraction-is : (h w : Model) → good h ≡ true → good w ≡ true → rootContraction h w ≡ root-m h w
+unfolding root-m rootContraction
 contraction-is h w gh gw = rw (productList-good w h gw gh)
 
-residual-is : (f h : Model) → good h ≡ true → rootResidual f h ≡ rootN f h
-unfolding rootN rootResidual
+residual-is : (f h : Model) → good h ≡ true → rootResidual f h ≡ root-N f h
+unfolding root-N rootResidual
 residual-is f h gh = rw (productList-good h h gh gh)
 
 module _ (len : ℕ) (f h w : Model) (enough : scratchSize ≤ len) (gf : good f ≡ true) (gh : good h ≡ true) (gw : good w ≡ true) where
   conditions-holds : RootConditions len f h w ↔ RootHolds f h w
-  unfolding rootB displacement
+  unfolding root-b displacement
   conditions-holds =
       rw (← contraction-is h w gh gw, ← residual-is f h gh) (
         λ c. (c .numbers .helper, c .numbers .contraction, c .numbers .residual, c .discriminant),
@@ -37,16 +37,16 @@ module _ (len : ℕ) (f h w : Model) (enough : scratchSize ≤ len) (gf : good f
 
   -- "which these limits keep at or below 2^27"
   pub root-holds-radius : RootHolds f h w → rootRadius f h w ≤ 2 ^ 27
-  unfolding rootRadius rootB displacement rootModel
+  unfolding rootRadius root-b displacement rootModel
   root-holds-radius t = rw (← contraction-is h w gh gw, ← residual-is f h gh) (root-radius-bound len f h w (conditions-holds .1 t))
 
   -- "Result h with radius up(2·b·S/(S−m))", and 01's m, N and b
   abbrev pub rootGiven : Certificate
   rootGiven =
-      makeCertificate (makeModel (h .degree) (h .coefficients) (rootRadius f h w)) (rootM h w) (rootN f h) (rootB f h w)
+      makeCertificate (makeModel (h .degree) (h .coefficients) (rootRadius f h w)) (root-m h w) (root-N f h) (root-b f h w)
 
   given-is : rootCertificate byDiscriminant f h w ≡ rootGiven
-  unfolding rootRadius rootB displacement rootModel
+  unfolding rootRadius root-b displacement rootModel
   given-is = rw (← contraction-is h w gh gw, ← residual-is f h gh)
 
   -- accepted where the test holds

@@ -16,7 +16,9 @@ use Rattle.chebyshev.specs.definitions.Coefficients.{weight}
 use Rattle.model.specs.definitions.Models.{scale, maxDegree, maxWeight, maxRadius, good, tooLarge}
 use Rattle.model.specs.laws.ModelLaws.{good-is}
 use Rattle.model.specs.declared.types.Model.{Model}
-use Rattle.certificate.specs.definitions.Tests.{withRadius, scratchSize, scratchAfter, quotientOutcome, rootPlaces, byDiscriminant, rootOutcome}
+use Rattle.certificate.specs.definitions.Tests.{withRadius, scratchSize, scratchAfter}
+use Rattle.certificate.specs.definitions.Quotient.{quotientOutcome}
+use Rattle.certificate.specs.definitions.Root.{rootPlaces, byDiscriminant, rootOutcome}
 
 -- ---- the place of the result
 

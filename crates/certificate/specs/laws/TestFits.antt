@@ -5,29 +5,30 @@ use mathlib.Core.Bool.{true}
 use Prim.Native.Nat.{ℕ}
 use Rattle.model.specs.definitions.Models.{good}
 use Rattle.model.specs.laws.ModelLaws.{good-is}
-use Rattle.model.specs.definitions.Outcomes.{accepted, values}
-use Rattle.model.specs.definitions.Areas.{Storable}
-use Rattle.model.specs.laws.ResultLaws.{small-storable, zero-storable, outcome-values}
+use Rattle.model.specs.definitions.Outcomes.{accepted, payload}
+use Rattle.model.specs.definitions.Area.{Storable}
+use Rattle.model.specs.laws.ResultLaws.{small-storable, zero-storable, outcome-payload}
 use Rattle.model.specs.laws.GoodResults.{good-small}
 use Rattle.model.specs.declared.types.Model.{Model}
-use Rattle.certificate.specs.definitions.Tests.{Certificate, zeroCertificate, quotientPlaces, quotientOutcome, quotientModel}
-use Rattle.certificate.specs.definitions.Tests.{byDiscriminant, rootTestPlaces, rootOutcome, rootModel}
+use Rattle.certificate.specs.definitions.Tests.{Certificate, zeroCertificate}
+use Rattle.certificate.specs.definitions.Quotient.{quotientPlaces, quotientOutcome, quotientModel}
+use Rattle.certificate.specs.definitions.Root.{byDiscriminant, rootTestPlaces, rootOutcome, rootModel}
 use Rattle.certificate.specs.laws.QuotientConditions.{quotient-conditions, quotient-passes}
 use Rattle.certificate.specs.laws.RootConditions.{root-conditions, root-passes}
 
 abbrev Fits : Certificate → Type 0
 Fits c = Storable (c .model)
 
-pub quotient-storable : (len : ℕ) (f g h w : Model) → Storable (values (quotientOutcome len f g h w) .model)
+pub quotient-storable : (len : ℕ) (f g h w : Model) → Storable (payload (quotientOutcome len f g h w) .model)
 unfolding quotientOutcome
 quotient-storable len f g h w =
-    outcome-values Fits (quotientPlaces len f g h w) _ zeroCertificate
+    outcome-payload Fits (quotientPlaces len f g h w) _ zeroCertificate
     (λ p. small-storable _ (quotient-conditions len f g h w .0 p .result)) zero-storable
 
-pub root-storable : (len : ℕ) (f h w : Model) → Storable (values (rootOutcome byDiscriminant len f h w) .model)
+pub root-storable : (len : ℕ) (f h w : Model) → Storable (payload (rootOutcome byDiscriminant len f h w) .model)
 unfolding rootOutcome
 root-storable len f h w =
-    outcome-values Fits (rootTestPlaces byDiscriminant len f h w) _ zeroCertificate
+    outcome-payload Fits (rootTestPlaces byDiscriminant len f h w) _ zeroCertificate
     (λ p. small-storable _ (root-conditions len f h w .0 p .1)) zero-storable
 
 pub quotient-good : (len : ℕ) (f g h w : Model) {c : Certificate} → quotientOutcome len f g h w ≡ accepted c → good (c .model) ≡ true

@@ -14,7 +14,7 @@ use Rattle.chebyshev.specs.definitions.TwoSums.{twoSums}
 use Rattle.chebyshev.specs.laws.ProductSums.{product-two-sums}
 use Rattle.model.specs.definitions.Models.{productSize, good}
 use Rattle.model.specs.laws.GoodLaws.{product-coefficients}
-use Rattle.model.specs.definitions.Operations.{productList}
+use Rattle.model.specs.definitions.Multiply.{productList}
 use Rattle.model.specs.declared.types.Model.{Model}
 use Rattle.certificate.specs.definitions.TwoSums.{tabulate, twoSumsList}
 

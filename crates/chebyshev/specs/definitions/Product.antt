@@ -24,16 +24,16 @@ module _ (R : CommutativeRing) where
   unfoldable pub addPair : List A → ℕ → ℕ → A → List A
   addPair c i j v = addAt (addAt c (i + j) v) (distance i j) v
 
-  -- the pairs (i, j), (i, j+1), … of x = a_i with the elements of b
-  unfoldable pub addRow : List A → A → ℕ → ℕ → List A → List A
-  addRow c x i j [] = c
-  addRow c x i j (y ∷ b) = addRow (addPair c i j (x ⊗ y)) x i (suc j) b
+  -- the term of x = a_i: the pairs (i, j), (i, j+1), … with the elements of b
+  unfoldable pub addTerm : List A → A → ℕ → ℕ → List A → List A
+  addTerm c x i j [] = c
+  addTerm c x i j (y ∷ b) = addTerm (addPair c i j (x ⊗ y)) x i (suc j) b
 
-  -- the rows i, i+1, …
-  unfoldable pub addRows : List A → ℕ → List A → List A → List A
-  addRows c i [] b = c
-  addRows c i (x ∷ a) b = addRows (addRow c x i 0 b) (suc i) a b
+  -- the terms i, i+1, …
+  unfoldable pub addTerms : List A → ℕ → List A → List A → List A
+  addTerms c i [] b = c
+  addTerms c i (x ∷ a) b = addTerms (addTerm c x i 0 b) (suc i) a b
 
   -- C(a, b) in a list of the given width, which holds all of it where the width is at least the sum of the lengths less one
   unfoldable pub product : ℕ → List A → List A → List A
-  product width a b = addRows (replicate width (ι (pos 0))) 0 a b
+  product width a b = addTerms (replicate width (ι (pos 0))) 0 a b

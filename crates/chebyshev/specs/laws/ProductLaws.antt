@@ -15,7 +15,7 @@ use Rattle.chebyshev.specs.definitions.Recurrences.{firstKind}
 use Rattle.chebyshev.specs.laws.RecurrenceLaws.{first-product}
 use Rattle.chebyshev.specs.definitions.Coefficients.{valueFrom, value}
 use Rattle.chebyshev.specs.laws.CoefficientLaws.{valueFrom-zeros, map-ι-zeros}
-use Rattle.chebyshev.specs.definitions.Product.{distance, addAt, addPair, addRow, addRows, product}
+use Rattle.chebyshev.specs.definitions.Product.{distance, addAt, addPair, addTerm, addTerms, product}
 
 module _ (R : CommutativeRing) where
   open CommutativeRing R using (A, add as _⊕_, mul as _⊗_, ι, add-assoc, ι-add, ι-mul)
@@ -84,38 +84,38 @@ module _ (R : CommutativeRing) where
       ∙ ap (λ w. value R x c ⊕ v ⊗ w) (sym (first-product R x i j))
       ∙ solve R (v ∷ value R x c ∷ firstKind R x i ∷ firstKind R x j ∷ []) (search reify depth 20) (search reify depth 20) tt
 
-  -- ---- rows
+  -- ---- terms
 
-  pub length-addRow : (c : List A) (y : A) (i j : ℕ) (b : List A) → length (addRow R c y i j b) ≡ length c
-  unfolding addRow
-  length-addRow c y i j [] = refl
-  length-addRow c y i j (z ∷ b) = length-addRow (addPair R c i j (y ⊗ z)) y i (suc j) b ∙ length-addPair c i j (y ⊗ z)
+  pub length-addTerm : (c : List A) (y : A) (i j : ℕ) (b : List A) → length (addTerm R c y i j b) ≡ length c
+  unfolding addTerm
+  length-addTerm c y i j [] = refl
+  length-addTerm c y i j (z ∷ b) = length-addTerm (addPair R c i j (y ⊗ z)) y i (suc j) b ∙ length-addPair c i j (y ⊗ z)
 
-  length-addRows : (c : List A) (i : ℕ) (a b : List A) → length (addRows R c i a b) ≡ length c
-  unfolding addRows
-  length-addRows c i [] b = refl
-  length-addRows c i (y ∷ a) b = length-addRows (addRow R c y i 0 b) (suc i) a b ∙ length-addRow c y i 0 b
+  length-addTerms : (c : List A) (i : ℕ) (a b : List A) → length (addTerms R c i a b) ≡ length c
+  unfolding addTerms
+  length-addTerms c i [] b = refl
+  length-addTerms c i (y ∷ a) b = length-addTerms (addTerm R c y i 0 b) (suc i) a b ∙ length-addTerm c y i 0 b
 
   pub length-product : (width : ℕ) (a b : List A) → length (product R width a b) ≡ width
   unfolding product
-  length-product width a b = length-addRows (replicate width (ι (pos 0))) 0 a b ∙ length-replicate width (ι (pos 0))
+  length-product width a b = length-addTerms (replicate width (ι (pos 0))) 0 a b ∙ length-replicate width (ι (pos 0))
 
-  value-addRow : (x : A) (c : List A) (y : A) (i j : ℕ) (b : List A) → i + j + length b ≤ length c
-      → value R x (addRow R c y i j b) ≡ value R x c ⊕ ι (pos 2) ⊗ (y ⊗ firstKind R x i ⊗ valueFrom R x j b)
-  unfolding addRow valueFrom
-  value-addRow x c y i j [] h = solve R (y ∷ value R x c ∷ firstKind R x i ∷ []) (search reify depth 20) (search reify depth 20) tt
-  value-addRow x c y i j (z ∷ b) h =
-      value-addRow x (addPair R c i j (y ⊗ z)) y i (suc j) b (rw length-addPair (omega arith))
+  value-addTerm : (x : A) (c : List A) (y : A) (i j : ℕ) (b : List A) → i + j + length b ≤ length c
+      → value R x (addTerm R c y i j b) ≡ value R x c ⊕ ι (pos 2) ⊗ (y ⊗ firstKind R x i ⊗ valueFrom R x j b)
+  unfolding addTerm valueFrom
+  value-addTerm x c y i j [] h = solve R (y ∷ value R x c ∷ firstKind R x i ∷ []) (search reify depth 20) (search reify depth 20) tt
+  value-addTerm x c y i j (z ∷ b) h =
+      value-addTerm x (addPair R c i j (y ⊗ z)) y i (suc j) b (rw length-addPair (omega arith))
       ∙ ap (λ w. w ⊕ ι (pos 2) ⊗ (y ⊗ firstKind R x i ⊗ valueFrom R x (suc j) b)) (value-addPair x c i j (y ⊗ z) (omega arith))
       ∙ solve R (y ∷ z ∷ value R x c ∷ firstKind R x i ∷ firstKind R x j ∷ valueFrom R x (suc j) b ∷ []) (search reify depth 20) (search reify depth 20) tt
 
-  value-addRows : (x : A) (c : List A) (i : ℕ) (a b : List A) → i + length a + length b ≤ suc (length c)
-      → value R x (addRows R c i a b) ≡ value R x c ⊕ ι (pos 2) ⊗ (valueFrom R x i a ⊗ value R x b)
-  unfolding addRows valueFrom value
-  value-addRows x c i [] b h = solve R (value R x c ∷ value R x b ∷ []) (search reify depth 20) (search reify depth 20) tt
-  value-addRows x c i (y ∷ a) b h =
-      value-addRows x (addRow R c y i 0 b) (suc i) a b (rw length-addRow (omega arith))
-      ∙ ap (λ w. w ⊕ ι (pos 2) ⊗ (valueFrom R x (suc i) a ⊗ value R x b)) (value-addRow x c y i 0 b (omega arith))
+  value-addTerms : (x : A) (c : List A) (i : ℕ) (a b : List A) → i + length a + length b ≤ suc (length c)
+      → value R x (addTerms R c i a b) ≡ value R x c ⊕ ι (pos 2) ⊗ (valueFrom R x i a ⊗ value R x b)
+  unfolding addTerms valueFrom value
+  value-addTerms x c i [] b h = solve R (value R x c ∷ value R x b ∷ []) (search reify depth 20) (search reify depth 20) tt
+  value-addTerms x c i (y ∷ a) b h =
+      value-addTerms x (addTerm R c y i 0 b) (suc i) a b (rw length-addTerm (omega arith))
+      ∙ ap (λ w. w ⊕ ι (pos 2) ⊗ (valueFrom R x (suc i) a ⊗ value R x b)) (value-addTerm x c y i 0 b (omega arith))
       ∙ solve R (y ∷ value R x c ∷ firstKind R x i ∷ valueFrom R x (suc i) a ∷ value R x b ∷ []) (search reify depth 20) (search reify depth 20) tt
 
   -- 2·value a·value b = value C(a, b), where the width holds all of C
@@ -124,37 +124,37 @@ module _ (R : CommutativeRing) where
   value-product x width a b h =
       solve R (value R x a ∷ value R x b ∷ []) (search reify depth 20) (search reify depth 20) tt
       ∙ ap (λ w. w ⊕ ι (pos 2) ⊗ (value R x a ⊗ value R x b)) (sym (valueFrom-zeros R x 0 width))
-      ∙ sym (value-addRows x (replicate width (ι (pos 0))) 0 a b (rw length-replicate (omega arith)))
+      ∙ sym (value-addTerms x (replicate width (ι (pos 0))) 0 a b (rw length-replicate (omega arith)))
 
   -- ---- the walk's steps, for loops
 
-  pub row-step : (c : List A) (y : A) (i j : ℕ) (b : List A) (k : ℕ) → k < length b
-      → addRow R c y i j (drop k b) ≡ addRow R (addPair R c i j (y ⊗ getD b k (ι (pos 0)))) y i (j + 1) (drop (k + 1) b)
-  unfolding addRow
-  row-step c y i j b k h = rw (drop-cons b k (ι (pos 0)) h, add-one j, add-one k)
+  pub term-step : (c : List A) (y : A) (i j : ℕ) (b : List A) (k : ℕ) → k < length b
+      → addTerm R c y i j (drop k b) ≡ addTerm R (addPair R c i j (y ⊗ getD b k (ι (pos 0)))) y i (j + 1) (drop (k + 1) b)
+  unfolding addTerm
+  term-step c y i j b k h = rw (drop-cons b k (ι (pos 0)) h, add-one j, add-one k)
 
-  pub row-end : (c : List A) (y : A) (i j : ℕ) (b : List A) (k : ℕ) → length b ≤ k → addRow R c y i j (drop k b) ≡ c
-  unfolding addRow
-  row-end c y i j b k h = rw drop-of-length-le
+  pub term-end : (c : List A) (y : A) (i j : ℕ) (b : List A) (k : ℕ) → length b ≤ k → addTerm R c y i j (drop k b) ≡ c
+  unfolding addTerm
+  term-end c y i j b k h = rw drop-of-length-le
 
-  -- a row cut at place k
-  pub row-cut : (c : List A) (y : A) (i j k : ℕ) (b : List A) → k ≤ length b
-      → addRow R (addRow R c y i j (take k b)) y i (j + k) (drop k b) ≡ addRow R c y i j b
-  unfolding addRow
-  row-cut c y i j zero b h = let e : j + 0 ≡ j = omega arith in rw e
-  row-cut c y i j (suc k) [] h = absurd (omega arith)
-  row-cut c y i j (suc k) (z ∷ b) h =
+  -- a term cut at place k
+  pub term-cut : (c : List A) (y : A) (i j k : ℕ) (b : List A) → k ≤ length b
+      → addTerm R (addTerm R c y i j (take k b)) y i (j + k) (drop k b) ≡ addTerm R c y i j b
+  unfolding addTerm
+  term-cut c y i j zero b h = let e : j + 0 ≡ j = omega arith in rw e
+  term-cut c y i j (suc k) [] h = absurd (omega arith)
+  term-cut c y i j (suc k) (z ∷ b) h =
       let e : j + suc k ≡ suc j + k = omega arith in
-      rw e (row-cut (addPair R c i j (y ⊗ z)) y i (suc j) k b (omega arith))
+      rw e (term-cut (addPair R c i j (y ⊗ z)) y i (suc j) k b (omega arith))
 
-  pub rows-step : (c : List A) (i : ℕ) (a b : List A) → i < length a
-      → addRows R c i (drop i a) b ≡ addRows R (addRow R c (getD a i (ι (pos 0))) i 0 b) (i + 1) (drop (i + 1) a) b
-  unfolding addRows
-  rows-step c i a b h = rw (drop-cons a i (ι (pos 0)) h, add-one)
+  pub terms-step : (c : List A) (i : ℕ) (a b : List A) → i < length a
+      → addTerms R c i (drop i a) b ≡ addTerms R (addTerm R c (getD a i (ι (pos 0))) i 0 b) (i + 1) (drop (i + 1) a) b
+  unfolding addTerms
+  terms-step c i a b h = rw (drop-cons a i (ι (pos 0)) h, add-one)
 
-  pub rows-end : (c : List A) (i : ℕ) (a b : List A) → length a ≤ i → addRows R c i (drop i a) b ≡ c
-  unfolding addRows
-  rows-end c i a b h = rw drop-of-length-le
+  pub terms-end : (c : List A) (i : ℕ) (a b : List A) → length a ≤ i → addTerms R c i (drop i a) b ≡ c
+  unfolding addTerms
+  terms-end c i a b h = rw drop-of-length-le
 
   -- ---- whole numbers in the ring
 
@@ -168,21 +168,21 @@ module _ (R : CommutativeRing) where
   unfolding addPair
   map-ι-addPair c i j v = map-ι-addAt (addAt ℤ-ring c (i + j) v) (distance i j) v ∙ ap (λ l. addAt R l (distance i j) (ι v)) (map-ι-addAt c (i + j) v)
 
-  map-ι-addRow : (c : List ℤ) (x : ℤ) (i j : ℕ) (b : List ℤ) → map ι (addRow ℤ-ring c x i j b) ≡ addRow R (map ι c) (ι x) i j (map ι b)
-  unfolding addRow
-  map-ι-addRow c x i j [] = refl
-  map-ι-addRow c x i j (y ∷ b) =
-      map-ι-addRow (addPair ℤ-ring c i j (x *ℤ y)) x i (suc j) b
-      ∙ ap (λ l. addRow R l (ι x) i (suc j) (map ι b)) (map-ι-addPair c i j (x *ℤ y) ∙ ap (addPair R (map ι c) i j) (ι-mul x y))
+  map-ι-addTerm : (c : List ℤ) (x : ℤ) (i j : ℕ) (b : List ℤ) → map ι (addTerm ℤ-ring c x i j b) ≡ addTerm R (map ι c) (ι x) i j (map ι b)
+  unfolding addTerm
+  map-ι-addTerm c x i j [] = refl
+  map-ι-addTerm c x i j (y ∷ b) =
+      map-ι-addTerm (addPair ℤ-ring c i j (x *ℤ y)) x i (suc j) b
+      ∙ ap (λ l. addTerm R l (ι x) i (suc j) (map ι b)) (map-ι-addPair c i j (x *ℤ y) ∙ ap (addPair R (map ι c) i j) (ι-mul x y))
 
-  map-ι-addRows : (c : List ℤ) (i : ℕ) (a b : List ℤ) → map ι (addRows ℤ-ring c i a b) ≡ addRows R (map ι c) i (map ι a) (map ι b)
-  unfolding addRows
-  map-ι-addRows c i [] b = refl
-  map-ι-addRows c i (x ∷ a) b = map-ι-addRows (addRow ℤ-ring c x i 0 b) (suc i) a b ∙ ap (λ l. addRows R l (suc i) (map ι a) (map ι b)) (map-ι-addRow c x i 0 b)
+  map-ι-addTerms : (c : List ℤ) (i : ℕ) (a b : List ℤ) → map ι (addTerms ℤ-ring c i a b) ≡ addTerms R (map ι c) i (map ι a) (map ι b)
+  unfolding addTerms
+  map-ι-addTerms c i [] b = refl
+  map-ι-addTerms c i (x ∷ a) b = map-ι-addTerms (addTerm ℤ-ring c x i 0 b) (suc i) a b ∙ ap (λ l. addTerms R l (suc i) (map ι a) (map ι b)) (map-ι-addTerm c x i 0 b)
 
   map-ι-product : (width : ℕ) (a b : List ℤ) → map ι (product ℤ-ring width a b) ≡ product R width (map ι a) (map ι b)
   unfolding product
-  map-ι-product width a b = map-ι-addRows (replicate width (pos 0)) 0 a b ∙ ap (λ l. addRows R l 0 (map ι a) (map ι b)) (map-ι-zeros R width)
+  map-ι-product width a b = map-ι-addTerms (replicate width (pos 0)) 0 a b ∙ ap (λ l. addTerms R l 0 (map ι a) (map ι b)) (map-ι-zeros R width)
 
   pub value-product-whole : (x : A) (width : ℕ) (a b : List ℤ) → length a + length b ≤ suc width
       → ι (pos 2) ⊗ value R x (map ι a) ⊗ value R x (map ι b) ≡ value R x (map ι (product ℤ-ring width a b))

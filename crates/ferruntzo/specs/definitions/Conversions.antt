@@ -4,11 +4,12 @@ use mathlib.Core.List.{List}
 use Prim.Native.Nat.{ℕ}
 use lib.IntN.{ℤ, pos}
 use lib.ListN.{getD, take, drop}
-use Rattle.model.specs.definitions.Areas.{modelSize, unsignedOf}
+use Rattle.model.specs.definitions.Area.{modelSize, unsignedOf}
 use Rattle.model.specs.definitions.Models.{coefficientCount}
 use Rattle.series.specs.definitions.Convert.{conversion}
 use Rattle.series.specs.declared.types.Series.{Series}
-use Rattle.ferruntzo.specs.definitions.Answers.{fits, shortOutcome, outcomeIn, OperationAnswer}
+use Rattle.ferruntzo.specs.definitions.Areas.{fits}
+use Rattle.ferruntzo.specs.definitions.Operations.{shortOutcome, outcomeIn, OperationAnswer}
 
 -- how many numbers a series has: its degree and p_0..p_32
 abbrev pub seriesSize : ℕ

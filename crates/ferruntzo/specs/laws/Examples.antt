@@ -8,20 +8,25 @@ use lib.ListN.{length, drop, replicate}
 use Rattle.integer.specs.definitions.Lists.{zeros}
 use Rattle.integer.specs.definitions.Rounding.{floor, up, upℕ, near}
 use Rattle.chebyshev.specs.definitions.Coefficients.{weight, addLists, subtractLists, scaleList, coefficientSum}
-use Rattle.chebyshev.specs.definitions.Product.{addAt, addPair, addRow, addRows, product}
+use Rattle.chebyshev.specs.definitions.Product.{addAt, addPair, addTerm, addTerms, product}
 use Rattle.model.specs.definitions.Models.{good, tooLarge, zeroModel}
 use Rattle.model.specs.definitions.Outcomes.{passing}
-use Rattle.model.specs.definitions.Operations.{sumModel, addition, productList}
-use Rattle.model.specs.definitions.Evaluation.{pointTerm, pointSum, pointError, lowBound, highBound, evaluation}
-use Rattle.certificate.specs.definitions.Tests.{scratchAfter, rootOutcome, rootPlaces, rootContraction, rootResidual, rootModel, displacement}
+use Rattle.model.specs.definitions.Add.{sumModel, addition}
+use Rattle.model.specs.definitions.Multiply.{productList}
+use Rattle.model.specs.definitions.Evaluate.{pointTerm, pointSum, pointError, lowBound, highBound, evaluation}
+use Rattle.certificate.specs.definitions.Tests.{scratchAfter, displacement}
+use Rattle.certificate.specs.definitions.Root.{rootOutcome, rootPlaces, rootContraction, rootResidual, rootModel}
 use Rattle.job.specs.definitions.Bytes.{signedsAt}
-use Rattle.job.specs.definitions.Makers.{makerPlaces, operation}
-use Rattle.job.specs.definitions.Commands.{makerAt, readingPlaces}
-use Rattle.job.specs.definitions.Jobs.{command, run, jobOutcome}
-use Rattle.job.specs.definitions.Work.{checkOutcome, workAfter, workWith, stretches, scratchAfterJob}
-use Rattle.ferruntzo.specs.definitions.Answers.{areaOut, operationAnswer, outcomeIn, binaryAnswer, evaluationAnswer, boundsIn, evaluateAnswer}
-use Rattle.ferruntzo.specs.definitions.TestAnswers.{testAnswer, testIn, rootAnswer}
-use Rattle.ferruntzo.specs.definitions.JobAnswers.{jobAnswer, checkAnswer}
+use Rattle.job.specs.definitions.Operations.{makerPlaces, operation}
+use Rattle.job.specs.definitions.Decode.{makerAt}
+use Rattle.job.specs.definitions.Reading.{readingPlaces}
+use Rattle.job.specs.definitions.Step.{command}
+use Rattle.job.specs.definitions.Run.{run, jobOutcome}
+use Rattle.job.specs.definitions.Work.{checkOutcome, workAfter, workWith, resultWords, scratchAfterJob}
+use Rattle.ferruntzo.specs.definitions.Areas.{areaOut}
+use Rattle.ferruntzo.specs.definitions.Operations.{operationAnswer, outcomeIn, binaryAnswer, evaluationAnswer, boundsIn, evaluateAnswer}
+use Rattle.ferruntzo.specs.definitions.Certificates.{testAnswer, testIn, rootAnswer}
+use Rattle.ferruntzo.specs.definitions.Jobs.{jobAnswer, checkAnswer}
 
 -- the numbers of a model, or of a candidate, from its degree, its first coefficients and how many numbers follow
 abbrev area : ℕ → List ℤ → ℕ → List ℤ
@@ -68,7 +73,7 @@ pub tests :
     ≡ testAnswer 1 (zeros 65 ++ nines 1) (nines 34) (0 ∷ 0 ∷ 0 ∷ 9 ∷ []))
     × (rootAnswer (area 0 (pos 2097152 ∷ []) 35) h w (nines 64) (nines 36) (9 ∷ 9 ∷ 9 ∷ 9 ∷ [])
     ≡ testAnswer 1 (nines 64) (zeros 35 ++ nines 1) (0 ∷ 0 ∷ 0 ∷ 9 ∷ []))
-unfolding testIn areaOut scratchAfter rootOutcome rootPlaces rootContraction rootResidual rootModel displacement coefficientSum productList passing good tooLarge zeroModel weight addLists subtractLists scaleList addAt addPair addRow addRows product upℕ zeros
+unfolding testIn areaOut scratchAfter rootOutcome rootPlaces rootContraction rootResidual rootModel displacement coefficientSum productList passing good tooLarge zeroModel weight addLists subtractLists scaleList addAt addPair addTerm addTerms product upℕ zeros
 tests = (refl, refl, refl, refl)
 
 -- a job refused at command 1, the count before the command; a job accepted with one result; and areas that are too short
@@ -79,5 +84,5 @@ pub checks :
     ≡ jobAnswer 0 (pos 1 ∷ (zeros 33 ++ (pos 5 ∷ (zeros 1085 ++ nines 1)))) (zeros 65 ++ nines 1) (1 ∷ 0 ∷ 9 ∷ []))
     × (checkAnswer (0x01 ∷ 1 ∷ []) (nines 1119) (nines 66) (9 ∷ 9 ∷ 9 ∷ []) ≡ jobAnswer 1 (nines 1119) (nines 66) (0 ∷ 0 ∷ 9 ∷ []))
     × (checkAnswer (0x01 ∷ 1 ∷ []) (nines 1120) (nines 65) (9 ∷ []) ≡ jobAnswer 1 (nines 1120) (nines 65) (9 ∷ []))
-unfolding checkAnswer areaOut checkOutcome workAfter workWith stretches scratchAfterJob jobOutcome run command operation makerPlaces readingPlaces makerAt signedsAt good weight passing zeros
+unfolding checkAnswer areaOut checkOutcome workAfter workWith resultWords scratchAfterJob jobOutcome run command operation makerPlaces readingPlaces makerAt signedsAt good weight passing zeros
 checks = (refl, refl, refl, refl)

@@ -6,13 +6,13 @@ use mathlib.Core.Logic.{_⊎_}
 use Prim.Native.Nat.{ℕ, _<_}
 use lib.IntN.{pos}
 use Rattle.integer.specs.definitions.Fraction.{ℚ, whole, _+ℚ_, _-ℚ_, _*ℚ_, _≤ℚ_, ∣_∣ℚ, _/ℚ_}
-use Rattle.model.specs.definitions.Values.{Allows}
-use Rattle.certificate.specs.definitions.Tests.{RootRule}
+use Rattle.model.specs.definitions.Allowed.{Allows}
+use Rattle.certificate.specs.definitions.Root.{RootRule}
 use Rattle.model.specs.declared.types.Model.{Model}
-use Rattle.job.specs.definitions.Makers.{Maker, load, add, subtract, multiply, quotient, root, Row}
-use Rattle.job.specs.definitions.Makers.{of-none, of-one, of-two, rowFor}
-use Rattle.job.specs.definitions.Commands.{Command, result}
-use Rattle.job.specs.definitions.JobReading.{commandFor}
+use Rattle.job.specs.definitions.Operations.{Maker, load, add, subtract, multiply, quotient, root, Making}
+use Rattle.job.specs.definitions.Operations.{of-none, of-one, of-two, makingFor}
+use Rattle.job.specs.definitions.Decode.{Command, result}
+use Rattle.job.specs.definitions.Reader.{commandFor}
 
 -- v i is an exact value of result i at x, and so are the values of all that it is formed from
 pub data Exact (cs : List Command) (x : ℚ) (v : ℕ → ℚ) : ℕ → Type 0 where
@@ -52,8 +52,8 @@ Suits x choice v i (multiply j k d) = Unit {0}
 Suits x choice v i (quotient j k h w) = Unit {0}
 Suits x choice v i (root rule j h w) = v j ≡ choice i *ℚ choice i
 
--- a row names result j
-abbrev pub NamedBy : Row → ℕ → Type 0
+-- a making names result j
+abbrev pub NamedBy : Making → ℕ → Type 0
 NamedBy (of-none g) j = ⊥
 NamedBy (of-one i g) j = j ≡ i
 NamedBy (of-two i k g) j = (j ≡ i) ⊎ (j ≡ k)
@@ -62,7 +62,7 @@ NamedBy (of-two i k g) j = (j ≡ i) ⊎ (j ≡ k)
 -- are formed from."
 pub data FormedFrom (cs : List Command) : ℕ → ℕ → Type 0 where
   itself : (i : ℕ) → FormedFrom cs i i
-  through : (i j r : ℕ) (m : Maker) → commandFor cs i ≡ result m → NamedBy (rowFor m) j → FormedFrom cs j r → FormedFrom cs i r
+  through : (i j r : ℕ) (m : Maker) → commandFor cs i ≡ result m → NamedBy (makingFor m) j → FormedFrom cs j r → FormedFrom cs i r
 
 -- the choice suits result i and all that it is formed from
 abbrev pub Chosen : List Command → ℚ → (ℕ → ℚ) → (ℕ → ℚ) → ℕ → Type 0

@@ -6,11 +6,11 @@ use mathlib.Core.List.{List, [], _∷_, _++_}
 use mathlib.Core.Logic.{_⊎_}
 use Prim.Native.Nat.{ℕ, _+_}
 use lib.ListN.{length}
-use Rattle.model.specs.definitions.Outcomes.{values, Passed, First}
+use Rattle.model.specs.definitions.Outcomes.{payload, Passed, First}
 use Rattle.model.specs.declared.types.Model.{Model}
-use Rattle.job.specs.definitions.Makers.{operation, makerPlaces}
-use Rattle.job.specs.definitions.Commands.{Command, edition, result, finish, unknown}
-use Rattle.job.specs.definitions.Commands.{shapeAt, commandRead, nextAt, isEnd, readingPlaces}
+use Rattle.job.specs.definitions.Operations.{operation, makerPlaces}
+use Rattle.job.specs.definitions.Decode.{Command, edition, result, finish, unknown}
+use Rattle.job.specs.definitions.Reading.{shapeAt, commandRead, nextAt, isEnd, readingPlaces}
 
 -- the places that a command's operation passes through
 abbrev pub operationPlaces : Command → List Model → List (Bool × ℕ)
@@ -22,7 +22,7 @@ operationPlaces unknown rs = []
 -- the results after a command
 abbrev pub resultsAfter : Command → List Model → List Model
 resultsAfter edition rs = rs
-resultsAfter (result m) rs = rs ++ (values (operation m rs) .model ∷ [])
+resultsAfter (result m) rs = rs ++ (payload (operation m rs) .model ∷ [])
 resultsAfter finish rs = rs
 resultsAfter unknown rs = rs
 

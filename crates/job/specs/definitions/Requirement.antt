@@ -1,12 +1,12 @@
 -- Requirement 3 as one definition, `Requirement3`, the owner's sentences beside its fields, 01's beside what they speak of. What
 -- else a reader believes, besides the library's numbers and lists:
---   the commands in the bytes, signed numbers among them: Bytes, Commands, JobReading; the types of src/types.rt
---   what each command gives: Makers; model's Models, src/types.rt, Operations; certificate's Tests; chebyshev's Coefficients,
---     Product; integer's Rounding, Ring, Integer
+--   the commands in the bytes, signed numbers among them: Bytes, Decode, Reading, Reader; the types of src/types.rt
+--   what each command gives: Operations; model's Models, src/types.rt, Load, Add, Multiply; certificate's Tests, Quotient,
+--     Root; chebyshev's Coefficients, Product; integer's Rounding, Ring, Integer
 --   what refusals there are, and their order: `Meets` of Order, `areaPlaces` of Work; model's Outcomes
---   what the code's answer means: `jobOutcomeOf` of Outcomes; for C, `answerIn`, `exportedPlaces` of ferruntzo's JobAnswers
---   where the models stand in the work area: `stretch`, `modelsIn` of Work; model's Areas
---   what a model allows, "from -1 to 1": model's Values; chebyshev's Allows, Coefficients, Recurrences
+--   what the code's answer means: `jobOutcomeOf` of Outcomes; for C, `answerIn`, `exportedPlaces` of ferruntzo's Jobs
+--   where the models stand in the work area: `storedResult`, `modelsIn` of Work; model's Area
+--   what a model allows, "from -1 to 1": model's Allowed; chebyshev's Allows, Coefficients, Recurrences
 --   fractions, their order and division: integer's Fraction, Pairs, FractionRing
 use mathlib.Core.Path.{_≡_}
 use mathlib.Core.Bool.{Bool, false}
@@ -16,16 +16,17 @@ use Prim.Native.Nat.{ℕ, _<_}
 use lib.IntN.{ℤ, pos}
 use lib.ListN.{length}
 use Rattle.integer.specs.definitions.Fraction.{ℚ, whole, _+ℚ_, _-ℚ_, _*ℚ_, _≤ℚ_, _<ℚ_, _/ℚ_}
-use Rattle.model.specs.definitions.Values.{Allows, OnInterval}
+use Rattle.model.specs.definitions.Allowed.{Allows, OnInterval}
 use Rattle.model.specs.definitions.Outcomes.{Outcome}
-use Rattle.certificate.specs.definitions.Tests.{Certificate, RootRule}
+use Rattle.certificate.specs.definitions.Tests.{Certificate}
+use Rattle.certificate.specs.definitions.Root.{RootRule}
 use Rattle.model.specs.declared.types.Model.{Model}
-use Rattle.job.specs.definitions.Makers.{Maker, load, add, subtract, multiply, quotient, root, namesBad, operation}
-use Rattle.job.specs.definitions.Commands.{Command, result}
-use Rattle.job.specs.definitions.JobReading.{jobReading, well, commandFor}
+use Rattle.job.specs.definitions.Operations.{Maker, load, add, subtract, multiply, quotient, root, namesBad, operation}
+use Rattle.job.specs.definitions.Decode.{Command, result}
+use Rattle.job.specs.definitions.Reader.{jobReading, well, commandFor}
 use Rattle.job.specs.definitions.Outcomes.{JobOutcome, accepted}
 use Rattle.job.specs.definitions.Order.{Meets}
-use Rattle.job.specs.definitions.Work.{stretch, modelsIn}
+use Rattle.job.specs.definitions.Work.{storedResult, modelsIn}
 
 -- "each of its results is exactly the loaded model, or what the operation or test of its command gives for the results, d and
 -- blocks it names": the results rs are made by the commands cs, one after the other, each from those before it
@@ -93,19 +94,19 @@ pub record Overlaps (b : Box) (m : Model) (x : ℚ) : Type 0 where
 -- what is vouched for of result i at one fraction x, the models being "as left in the work area"
 pub record Vouched (cs : List Command) (work : List ℤ) (i : ℕ) (x : ℚ) : Type 0 where
   -- "Whichever boxes document 01 permits there for it and all it is formed from, … its box overlaps its model"
-  pub overlaps : (box : ℕ → Box) → Permitted cs x box i → Overlaps (box i) (stretch work i) x
+  pub overlaps : (box : ℕ → Box) → Permitted cs x box i → Overlaps (box i) (storedResult work i) x
   -- "If it is a quotient, no value that the divisor's model allows there is zero;"
   pub divisor : (j k : ℕ) (h w : Model) → commandFor cs i ≡ result (quotient j k h w)
-      → (v : ℚ) → Allows (stretch work k) x v → ¬ (v ≡ whole (pos 0))
+      → (v : ℚ) → Allows (storedResult work k) x v → ¬ (v ≡ whole (pos 0))
   -- "if a root, no value that the model under the root allows there is negative."
   pub radicand : (j : ℕ) (rule : RootRule) (h w : Model) → commandFor cs i ≡ result (root rule j h w)
-      → (v : ℚ) → Allows (stretch work j) x v → ¬ (v <ℚ whole (pos 0))
+      → (v : ℚ) → Allows (storedResult work j) x v → ¬ (v <ℚ whole (pos 0))
 
 -- what is vouched for of an accepted job
 pub record Results (job : List ℕ) (count : ℕ) (work : List ℤ) : Type 0 where
   pub commands : List Command
   pub read : jobReading job ≡ well commands
-  -- "its results are exactly those that document 01 gives for its commands." (`workAfter` of Work has the later stretches.)
+  -- "its results are exactly those that document 01 gives for its commands." (`workAfter` of Work has the rest of the area.)
   pub made : Made commands (modelsIn work count)
   -- "Of each result the following then holds at every fraction from -1 to 1."
   pub vouched : (i : ℕ) → i < count → (x : ℚ) → OnInterval x → Vouched commands work i x

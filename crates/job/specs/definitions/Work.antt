@@ -7,36 +7,36 @@ use lib.Dec.{leb}
 use lib.IntN.{ℤ}
 use lib.ListN.{length, take, drop}
 use Rattle.integer.specs.definitions.Lists.{zeros}
-use Rattle.model.specs.definitions.Areas.{modelSize, words, areaModel}
+use Rattle.model.specs.definitions.Area.{modelSize, words, areaModel}
 use Rattle.certificate.specs.definitions.Tests.{scratchSize}
 use Rattle.model.specs.declared.types.Model.{Model}
 use Rattle.job.specs.definitions.Outcomes.{JobOutcome, accepted, refused}
-use Rattle.job.specs.definitions.Jobs.{jobOutcome}
+use Rattle.job.specs.definitions.Run.{jobOutcome}
 
 -- the numbers of the whole area
 abbrev pub workSize : ℕ
 workSize = 1120
 
--- the model in stretch i of a work area
-abbrev pub stretch : List ℤ → ℕ → Model
-stretch w i = areaModel (take modelSize (drop (modelSize * i) w))
+-- the model of result i in a work area
+abbrev pub storedResult : List ℤ → ℕ → Model
+storedResult w i = areaModel (take modelSize (drop (modelSize * i) w))
 
--- the models in the first n stretches
+-- the models of the first n results
 unfoldable pub modelsIn : List ℤ → ℕ → List Model
 modelsIn w zero = []
-modelsIn w (suc n) = modelsIn w n ++ (stretch w n ∷ [])
+modelsIn w (suc n) = modelsIn w n ++ (storedResult w n ∷ [])
 
--- the area with a model written into stretch i
+-- the area with a model written as result i
 abbrev pub storedAt : List ℤ → ℕ → Model → List ℤ
 storedAt w i m = take (modelSize * i) w ++ (words m ++ drop (modelSize * i + modelSize) w)
 
-unfoldable pub stretches : List Model → List ℤ
-stretches [] = []
-stretches (m ∷ rs) = words m ++ stretches rs
+unfoldable pub resultWords : List Model → List ℤ
+resultWords [] = []
+resultWords (m ∷ rs) = words m ++ resultWords rs
 
--- the 1,120 numbers: the results, later stretches zero
+-- the 1,120 numbers: those of the results, the rest zero
 unfoldable pub workWith : List Model → List ℤ
-workWith rs = stretches rs ++ zeros (workSize - modelSize * length rs)
+workWith rs = resultWords rs ++ zeros (workSize - modelSize * length rs)
 
 -- ---- the entry
 

@@ -8,10 +8,11 @@ use lib.ListN.{length}
 use Rattle.model.specs.definitions.Outcomes.{passing, Passed}
 use Rattle.model.specs.laws.PlaceLaws.{passing-passed, passed-append}
 use Rattle.model.specs.declared.types.Model.{Model}
-use Rattle.job.specs.definitions.Commands.{Command, edition, result, finish, unknown, commandAt, shapeAt, commandRead, nextAt, badKind, badNames, isEnd, readingPlaces}
+use Rattle.job.specs.definitions.Decode.{Command, edition, result, finish, unknown, commandAt}
+use Rattle.job.specs.definitions.Reading.{shapeAt, commandRead, nextAt, badKind, badNames, isEnd, readingPlaces}
 use Rattle.job.specs.definitions.Outcomes.{accepted}
-use Rattle.job.specs.definitions.Jobs.{jobOutcome}
-use Rattle.job.specs.definitions.JobReading.{JobReading, well, ill, readOn, readFrom, jobReading, ReadsWell}
+use Rattle.job.specs.definitions.Run.{jobOutcome}
+use Rattle.job.specs.definitions.Reader.{JobReading, well, ill, readOn, readFrom, jobReading, ReadsWell}
 use Rattle.job.specs.definitions.Order.{operationPlaces, resultsAfter, commandPlaces, isLast, Reaches, start, next}
 use Rattle.job.specs.laws.CommandLaws.{isEnd-is, operation-passed, command-readable, command-passed}
 use Rattle.job.specs.laws.OrderLaws.{reaches-bounds, accepted-exactly}

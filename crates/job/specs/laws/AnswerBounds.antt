@@ -10,11 +10,12 @@ use lib.Dec.{eqb}
 use lib.IntN.{ℤ}
 use lib.ListN.{length, length-append}
 use Rattle.model.specs.declared.types.Model.{Model}
-use Rattle.job.specs.definitions.Makers.{operation}
-use Rattle.job.specs.definitions.Commands.{makerAt, commandAt, shapeAt, maxResults, badKind, isEnd}
-use Rattle.model.specs.definitions.Outcomes.{values}
+use Rattle.job.specs.definitions.Operations.{operation}
+use Rattle.job.specs.definitions.Decode.{makerAt, commandAt}
+use Rattle.job.specs.definitions.Reading.{shapeAt, maxResults, badKind, isEnd}
+use Rattle.model.specs.definitions.Outcomes.{payload}
 use Rattle.job.specs.definitions.Outcomes.{JobOutcome, accepted, refused, counted, refusedCommand, resultCount}
-use Rattle.job.specs.definitions.Jobs.{jobOutcome}
+use Rattle.job.specs.definitions.Run.{jobOutcome}
 use Rattle.job.specs.definitions.Work.{areasFit, checkOutcome}
 use Rattle.job.specs.definitions.Order.{resultsAfter, Reaches, start, next}
 use Rattle.job.specs.laws.OrderLaws.{reaches-bounds, refused-exactly, accepted-exactly}
@@ -26,7 +27,7 @@ more-results : (job : List ℕ) (k at : ℕ) (rs : List Model) → k ≤ length 
     → k + 1 ≤ length (resultsAfter (commandAt kind job at) rs) + 1
 more-results job k at rs h End e b = absurd (true≢false e)
 more-results job k at rs h Edition e b = omega (arith, eqb-true k 0 (not-false (eqb k 0) b))
-more-results job k at rs h (Result o) e b = omega (arith, length-append rs (values (operation (makerAt o job at) rs) .model ∷ []))
+more-results job k at rs h (Result o) e b = omega (arith, length-append rs (payload (operation (makerAt o job at) rs) .model ∷ []))
 more-results job k at rs h Unknown e b = absurd (true≢false b)
 
 reaches-number : {job : List ℕ} {k : ℕ} {rs : List Model} {at : ℕ} → Reaches job k rs at → k ≤ length rs + 1

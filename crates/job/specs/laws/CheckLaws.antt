@@ -12,7 +12,7 @@ use Rattle.model.specs.definitions.Outcomes.{Passed, First, here, later}
 use Rattle.certificate.specs.definitions.Tests.{scratchSize}
 use Rattle.model.specs.declared.types.Model.{Model}
 use Rattle.job.specs.definitions.Outcomes.{JobOutcome, accepted, refused}
-use Rattle.job.specs.definitions.Jobs.{jobOutcome}
+use Rattle.job.specs.definitions.Run.{jobOutcome}
 use Rattle.job.specs.definitions.Order.{EndsWith, Meets}
 use Rattle.job.specs.laws.OrderLaws.{refused-exactly, accepted-exactly}
 use Rattle.job.specs.definitions.Work.{workSize, areaPlaces, areasFit, checkOutcome}

@@ -8,9 +8,9 @@ use borrow.Author.Tests.{eqb-true, eqb-false, ne-eqb}
 use lib.Dec.{eqb}
 use lib.IntN.{pos}
 use Rattle.integer.specs.definitions.Fraction.{ℚ, whole, _+ℚ_, _-ℚ_, _*ℚ_, _/ℚ_}
-use Rattle.job.specs.definitions.Makers.{Maker, load, add, subtract, multiply, quotient, root, namesBad}
-use Rattle.job.specs.definitions.Commands.{Command, edition, result, finish, unknown}
-use Rattle.job.specs.definitions.JobReading.{commandFor}
+use Rattle.job.specs.definitions.Operations.{Maker, load, add, subtract, multiply, quotient, root, namesBad}
+use Rattle.job.specs.definitions.Decode.{Command, edition, result, finish, unknown}
+use Rattle.job.specs.definitions.Reader.{commandFor}
 use Rattle.job.specs.laws.CommandLaws.{both-below}
 use Rattle.job.specs.definitions.ExactValues.{valueBy, Follows}
 

@@ -7,16 +7,18 @@ use lib.IntN.{pos}
 use Rattle.integer.specs.laws.OrderedRingLaws.{le-of-eq}
 use Rattle.integer.specs.definitions.Fraction.{ℚ, whole, _+ℚ_, _-ℚ_, _*ℚ_, _<ℚ_, _/ℚ_}
 use Rattle.integer.specs.laws.FractionOrder.{ℚ-ordered}
-use Rattle.model.specs.definitions.Values.{Allows, OnInterval}
+use Rattle.model.specs.definitions.Allowed.{Allows, OnInterval}
 use Rattle.model.specs.definitions.Outcomes.{Outcome, accepted}
 use Rattle.model.specs.laws.OperationsSound.{addition-sound, subtraction-sound, multiplication-sound}
-use Rattle.certificate.specs.definitions.Tests.{scratchSize, quotientOutcome, RootRule, rootOutcome}
+use Rattle.certificate.specs.definitions.Tests.{scratchSize}
+use Rattle.certificate.specs.definitions.Quotient.{quotientOutcome}
+use Rattle.certificate.specs.definitions.Root.{RootRule, rootOutcome}
 use Rattle.certificate.specs.laws.QuotientSound.{quotient-sound, quotient-nonzero}
 use Rattle.certificate.specs.laws.RootSound.{root-sound, root-overlap}
 use Rattle.model.specs.declared.types.Model.{Model}
-use Rattle.job.specs.definitions.Makers.{Maker, load, add, subtract, multiply, quotient, root, resultAt, operation}
-use Rattle.job.specs.definitions.Commands.{Command, result}
-use Rattle.job.specs.definitions.JobReading.{commandFor}
+use Rattle.job.specs.definitions.Operations.{Maker, load, add, subtract, multiply, quotient, root, resultAt, operation}
+use Rattle.job.specs.definitions.Decode.{Command, result}
+use Rattle.job.specs.definitions.Reader.{commandFor}
 use Rattle.job.specs.definitions.InnerContracts.{untestedOutcome}
 use Rattle.job.specs.laws.MakerLaws.{untested-accepted, loading-same, load-operation, add-operation, subtract-operation, multiply-operation, quotient-operation, root-operation}
 use Rattle.job.specs.laws.MadeLaws.{MadeFrom, made-maker}

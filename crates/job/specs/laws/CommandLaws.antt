@@ -7,13 +7,14 @@ use Prim.Native.Nat.{ℕ, _≤_, _<_}
 use borrow.Author.Tests.{leb-false, ltb-false}
 use lib.Dec.{leb}
 use lib.ListN.{length}
-use Rattle.model.specs.definitions.Outcomes.{Outcome, accepted, values, Passed, First}
+use Rattle.model.specs.definitions.Outcomes.{Outcome, accepted, payload, Passed, First}
 use Rattle.model.specs.laws.PlaceLaws.{passing-passed, outcome-passed, first-parts, passed-append, passing-first, none-first}
 use Rattle.certificate.specs.definitions.Tests.{zeroCertificate}
 use Rattle.model.specs.declared.types.Model.{Model}
-use Rattle.job.specs.definitions.Makers.{Maker, rowFor, givenIn, operation, makerPlaces}
-use Rattle.job.specs.definitions.Commands.{Command, edition, result, finish, unknown, makerAt, commandAt, shapeAt, commandRead, nextAt, maxResults, badKind, badValues, badNames, makesResult, isEnd, readingPlaces}
-use Rattle.job.specs.definitions.Jobs.{more, over, refused, resulting, performed, command}
+use Rattle.job.specs.definitions.Operations.{Maker, makingFor, givenIn, operation, makerPlaces}
+use Rattle.job.specs.definitions.Decode.{Command, edition, result, finish, unknown, makerAt, commandAt}
+use Rattle.job.specs.definitions.Reading.{shapeAt, commandRead, nextAt, maxResults, badKind, badValues, badNames, makesResult, isEnd, readingPlaces}
+use Rattle.job.specs.definitions.Step.{more, over, refused, resulting, performed, command}
 use Rattle.job.specs.definitions.Order.{operationPlaces, resultsAfter, commandPlaces, isLast}
 use Rattle.job.specs.declared.types.Kind.{Kind}
 use Rattle.job.specs.declared.types.Kind.the-variants.{End, Edition, Result, Unknown}
@@ -22,14 +23,14 @@ use Rattle.job.specs.declared.types.Kind.the-variants.{End, Edition, Res
 
 -- a maker whose places are all passed gives its certificate
 pub operation-passed : (m : Maker) (rs : List Model) → Passed (makerPlaces m rs)
-    → operation m rs ≡ accepted (values (operation m rs))
+    → operation m rs ≡ accepted (payload (operation m rs))
 unfolding operation
 operation-passed m rs f =
-    let e = outcome-passed (makerPlaces m rs) (givenIn (rowFor m) rs .certificate) zeroCertificate f in e ∙ ap accepted (ap values (sym e))
+    let e = outcome-passed (makerPlaces m rs) (givenIn (makingFor m) rs .certificate) zeroCertificate f in e ∙ ap accepted (ap payload (sym e))
 
 pub operation-refuses : (m : Maker) (rs : List Model) {n : ℕ} → First (makerPlaces m rs) n → operation m rs ≡ Outcome.refused n zeroCertificate
 unfolding operation
-operation-refuses m rs f = passing-first (accepted (givenIn (rowFor m) rs .certificate)) (λ k. Outcome.refused k zeroCertificate) f
+operation-refuses m rs f = passing-first (accepted (givenIn (makingFor m) rs .certificate)) (λ k. Outcome.refused k zeroCertificate) f
 
 -- ---- reading without a refusal
 

@@ -9,14 +9,14 @@ use lib.IntN.{ℤ, pos}
 use Rattle.integer.specs.laws.OrderedRingLaws.{le-refl, le-of-eq}
 use Rattle.integer.specs.definitions.Fraction.{ℚ, whole, _*ℚ_, _≤ℚ_, _<ℚ_}
 use Rattle.integer.specs.laws.FractionOrder.{ℚ-ordered, ≤ℚ-antisym, ≤ℚ-decide}
-use Rattle.model.specs.definitions.Values.{Allows, OnInterval}
-use Rattle.certificate.specs.definitions.Tests.{RootRule}
+use Rattle.model.specs.definitions.Allowed.{Allows, OnInterval}
+use Rattle.certificate.specs.definitions.Root.{RootRule}
 use Rattle.model.specs.declared.types.Model.{Model}
-use Rattle.job.specs.definitions.Makers.{quotient, root}
-use Rattle.job.specs.definitions.Commands.{Command, result}
-use Rattle.job.specs.definitions.JobReading.{commandFor}
+use Rattle.job.specs.definitions.Operations.{quotient, root}
+use Rattle.job.specs.definitions.Decode.{Command, result}
+use Rattle.job.specs.definitions.Reader.{commandFor}
 use Rattle.job.specs.definitions.Outcomes.{JobOutcome, accepted}
-use Rattle.job.specs.definitions.Work.{stretch}
+use Rattle.job.specs.definitions.Work.{storedResult}
 use Rattle.job.specs.definitions.Requirement.{Box, Lies, Permitted, load-box, add-box, subtract-box, multiply-box, quotient-box, root-box, Results, Requirement3}
 use Rattle.job.specs.definitions.ExactValues.{Exact, load-value, add-value, subtract-value, multiply-value, quotient-value, root-value}
 
@@ -63,14 +63,14 @@ module _ {areas : List (Bool × ℕ)} {job : List ℕ} {answer : JobOutcome ℕ}
 
   module _ (x : ℚ) (on : OnInterval x) where
     -- it is allowed by the result's model in the work area
-    pub exact-allowed : {v : ℕ → ℚ} {i : ℕ} → i < count → Exact cs x v i → Allows (stretch work i) x (v i)
+    pub exact-allowed : {v : ℕ → ℚ} {i : ℕ} → i < count → Exact cs x v i → Allows (storedResult work i) x (v i)
     exact-allowed {v} {i} h p =
         let o = vouchedFor .vouched i h x on .overlaps (λ j. point (v j)) (exact-permitted p) in
-        subst (λ z. Allows (stretch work i) x z) (point-is (o .lies)) (o .allowed)
+        subst (λ z. Allows (storedResult work i) x z) (point-is (o .lies)) (o .allowed)
 
     -- no value that the divisor's model allows is zero
     pub allowed-divisor : (u : ℚ) {i j k : ℕ} {h w : Model} → i < count → commandFor cs i ≡ result (quotient j k h w)
-        → Allows (stretch work k) x u → ¬ (u ≡ whole (pos 0))
+        → Allows (storedResult work k) x u → ¬ (u ≡ whole (pos 0))
     allowed-divisor u {i} {j} {k} {h} {w} hi f a = vouchedFor .vouched i hi x on .divisor j k h w f u a
 
     -- no divisor is zero
@@ -80,7 +80,7 @@ module _ {areas : List (Bool × ℕ)} {job : List ℕ} {answer : JobOutcome ℕ}
 
     -- what the model under a root allows is not negative
     pub exact-radicand : (u : ℚ) {i j : ℕ} {rule : RootRule} {h w : Model} → i < count → commandFor cs i ≡ result (root rule j h w)
-        → Allows (stretch work j) x u → whole (pos 0) ≤ℚ u
+        → Allows (storedResult work j) x u → whole (pos 0) ≤ℚ u
     exact-radicand u {i} {j} {rule} {h} {w} hi f a = pick (≤ℚ-decide (whole (pos 0)) u)
       where
         pick : (whole (pos 0) ≤ℚ u) ⊎ ¬ (whole (pos 0) ≤ℚ u) → whole (pos 0) ≤ℚ u

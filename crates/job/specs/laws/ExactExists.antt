@@ -11,12 +11,12 @@ use lib.IntN.{ℤ}
 use Rattle.integer.specs.definitions.Fraction.{ℚ, _*ℚ_, -ℚ_, ∣_∣ℚ}
 use Rattle.integer.specs.laws.FractionSolver.{reifyℚ, solveℚ}
 use Rattle.integer.specs.laws.FractionOrder.{absℚ-nonneg, absℚ-cases}
-use Rattle.model.specs.definitions.Values.{Allows, OnInterval}
-use Rattle.job.specs.definitions.Makers.{Maker, load, add, subtract, multiply, quotient, root, rowFor, namesBad}
-use Rattle.job.specs.definitions.Commands.{Command, result}
-use Rattle.job.specs.definitions.JobReading.{commandFor}
+use Rattle.model.specs.definitions.Allowed.{Allows, OnInterval}
+use Rattle.job.specs.definitions.Operations.{Maker, load, add, subtract, multiply, quotient, root, makingFor, namesBad}
+use Rattle.job.specs.definitions.Decode.{Command, result}
+use Rattle.job.specs.definitions.Reader.{commandFor}
 use Rattle.job.specs.definitions.Outcomes.{JobOutcome, accepted}
-use Rattle.job.specs.definitions.Work.{stretch}
+use Rattle.job.specs.definitions.Work.{storedResult}
 use Rattle.job.specs.laws.WorkLaws.{length-modelsIn}
 use Rattle.job.specs.laws.CommandLaws.{both-below}
 use Rattle.job.specs.definitions.Requirement.{Requirement3}
@@ -52,7 +52,7 @@ module _ {areas : List (Bool × ℕ)} {job : List ℕ} {answer : JobOutcome ℕ}
 
     -- a result below i that its command names, for a choice that suits result i
     abbrev Named : ℕ → Maker → Type 0
-    Named i m = (j : ℕ) → j < i → NamedBy (rowFor m) j → Found j
+    Named i m = (j : ℕ) → j < i → NamedBy (makingFor m) j → Found j
 
     by-maker : (i : ℕ) → i < count → Chosen commands x choice v i → (m : Maker) → commandFor commands i ≡ result m → Named i m → Found i
     by-maker i h c (load m) f r = load-value i m f (subst⁻¹ (Allows m x) (follows i h (load m) f) (c i (load m) (itself i) f))
@@ -85,7 +85,7 @@ module _ {areas : List (Bool × ℕ)} {job : List ℕ} {answer : JobOutcome ℕ}
   -- for every choice there are values that follow it, and those of a result that it suits are exact and allowed by its model
   pub exact-values : (x : ℚ) → OnInterval x → (choice : ℕ → ℚ)
       → (v : ℕ → ℚ) × Follows commands choice count v
-      × ((i : ℕ) → i < count → Chosen commands x choice v i → Exact commands x v i × Allows (stretch work i) x (v i))
+      × ((i : ℕ) → i < count → Chosen commands x choice v i → Exact commands x v i × Allows (storedResult work i) x (v i))
   exact-values x on choice =
       let r = values-to commands named choice count in (
         r .0,

@@ -4,19 +4,24 @@ use mathlib.Core.List.{List, [], _∷_, _++_}
 use Prim.Native.Nat.{ℕ}
 use Rattle.integer.specs.definitions.Rounding.{upℕ, near, floor}
 use Rattle.chebyshev.specs.definitions.Coefficients.{weight, addLists, subtractLists, scaleList, coefficientSum}
-use Rattle.chebyshev.specs.definitions.Product.{addAt, addPair, addRow, addRows, product}
+use Rattle.chebyshev.specs.definitions.Product.{addAt, addPair, addTerm, addTerms, product}
 use Rattle.model.specs.definitions.Models.{good, tooLarge, zeroModel}
 use Rattle.model.specs.definitions.Outcomes.{passing}
-use Rattle.model.specs.definitions.Operations.{sumModel, differenceModel, productModel, productList, productLoss}
+use Rattle.model.specs.definitions.Add.{sumModel, differenceModel}
+use Rattle.model.specs.definitions.Multiply.{productModel, productList, productLoss}
 use Rattle.model.specs.definitions.Round.{rounded, roundingLoss}
 use Rattle.model.specs.declared.types.Model.{Model}
-use Rattle.certificate.specs.definitions.Tests.{byDiscriminant, rootPlaces, quotientContraction, quotientResidual, quotientModel, rootContraction, rootResidual, rootModel, displacement}
+use Rattle.certificate.specs.definitions.Root.{byDiscriminant, rootPlaces, rootContraction, rootResidual, rootModel}
+use Rattle.certificate.specs.definitions.Quotient.{quotientContraction, quotientResidual, quotientModel}
+use Rattle.certificate.specs.definitions.Tests.{displacement}
 use Rattle.job.specs.definitions.Bytes.{signedsAt}
-use Rattle.job.specs.definitions.Makers.{load, add, subtract, multiply, quotient, root, makerPlaces, operation}
-use Rattle.job.specs.definitions.Commands.{Command, result, makerAt, readingPlaces}
-use Rattle.job.specs.definitions.JobReading.{readFrom, jobReading, well}
+use Rattle.job.specs.definitions.Operations.{load, add, subtract, multiply, quotient, root, makerPlaces, operation}
+use Rattle.job.specs.definitions.Decode.{Command, result, makerAt}
+use Rattle.job.specs.definitions.Reading.{readingPlaces}
+use Rattle.job.specs.definitions.Reader.{readFrom, jobReading, well}
 use Rattle.job.specs.definitions.Outcomes.{accepted}
-use Rattle.job.specs.definitions.Jobs.{command, run, jobOutcome}
+use Rattle.job.specs.definitions.Step.{command}
+use Rattle.job.specs.definitions.Run.{run, jobOutcome}
 use Rattle.job.specs.laws.ExampleBytes.{wordsFor, block, modelBy}
 
 -- edition 1; the commands below; end
@@ -72,5 +77,5 @@ unfolding jobReading readFrom readingPlaces makerAt signedsAt passing
 example-read = refl
 
 pub example-run : jobOutcome exampleJob ≡ accepted exampleResults
-unfolding jobOutcome run command operation makerPlaces readingPlaces makerAt signedsAt rootPlaces quotientContraction quotientResidual quotientModel rootContraction rootResidual rootModel displacement coefficientSum sumModel differenceModel productModel productList productLoss rounded roundingLoss good tooLarge zeroModel weight addLists subtractLists scaleList addAt addPair addRow addRows product upℕ near floor passing
+unfolding jobOutcome run command operation makerPlaces readingPlaces makerAt signedsAt rootPlaces quotientContraction quotientResidual quotientModel rootContraction rootResidual rootModel displacement coefficientSum sumModel differenceModel productModel productList productLoss rounded roundingLoss good tooLarge zeroModel weight addLists subtractLists scaleList addAt addPair addTerm addTerms product upℕ near floor passing
 example-run = refl

@@ -14,12 +14,12 @@ use Rattle.integer.specs.laws.PairLaws.{den-is}
 use Rattle.integer.specs.laws.FractionOrder.{fraction-le, fraction-neg}
 use Rattle.model.specs.definitions.Outcomes.{Passed}
 use Rattle.model.specs.laws.PlaceLaws.{none-first}
-use Rattle.model.specs.definitions.Values.{Allows, OnInterval}
+use Rattle.model.specs.definitions.Allowed.{Allows, OnInterval}
 use Rattle.job.specs.definitions.Outcomes.{JobOutcome, accepted}
 use Rattle.job.specs.definitions.Order.{Meets}
 use Rattle.job.specs.laws.OrderLaws.{accepted-unless-refused}
 use Rattle.job.specs.laws.Accepted.{accepted-read}
-use Rattle.job.specs.definitions.Work.{stretch, modelsIn}
+use Rattle.job.specs.definitions.Work.{storedResult, modelsIn}
 use Rattle.job.specs.definitions.Requirement.{Permitted, Overlaps, Made, Results, Requirement3}
 use Rattle.job.specs.laws.MadeUnique.{made-unique}
 use Rattle.job.specs.laws.WorkLaws.{length-modelsIn}
@@ -72,13 +72,13 @@ module _ {areas : List (Bool × ℕ)} {answer : JobOutcome ℕ} {work : List ℤ
   example-models = ap (modelsIn work) (sym count-is) ∙ models-are
 
   -- its exact values at 1/3 are allowed by the models in the work area
-  pub example-allowed : (i : ℕ) → i < 11 → Allows (stretch work i) third (exampleValue i)
+  pub example-allowed : (i : ℕ) → i < 11 → Allows (storedResult work i) third (exampleValue i)
   example-allowed i h =
       exact-allowed claim (answered .1) third inside (omega (arith, count-is))
       (subst⁻¹ (λ l. Exact l third exampleValue i) commands-are (example-exact i h))
 
   -- and its boxes overlap them
-  pub example-overlaps : (i : ℕ) → i < 11 → Overlaps (exampleBox i) (stretch work i) third
+  pub example-overlaps : (i : ℕ) → i < 11 → Overlaps (exampleBox i) (storedResult work i) third
   example-overlaps i h =
       results .vouched i (omega (arith, count-is)) third inside .overlaps exampleBox
       (subst⁻¹ (λ l. Permitted l third exampleBox i) commands-are (example-permitted i h))

@@ -23,7 +23,7 @@ use Rattle.chebyshev.specs.definitions.Coefficients.{value, valueFrom}
 use Rattle.chebyshev.specs.laws.CoefficientLaws.{value-constant}
 use Rattle.chebyshev.specs.definitions.Allows.{allows}
 use Rattle.model.specs.definitions.Models.{scale}
-use Rattle.model.specs.definitions.Values.{position, AllowsAt, Allows}
+use Rattle.model.specs.definitions.Allowed.{position, AllowsAt, Allows}
 use Rattle.model.specs.laws.ValueLaws.{valueAt, valueAt-append-zeros}
 use Rattle.model.specs.declared.types.Model.{Model}
 use Rattle.job.specs.laws.ExampleJob.{exampleCommands}

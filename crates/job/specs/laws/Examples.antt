@@ -6,9 +6,10 @@ use Prim.Native.Nat.{ℕ}
 use Rattle.model.specs.definitions.Outcomes.{passing}
 use Rattle.model.specs.laws.Examples as operations
 use Rattle.certificate.specs.laws.Examples as tests
-use Rattle.job.specs.definitions.Commands.{readingPlaces}
+use Rattle.job.specs.definitions.Reading.{readingPlaces}
 use Rattle.job.specs.definitions.Outcomes.{JobOutcome, refused, counted}
-use Rattle.job.specs.definitions.Jobs.{command, run, jobOutcome}
+use Rattle.job.specs.definitions.Step.{command}
+use Rattle.job.specs.definitions.Run.{run, jobOutcome}
 use Rattle.job.specs.laws.RefusalExamples as refusals
 use Rattle.job.specs.laws.ResultExamples as results
 

@@ -13,9 +13,9 @@ use Rattle.model.specs.definitions.Models.{zeroModel}
 use Rattle.model.specs.definitions.Outcomes.{accepted, outcome}
 use Rattle.certificate.specs.definitions.Tests.{Certificate, zeroCertificate}
 use Rattle.model.specs.declared.types.Model.{Model}
-use Rattle.job.specs.definitions.Makers.{Maker, Given, Row, of-none, of-one, of-two, rowFor, badIn, resultAt, givenIn, namesBad, makerPlaces, operation}
-use Rattle.job.specs.definitions.Commands.{Command, edition, result, finish, unknown}
-use Rattle.job.specs.definitions.JobReading.{commandFor}
+use Rattle.job.specs.definitions.Operations.{Maker, Given, Making, of-none, of-one, of-two, makingFor, badIn, resultAt, givenIn, namesBad, makerPlaces, operation}
+use Rattle.job.specs.definitions.Decode.{Command, edition, result, finish, unknown}
+use Rattle.job.specs.definitions.Reader.{commandFor}
 use Rattle.job.specs.definitions.Requirement.{Made, nothing, one-more}
 use Rattle.job.specs.laws.CommandLaws.{both-below}
 
@@ -69,20 +69,20 @@ made-at (one-more {cs} {rs} {c} d m h₁ h₂) i lt = by (ltb i (length rs)) ref
         last cs rs (result m) x (made-length d) i (omega (arith, ltb-false i (length rs) e, length-append rs (x ∷ [])))
         (record { names = h₁; certificate = c; succeeds = h₂; gives = refl })
 
--- ---- an operation depends on the results that its row names alone
+-- ---- an operation depends on the results that its making names alone
 
 module _ (i : ℕ) (rs : List Model) where
   same-result : (j : ℕ) → j < i → resultAt (take i rs) j ≡ resultAt rs j
   same-result j h = getD-take i rs j zeroModel h
 
-  row-named : (r : Row) → badIn r i ≡ false → givenIn r (take i rs) ≡ givenIn r rs
-  row-named (of-none g) h = refl
-  row-named (of-one j g) h = ap g (same-result j (leb-false i j h))
-  row-named (of-two j k g) h = let b = both-below i j k h in ap₂ g (same-result j (b .0)) (same-result k (b .1))
+  making-named : (r : Making) → badIn r i ≡ false → givenIn r (take i rs) ≡ givenIn r rs
+  making-named (of-none g) h = refl
+  making-named (of-one j g) h = ap g (same-result j (leb-false i j h))
+  making-named (of-two j k g) h = let b = both-below i j k h in ap₂ g (same-result j (b .0)) (same-result k (b .1))
 
   operation-named : (m : Maker) → namesBad m i ≡ false → operation m (take i rs) ≡ operation m rs
   unfolding operation makerPlaces
-  operation-named m h = ap (λ (g : Given). outcome (g .places) (g .certificate) zeroCertificate) (row-named (rowFor m) h)
+  operation-named m h = ap (λ (g : Given). outcome (g .places) (g .certificate) zeroCertificate) (making-named (makingFor m) h)
 
   from-all : (c : Command) (r : Model) → MadeBy c (take i rs) i r → MadeBy c rs i r
   from-all edition r b = b

@@ -6,19 +6,19 @@ use native.Mathlib.Omega.{arith}
 use lib.ListN.{length, take}
 use lib.Seq.{take-suc, take-length}
 use Rattle.model.specs.definitions.Models.{zeroModel}
-use Rattle.model.specs.definitions.Outcomes.{Outcome, values}
+use Rattle.model.specs.definitions.Outcomes.{Outcome, payload}
 use Rattle.certificate.specs.definitions.Tests.{Certificate}
 use Rattle.model.specs.declared.types.Model.{Model}
-use Rattle.job.specs.definitions.Makers.{resultAt}
-use Rattle.job.specs.definitions.Commands.{Command, edition, result, finish, unknown}
-use Rattle.job.specs.definitions.JobReading.{commandFor}
+use Rattle.job.specs.definitions.Operations.{resultAt}
+use Rattle.job.specs.definitions.Decode.{Command, edition, result, finish, unknown}
+use Rattle.job.specs.definitions.Reader.{commandFor}
 use Rattle.job.specs.definitions.Requirement.{Made}
 use Rattle.job.specs.laws.MadeLaws.{MadeBy, made-at, made-length}
 
 made-same : (c : Command) (before : List Model) (i : ℕ) {r r′ : Model} → MadeBy c before i r → MadeBy c before i r′ → r ≡ r′
 made-same edition before i b b′ = absurd b
 made-same (result m) before i b b′ =
-    b .gives ∙ ap (λ (o : Outcome Certificate). values o .model) (sym (b .succeeds) ∙ b′ .succeeds) ∙ sym (b′ .gives)
+    b .gives ∙ ap (λ (o : Outcome Certificate). payload o .model) (sym (b .succeeds) ∙ b′ .succeeds) ∙ sym (b′ .gives)
 made-same finish before i b b′ = absurd b
 made-same unknown before i b b′ = absurd b
 

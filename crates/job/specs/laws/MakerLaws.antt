@@ -4,16 +4,20 @@ use mathlib.Core.Bool.{Bool, true, false, cond}
 use mathlib.Core.List.{List, [], _∷_}
 use Prim.Native.Nat.{ℕ}
 use Rattle.model.specs.definitions.Models.{zeroModel}
-use Rattle.model.specs.definitions.Outcomes.{Outcome, accepted, refused, values, passing, outcome}
+use Rattle.model.specs.definitions.Outcomes.{Outcome, accepted, refused, payload, passing, outcome}
 use Rattle.model.specs.laws.PlaceLaws.{refused-not-accepted, outcome-accepted}
-use Rattle.model.specs.definitions.Operations.{loadingPlaces, loading, addition, subtraction, multiplication}
-use Rattle.certificate.specs.definitions.Tests.{scratchSize, Certificate, zeroCertificate, quotientOutcome, RootRule, rootOutcome}
+use Rattle.model.specs.definitions.Load.{loadingPlaces, loading}
+use Rattle.model.specs.definitions.Add.{addition, subtraction}
+use Rattle.model.specs.definitions.Multiply.{multiplication}
+use Rattle.certificate.specs.definitions.Tests.{scratchSize, Certificate, zeroCertificate}
+use Rattle.certificate.specs.definitions.Quotient.{quotientOutcome}
+use Rattle.certificate.specs.definitions.Root.{RootRule, rootOutcome}
 use Rattle.model.specs.declared.types.Model.{Model}
 use Rattle.job.specs.definitions.InnerContracts.{untestedOutcome}
-use Rattle.job.specs.definitions.Makers.{load, add, subtract, multiply, quotient, root, untested, resultAt, makerPlaces, operation}
+use Rattle.job.specs.definitions.Operations.{load, add, subtract, multiply, quotient, root, untested, resultAt, makerPlaces, operation}
 
 pub untested-accepted : (o : Outcome Model) {c : Certificate} → untestedOutcome o ≡ accepted c → o ≡ accepted (c .model)
-untested-accepted (accepted m) e = ap (λ (r : Outcome Certificate). accepted (values r .model)) e
+untested-accepted (accepted m) e = ap (λ (r : Outcome Certificate). accepted (payload r .model)) e
 untested-accepted (refused n m) e = absurd (refused-not-accepted e)
 
 untested-passing : (ps : List (Bool × ℕ)) (m : Model) → outcome ps (untested m) zeroCertificate ≡ untestedOutcome (outcome ps m zeroModel)

@@ -11,9 +11,10 @@ use lib.Seq.{getD-at, take-length}
 use Rattle.model.specs.definitions.Outcomes.{Outcome, Passed, First}
 use Rattle.model.specs.laws.PlaceLaws.{passing-passed, passing-unrefused, refused-not-accepted, first-parts, passing-first, none-first}
 use Rattle.model.specs.declared.types.Model.{Model}
-use Rattle.job.specs.definitions.Makers.{Maker, makerPlaces, operation, resultAt}
-use Rattle.job.specs.definitions.Commands.{Command, edition, result, finish, unknown, commandRead, nextAt, readingPlaces}
-use Rattle.job.specs.definitions.JobReading.{JobReading, well, ill, readOn, readFrom, jobReading, commandFor}
+use Rattle.job.specs.definitions.Operations.{Maker, makerPlaces, operation, resultAt}
+use Rattle.job.specs.definitions.Decode.{Command, edition, result, finish, unknown}
+use Rattle.job.specs.definitions.Reading.{commandRead, nextAt, readingPlaces}
+use Rattle.job.specs.definitions.Reader.{JobReading, well, ill, readOn, readFrom, jobReading, commandFor}
 use Rattle.job.specs.definitions.Outcomes.{JobOutcome, accepted}
 use Rattle.job.specs.definitions.Order.{operationPlaces, commandPlaces, RefusesAt}
 use Rattle.job.specs.laws.CommandLaws.{operation-refuses}

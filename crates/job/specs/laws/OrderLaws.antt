@@ -10,12 +10,14 @@ use borrow.Author.Tests.{leb-false}
 use lib.Dec.{leb}
 use lib.ListN.{length, length-append}
 use Rattle.model.specs.laws.PlaceLaws.{first-or-passed}
-use Rattle.model.specs.definitions.Outcomes.{values, Passed, First}
+use Rattle.model.specs.definitions.Outcomes.{payload, Passed, First}
 use Rattle.model.specs.declared.types.Model.{Model}
-use Rattle.job.specs.definitions.Makers.{operation}
-use Rattle.job.specs.definitions.Commands.{makerAt, commandAt, shapeAt, commandRead, nextAt, maxResults, makesResult}
+use Rattle.job.specs.definitions.Operations.{operation}
+use Rattle.job.specs.definitions.Decode.{makerAt, commandAt}
+use Rattle.job.specs.definitions.Reading.{shapeAt, commandRead, nextAt, maxResults, makesResult}
 use Rattle.job.specs.definitions.Outcomes.{JobOutcome, accepted, refused}
-use Rattle.job.specs.definitions.Jobs.{Step, more, over, command, onward, run, jobOutcome}
+use Rattle.job.specs.definitions.Step.{Step, more, over, command}
+use Rattle.job.specs.definitions.Run.{onward, run, jobOutcome}
 use Rattle.job.specs.definitions.Order.{resultsAfter, commandPlaces, isLast, Reaches, start, next, RefusesAt, EndsWith}
 use Rattle.job.specs.laws.CommandLaws.{command-readable, command-refuses, command-ends, command-goes-on}
 use Rattle.job.specs.declared.types.Kind.{Kind}
@@ -28,7 +30,7 @@ few-results : (kind : Kind) (job : List ℕ) (at : ℕ) (rs : List Model) → le
 few-results End job at rs h e = h
 few-results Edition job at rs h e = h
 few-results (Result o) job at rs h e =
-    omega (arith, leb-false maxResults (length rs) e, length-append rs (values (operation (makerAt o job at) rs) .model ∷ []))
+    omega (arith, leb-false maxResults (length rs) e, length-append rs (payload (operation (makerAt o job at) rs) .model ∷ []))
 few-results Unknown job at rs h e = h
 
 pub record InBounds (job : List ℕ) (k : ℕ) (rs : List Model) (at : ℕ) : Type 0 where

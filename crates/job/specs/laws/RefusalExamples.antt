@@ -5,17 +5,22 @@ use mathlib.Core.List.{List, [], _∷_, _++_, map}
 use Prim.Native.Nat.{ℕ}
 use Rattle.integer.specs.definitions.Rounding.{upℕ, near, floor}
 use Rattle.chebyshev.specs.definitions.Coefficients.{weight, addLists, subtractLists, scaleList, coefficientSum}
-use Rattle.chebyshev.specs.definitions.Product.{addAt, addPair, addRow, addRows, product}
+use Rattle.chebyshev.specs.definitions.Product.{addAt, addPair, addTerm, addTerms, product}
 use Rattle.model.specs.definitions.Models.{good, tooLarge, zeroModel}
 use Rattle.model.specs.definitions.Outcomes.{passing}
-use Rattle.model.specs.definitions.Operations.{sumModel, differenceModel, productModel, productList, productLoss}
+use Rattle.model.specs.definitions.Add.{sumModel, differenceModel}
+use Rattle.model.specs.definitions.Multiply.{productModel, productList, productLoss}
+use Rattle.certificate.specs.definitions.Root.{rootPlaces, rootContraction, rootResidual, rootModel}
+use Rattle.certificate.specs.definitions.Quotient.{quotientContraction, quotientResidual, quotientModel}
+use Rattle.certificate.specs.definitions.Tests.{displacement}
 use Rattle.model.specs.definitions.Round.{rounded, roundingLoss}
-use Rattle.certificate.specs.definitions.Tests.{rootPlaces, quotientContraction, quotientResidual, quotientModel, rootContraction, rootResidual, rootModel, displacement}
 use Rattle.job.specs.definitions.Bytes.{signedsAt}
-use Rattle.job.specs.definitions.Makers.{makerPlaces, operation}
-use Rattle.job.specs.definitions.Commands.{makerAt, readingPlaces}
+use Rattle.job.specs.definitions.Operations.{makerPlaces, operation}
+use Rattle.job.specs.definitions.Decode.{makerAt}
+use Rattle.job.specs.definitions.Reading.{readingPlaces}
 use Rattle.job.specs.definitions.Outcomes.{JobOutcome, accepted, refused, counted}
-use Rattle.job.specs.definitions.Jobs.{command, run, jobOutcome}
+use Rattle.job.specs.definitions.Step.{command}
+use Rattle.job.specs.definitions.Run.{run, jobOutcome}
 use Rattle.job.specs.laws.ExampleBytes.{block, job, loadBytes, one, lowest, repeated}
 
 -- ---- refusals of reading, 9 to 13
@@ -75,5 +80,5 @@ operations =
     ∷ []
 
 pub operations-are : map (λ c. counted (jobOutcome (c .0))) operations ≡ map (λ c. c .1) operations
-unfolding jobOutcome run command operation makerPlaces readingPlaces makerAt signedsAt rootPlaces quotientContraction quotientResidual quotientModel rootContraction rootResidual rootModel displacement coefficientSum sumModel differenceModel productModel productList productLoss rounded roundingLoss good tooLarge zeroModel weight addLists subtractLists scaleList addAt addPair addRow addRows product upℕ near floor passing
+unfolding jobOutcome run command operation makerPlaces readingPlaces makerAt signedsAt rootPlaces quotientContraction quotientResidual quotientModel rootContraction rootResidual rootModel displacement coefficientSum sumModel differenceModel productModel productList productLoss rounded roundingLoss good tooLarge zeroModel weight addLists subtractLists scaleList addAt addPair addTerm addTerms product upℕ near floor passing
 operations-are = refl

@@ -8,19 +8,24 @@ use lib.ListN.{replicate, getD}
 use Rattle.integer.specs.definitions.Lists.{zeros}
 use Rattle.integer.specs.definitions.Rounding.{upℕ, near, floor}
 use Rattle.chebyshev.specs.definitions.Coefficients.{weight, addLists, subtractLists, scaleList, coefficientSum}
-use Rattle.chebyshev.specs.definitions.Product.{addAt, addPair, addRow, addRows, product}
+use Rattle.chebyshev.specs.definitions.Product.{addAt, addPair, addTerm, addTerms, product}
 use Rattle.model.specs.definitions.Models.{makeModel, good, tooLarge, zeroModel}
 use Rattle.model.specs.definitions.Outcomes.{passing}
-use Rattle.model.specs.definitions.Operations.{sumModel, differenceModel, productModel, productList, productLoss}
+use Rattle.model.specs.definitions.Add.{sumModel, differenceModel}
+use Rattle.model.specs.definitions.Multiply.{productModel, productList, productLoss}
 use Rattle.model.specs.definitions.Round.{rounded, roundingLoss}
 use Rattle.model.specs.declared.types.Model.{Model}
-use Rattle.certificate.specs.definitions.Tests.{rootPlaces, quotientContraction, quotientResidual, quotientModel, rootContraction, rootResidual, rootModel, displacement}
+use Rattle.certificate.specs.definitions.Root.{rootPlaces, rootContraction, rootResidual, rootModel}
+use Rattle.certificate.specs.definitions.Quotient.{quotientContraction, quotientResidual, quotientModel}
+use Rattle.certificate.specs.definitions.Tests.{displacement}
 use Rattle.job.specs.definitions.Bytes.{signedsAt}
-use Rattle.job.specs.definitions.Makers.{makerPlaces, operation}
-use Rattle.job.specs.definitions.Commands.{makerAt, readingPlaces}
+use Rattle.job.specs.definitions.Operations.{makerPlaces, operation}
+use Rattle.job.specs.definitions.Decode.{makerAt}
+use Rattle.job.specs.definitions.Reading.{readingPlaces}
 use Rattle.job.specs.definitions.Outcomes.{JobOutcome, accepted, refused}
-use Rattle.job.specs.definitions.Jobs.{command, run, jobOutcome}
-use Rattle.job.specs.definitions.Work.{checkOutcome, workWith, stretches, workAfter, scratchAfterJob}
+use Rattle.job.specs.definitions.Step.{command}
+use Rattle.job.specs.definitions.Run.{run, jobOutcome}
+use Rattle.job.specs.definitions.Work.{checkOutcome, workWith, resultWords, workAfter, scratchAfterJob}
 use Rattle.job.specs.laws.ExampleBytes.{block, modelBy, job, loadBytes, one, two}
 
 -- 01: "A job of edition 1, load of constant 4·S with radius 0, root with h = 2·S and w = S/4, end"
@@ -66,7 +71,7 @@ operands =
     ∷ []
 
 pub operands-are : map (λ c. jobOutcome (c .0)) operands ≡ map (λ c. c .1) operands
-unfolding jobOutcome run command operation makerPlaces readingPlaces makerAt signedsAt rootPlaces quotientContraction quotientResidual quotientModel rootContraction rootResidual rootModel displacement coefficientSum sumModel differenceModel productModel productList productLoss rounded roundingLoss good tooLarge zeroModel weight addLists subtractLists scaleList addAt addPair addRow addRows product upℕ near floor passing
+unfolding jobOutcome run command operation makerPlaces readingPlaces makerAt signedsAt rootPlaces quotientContraction quotientResidual quotientModel rootContraction rootResidual rootModel displacement coefficientSum sumModel differenceModel productModel productList productLoss rounded roundingLoss good tooLarge zeroModel weight addLists subtractLists scaleList addAt addPair addTerm addTerms product upℕ near floor passing
 operands-are = refl
 
 -- ---- areas
@@ -87,7 +92,7 @@ root-run = ap (λ l. getD l 4 (accepted [])) operands-are
 
 pub root-work : workAfter rootOfFour (sevens 1121) (sevens 65)
     ≡ (pos 0 ∷ pos 4194304 ∷ replicate 33 (pos 0)) ++ ((pos 0 ∷ pos 2097152 ∷ replicate 33 (pos 0)) ++ (replicate 1050 (pos 0) ++ (pos 7 ∷ [])))
-unfolding workAfter workWith stretches zeros
+unfolding workAfter workWith resultWords zeros
 root-work = rw root-run
 
 pub root-scratch : scratchAfterJob (sevens 1121) (sevens 66) ≡ replicate 65 (pos 0) ++ (pos 7 ∷ [])

@@ -11,7 +11,7 @@ use Rattle.chebyshev.specs.definitions.Coefficients.{weight, addLists, scaleLis
 use Rattle.model.specs.definitions.Models.{scale, coefficientCount, maxDegree, maxWeight, maxRadius, good}
 use Rattle.model.specs.definitions.Models.{makeModel, zeroModel, badPlace, largePlace}
 use Rattle.model.specs.definitions.Outcomes.{Outcome, outcome}
-use Rattle.model.specs.definitions.Integral.{halved, alternating}
+use Rattle.model.specs.definitions.Integrate.{halved, alternating}
 use Rattle.model.specs.declared.types.Model.{Model}
 
 -- ---- what is asked

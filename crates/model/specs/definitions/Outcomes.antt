@@ -24,10 +24,10 @@ abbrev pub number : {A : Type 0} → Outcome A → ℕ
 number (accepted a) = 0
 number (refused n a) = n
 
--- the values beside it
-abbrev pub values : {A : Type 0} → Outcome A → A
-values (accepted a) = a
-values (refused n a) = a
+-- what is given beside it: the values, or zeros
+abbrev pub payload : {A : Type 0} → Outcome A → A
+payload (accepted a) = a
+payload (refused n a) = a
 
 -- The places of the table that are passed through, in their order: a condition and its number. The first condition that holds
 -- refuses with its number; where none does, a is what comes of it.

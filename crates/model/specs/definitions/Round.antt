@@ -32,4 +32,5 @@ pub record Roundable (c : List ℤ) (kept : ℕ) (unit : ℤ) : Type 0 where
 pub record RoundedFrom (d : ℕ) (c : List ℤ) (n : ℕ) (r : Rounded) : Type 0 where
   pub weight-is : r .weight ≡ weight (rounded d (take n c))
   pub loss-is : r .loss ≡ roundingLoss d (take n c) + weight (drop n c)
-  pub coefficients-are : r .weight ≤ maxWeight → r .coefficients ≡ rounded d (take n c) ++ replicate (coefficientCount - n) (pos 0)
+  pub coefficients-are : r .weight ≤ maxWeight
+      → r .coefficients ≡ rounded d (take n c) ++ replicate (coefficientCount - n) (pos 0)

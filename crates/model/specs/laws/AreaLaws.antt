@@ -7,7 +7,7 @@ use lib.IntN.{ℤ, pos}
 use lib.ListN.{length, take, drop, length-append}
 use lib.Seq.{take-take, getD-take, take-at, getD-at}
 use Rattle.model.specs.definitions.Models.{coefficientCount}
-use Rattle.model.specs.definitions.Areas.{modelSize, candidateSize, words, areaModel, areaCandidate}
+use Rattle.model.specs.definitions.Area.{modelSize, candidateSize, words, areaModel, areaCandidate}
 use Rattle.model.specs.declared.types.Model.{Model}
 
 coefficients-front : (n : ℕ) (s : List ℤ) → candidateSize ≤ n → take coefficientCount (drop 1 (take n s)) ≡ take coefficientCount (drop 1 s)

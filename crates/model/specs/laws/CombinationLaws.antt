@@ -13,7 +13,7 @@ use Rattle.chebyshev.specs.laws.Weight.{weight-add, weight-scale}
 use Rattle.model.specs.definitions.InnerContracts.{combination, combinedModel, unlessLarge}
 use Rattle.model.specs.definitions.Models.{good}
 use Rattle.model.specs.definitions.Outcomes.{passing}
-use Rattle.model.specs.definitions.Operations.{sumModel, differenceModel, addition, subtraction}
+use Rattle.model.specs.definitions.Add.{sumModel, differenceModel, addition, subtraction}
 use Rattle.model.specs.declared.types.Model.{Model}
 
 pub combined-weight : (s : ℤ) (a b : List ℤ) → natAbs s ≡ 1 → weight (addLists ℤ-ring a (scaleList ℤ-ring s b)) ≤ weight a + weight b

@@ -9,7 +9,7 @@ use Rattle.chebyshev.specs.definitions.Homogeneous.{IsFraction, allowsWhole}
 use Rattle.chebyshev.specs.laws.AllowsLaws.{allows-whole}
 use Rattle.model.specs.definitions.Models.{scale, good}
 use Rattle.model.specs.laws.ModelLaws.{good-is}
-use Rattle.model.specs.definitions.Values.{position, AllowsAt, Allows}
+use Rattle.model.specs.definitions.Allowed.{position, AllowsAt, Allows}
 use Rattle.model.specs.declared.types.Model.{Model}
 
 -- at x = p/q, of the value v = u/d

@@ -22,7 +22,7 @@ use Rattle.chebyshev.specs.laws.RecurrenceLaws.{first-bound}
 use Rattle.chebyshev.specs.laws.Perturbed.{perturbed-uniform}
 use Rattle.integer.specs.laws.Parts as Parts
 use Rattle.model.specs.definitions.Models.{scale}
-use Rattle.model.specs.definitions.Evaluation.{point, pointTerm}
+use Rattle.model.specs.definitions.Evaluate.{point, pointTerm}
 
 point-scale : (p : ℤ) → point p *ℚ whole (pos scale) ≡ whole p
 point-scale p = ap (λ d. point p *ℚ whole d) (sym (den-is (scale - 1))) ∙ fraction-num p (scale - 1)

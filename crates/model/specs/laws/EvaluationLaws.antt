@@ -12,7 +12,7 @@ use Rattle.integer.specs.laws.Parts.{abs-add, abs-mul}
 use Rattle.chebyshev.specs.definitions.Coefficients.{weight}
 use Rattle.model.specs.definitions.Models.{scale, good}
 use Rattle.model.specs.definitions.Outcomes.{accepted, passing}
-use Rattle.model.specs.definitions.Evaluation.{pointTerm, pointSum, pointError, lowBound, highBound, evaluation}
+use Rattle.model.specs.definitions.Evaluate.{pointTerm, pointSum, pointError, lowBound, highBound, evaluation}
 use Rattle.model.specs.laws.EvaluationError.{term-range}
 use Rattle.model.specs.declared.types.Model.{Model}
 

@@ -21,9 +21,9 @@ use Rattle.chebyshev.specs.definitions.Coefficients.{valueFrom, value}
 use Rattle.chebyshev.specs.definitions.Allows.{allows}
 use Rattle.model.specs.definitions.Models.{scale, terms, good}
 use Rattle.model.specs.laws.GoodLaws.{value-terms}
-use Rattle.model.specs.definitions.Evaluation.{point, pointTerm, pointSum, pointError, lowBound, highBound, Bounds, zeroBounds, evaluationPlaces, evaluation}
+use Rattle.model.specs.definitions.Evaluate.{point, pointTerm, pointSum, pointError, lowBound, highBound, Bounds, zeroBounds, evaluationPlaces, evaluation}
 use Rattle.model.specs.definitions.Outcomes.{accepted}
-use Rattle.model.specs.definitions.Values.{position, AllowsAt, Allows}
+use Rattle.model.specs.definitions.Allowed.{position, AllowsAt, Allows}
 use Rattle.model.specs.laws.PlaceLaws.{outcome-accepted}
 use Rattle.model.specs.laws.EvaluationError.{term-error}
 use Rattle.model.specs.declared.types.Model.{Model}

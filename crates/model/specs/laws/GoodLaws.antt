@@ -21,7 +21,7 @@ use Rattle.chebyshev.specs.laws.ProductWeight.{weight-product}
 use Rattle.model.specs.definitions.Models.{coefficientCount, productSize, maxWeight, terms, beyond, good}
 use Rattle.model.specs.laws.ModelLaws.{good-is}
 use Rattle.model.specs.laws.ValueLaws.{valueAt, valueAt-append-zeros}
-use Rattle.model.specs.definitions.Operations.{productList}
+use Rattle.model.specs.definitions.Multiply.{productList}
 use Rattle.model.specs.declared.types.Model.{Model}
 
 -- a list of weight 0 holds zeros alone

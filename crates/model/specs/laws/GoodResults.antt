@@ -15,9 +15,11 @@ use Rattle.model.specs.definitions.InnerContracts.{roundedIntegral, roun
 use Rattle.model.specs.definitions.Models.{scale, maxDegree, maxWeight, maxRadius, coefficientCount, terms, beyond, good, tooLarge, zeroModel}
 use Rattle.model.specs.laws.ModelLaws.{good-is}
 use Rattle.model.specs.definitions.Outcomes.{accepted}
-use Rattle.model.specs.definitions.Operations.{loading, loadingPlaces, sumModel, differenceModel, additionPlaces, subtractionPlaces, addition, subtraction, productList, productDegree, productModel, multiplicationPlaces, multiplication}
+use Rattle.model.specs.definitions.Load.{loading, loadingPlaces}
+use Rattle.model.specs.definitions.Add.{sumModel, differenceModel, additionPlaces, subtractionPlaces, addition, subtraction}
+use Rattle.model.specs.definitions.Multiply.{productList, productDegree, productModel, multiplicationPlaces, multiplication}
+use Rattle.model.specs.definitions.Integrate.{doubleFirst, alternating, integralModel, integrationPlaces, integration}
 use Rattle.model.specs.definitions.Round.{rounded}
-use Rattle.model.specs.definitions.Integral.{doubleFirst, alternating, integralModel, integrationPlaces, integration}
 use Rattle.model.specs.laws.IntegralLaws.{integral-is, length-rounded, length-doubled}
 use Rattle.model.specs.laws.RoundingPassLaws.{rounded-length}
 use Rattle.model.specs.laws.PlaceLaws.{outcome-accepted}

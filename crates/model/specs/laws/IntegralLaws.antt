@@ -19,7 +19,7 @@ use Rattle.model.specs.definitions.InnerContracts.{formedOutcome, rounde
 use Rattle.model.specs.definitions.Models.{maxDegree, coefficientCount, terms, good, tooLarge, zeroModel}
 use Rattle.model.specs.definitions.Outcomes.{refused, passing}
 use Rattle.model.specs.laws.FormedLaws.{formed-is}
-use Rattle.model.specs.definitions.Integral.{doubleFirst, numerators, halved, alternating, integralList, integralModel, integration}
+use Rattle.model.specs.definitions.Integrate.{doubleFirst, numerators, halved, alternating, integralList, integralModel, integration}
 use Rattle.model.specs.declared.types.Model.{Model}
 
 drop-doubled : (cs : List ℤ) → drop 2 (doubleFirst cs) ≡ drop 2 cs

@@ -33,11 +33,11 @@ use Rattle.chebyshev.specs.definitions.Allows.{allows}
 use Rattle.model.specs.definitions.InnerContracts.{roundedIntegral, roundedTail}
 use Rattle.model.specs.definitions.Models.{scale, coefficientCount, terms, good, zeroModel}
 use Rattle.model.specs.definitions.Outcomes.{accepted}
-use Rattle.model.specs.definitions.Values.{position, AllowsAt, Allows, OnInterval}
+use Rattle.model.specs.definitions.Allowed.{position, AllowsAt, Allows, OnInterval}
 use Rattle.model.specs.laws.ValueLaws.{valueAt, within, scale-nonzero}
 use Rattle.model.specs.laws.PlaceLaws.{outcome-accepted}
 use Rattle.model.specs.laws.GoodLaws.{getD-append-zeros, getD-terms}
-use Rattle.model.specs.definitions.Integral.{doubleFirst, alternating, integralModel, integrationPlaces, integration}
+use Rattle.model.specs.definitions.Integrate.{doubleFirst, alternating, integralModel, integrationPlaces, integration}
 use Rattle.model.specs.laws.IntegralLaws.{integral-is, length-doubled, length-rounded, getD-rounded}
 use Rattle.model.specs.declared.types.Model.{Model}
 

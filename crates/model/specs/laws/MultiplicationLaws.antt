@@ -1,4 +1,4 @@
--- Laws of multiplication (Operations.antt) for code that forms the product.
+-- Laws of multiplication (Multiply.antt) for code that forms the product.
 use mathlib.Core.Path.{_≡_, sym, _∙_, ap}
 use mathlib.Core.Bool.{true}
 use Prim.Native.Nat.{ℕ, suc, _+_, _-_, _*_, _≤_}
@@ -11,7 +11,7 @@ use Rattle.chebyshev.specs.laws.Weight.{weight-append-zeros}
 use Rattle.model.specs.definitions.InnerContracts.{formedOutcome, unlessLarge}
 use Rattle.model.specs.definitions.Models.{scale, coefficientCount, maxDegree, good}
 use Rattle.model.specs.definitions.Outcomes.{passing}
-use Rattle.model.specs.definitions.Operations.{keptDegree, productDegree, productList, productLoss, productModel, multiplication}
+use Rattle.model.specs.definitions.Multiply.{keptDegree, productDegree, productList, productLoss, productModel, multiplication}
 use Rattle.model.specs.definitions.Round.{rounded, RoundedFrom}
 use Rattle.model.specs.laws.FormedLaws.{formed-is}
 use Rattle.model.specs.declared.types.Model.{Model}

@@ -16,10 +16,11 @@ use Rattle.integer.specs.laws.FractionRounding.{natural-add, natural-mul, up-bo
 use Rattle.chebyshev.specs.definitions.Coefficients.{weight, addLists, subtractLists, scaleList}
 use Rattle.chebyshev.specs.definitions.Allows.{allows}
 use Rattle.model.specs.definitions.Models.{scale, coefficientCount, good}
+use Rattle.model.specs.definitions.Add.{sumModel, differenceModel, addition, subtraction}
+use Rattle.model.specs.definitions.Multiply.{productModel, productList, productDegree, productLoss, multiplication}
+use Rattle.model.specs.definitions.Allowed.{position, AllowsAt, Allows, OnInterval}
 use Rattle.model.specs.definitions.Round.{rounded, roundingLoss}
 use Rattle.model.specs.laws.RoundingPassLaws.{rounding-weight}
-use Rattle.model.specs.definitions.Operations.{sumModel, differenceModel, productModel, productList, productDegree, productLoss, addition, subtraction, multiplication}
-use Rattle.model.specs.definitions.Values.{position, AllowsAt, Allows, OnInterval}
 use Rattle.model.specs.laws.ValueLaws.{valueAt, valueAt-add, valueAt-subtract, valueAt-scale, valueAt-append-zeros, valueAt-weight, valueAt-difference}
 use Rattle.model.specs.laws.GoodLaws.{value-productList}
 use Rattle.model.specs.definitions.Outcomes.{accepted}

@@ -4,8 +4,8 @@ use mathlib.Core.Bool.{cond}
 use Prim.Native.Nat.{ℕ, _<_}
 use native.Mathlib.Omega.{arith}
 use lib.Dec.{eqb}
-use Rattle.model.specs.definitions.Outcomes.{Outcome, accepted, refused, number, values, numberOf, verdictNumber, judged, outcomeOf}
-use Rattle.model.specs.definitions.Evaluation.{boundsOf}
+use Rattle.model.specs.definitions.Outcomes.{Outcome, accepted, refused, number, payload, numberOf, verdictNumber, judged, outcomeOf}
+use Rattle.model.specs.definitions.Evaluate.{boundsOf}
 use Rattle.model.specs.declared.types.ModelOutcome.{ModelOutcome}
 use Rattle.model.specs.declared.types.BoundsOutcome.{BoundsOutcome}
 use Rattle.model.specs.declared.types.Refusal.{Refusal}
@@ -75,9 +75,9 @@ module _ {A : Type 0} where
   verdict-judged Accepted a = refl
   verdict-judged (Refused r) a = ap Refused (named-number r)
 
-  pub values-judged : (v : Verdict) (a : A) → values (judged v a) ≡ a
-  values-judged Accepted a = refl
-  values-judged (Refused r) a = refl
+  pub payload-judged : (v : Verdict) (a : A) → payload (judged v a) ≡ a
+  payload-judged Accepted a = refl
+  payload-judged (Refused r) a = refl
 
   pub number-judged : (v : Verdict) (a : A) → number (judged v a) ≡ verdictNumber v
   number-judged Accepted a = refl
@@ -86,7 +86,7 @@ module _ {A : Type 0} where
   pub judged-injective : (u v : Verdict) (a b : A) → judged u a ≡ judged v b → (u ≡ v) × (a ≡ b)
   judged-injective u v a b e = (
     sym (verdict-judged u a) ∙ ap verdictIn e ∙ verdict-judged v b,
-    sym (values-judged u a) ∙ ap values e ∙ values-judged v b,
+    sym (payload-judged u a) ∙ ap payload e ∙ payload-judged v b,
   )
 
 pub outcomeOf-injective : (r s : ModelOutcome) → outcomeOf r ≡ outcomeOf s → r ≡ s

@@ -7,8 +7,9 @@ use Prim.Native.Nat.{ℕ}
 use native.Mathlib.Omega.{arith}
 use borrow.Author.Tests.{not-false}
 use Rattle.model.specs.definitions.Models.{good, zeroModel, badPlace}
-use Rattle.model.specs.definitions.Outcomes.{accepted, refused, number, values, outcome, passing, Passed, First, here, later}
-use Rattle.model.specs.definitions.Operations.{sumModel, differenceModel, productModel, addition, subtraction, multiplication}
+use Rattle.model.specs.definitions.Outcomes.{accepted, refused, number, payload, outcome, passing, Passed, First, here, later}
+use Rattle.model.specs.definitions.Add.{sumModel, differenceModel, addition, subtraction}
+use Rattle.model.specs.definitions.Multiply.{productModel, multiplication}
 use Rattle.model.specs.declared.types.Model.{Model}
 
 module _ {A : Type 0} where
@@ -72,7 +73,7 @@ module _ {A : Type 0} where
   pub outcome-accepted : (ps : List (Bool × ℕ)) (a z : A) {b : A} → outcome ps a z ≡ accepted b → Passed ps × (b ≡ a)
   outcome-accepted ps a z {b} e =
       let (passed, same) = passing-unrefused ps (accepted a) (accepted b) (λ n. refused n z) (λ n h. refused-not-accepted h) e in
-      (passed, ap values same)
+      (passed, ap payload same)
 
   -- a refusal stays the first, whatever is behind and whatever the values are
   pub outcome-refused : {B : Type 0} (ps qs : List (Bool × ℕ)) (a z : A) (b y : B) {k : ℕ} {c : A}

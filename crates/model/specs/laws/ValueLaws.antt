@@ -15,7 +15,7 @@ use Rattle.chebyshev.specs.laws.CoefficientLaws.{value-add, value-subtract, val
 use Rattle.chebyshev.specs.laws.NormLaws.{value-bound, norm-whole}
 use Rattle.integer.specs.laws.FractionRounding.{natural-positive}
 use Rattle.model.specs.definitions.Models.{scale}
-use Rattle.model.specs.definitions.Values.{OnInterval}
+use Rattle.model.specs.definitions.Allowed.{OnInterval}
 
 -- Σ a_k·T_k(x)
 abbrev pub valueAt : ℚ → List ℤ → ℚ

@@ -15,10 +15,10 @@ use Rattle.chebyshev.specs.definitions.Coefficients.{weight, addLists, scaleLis
 use Rattle.chebyshev.specs.laws.CoefficientLaws.{length-add, length-scale}
 use Rattle.chebyshev.specs.laws.Weight.{weight-add, weight-scale, weight-append-zeros, weight-end}
 use Rattle.integer.specs.definitions.Rounding.{upℕ}
-use Rattle.model.specs.definitions.Areas.{Storable}
+use Rattle.model.specs.definitions.Area.{Storable}
 use Rattle.model.specs.definitions.InnerContracts.{formedOutcome, unlessLarge}
 use Rattle.model.specs.definitions.Models.{maxDegree, coefficientCount, makeModel, zeroModel, good}
-use Rattle.model.specs.definitions.Outcomes.{refused, values, passing}
+use Rattle.model.specs.definitions.Outcomes.{refused, payload, passing}
 use Rattle.model.specs.definitions.Round.{rounded, roundingLoss, RoundedFrom}
 use Rattle.model.specs.laws.FormedLaws.{formed-is}
 use Rattle.model.specs.laws.ModelLaws.{Good, good-is}
@@ -151,6 +151,6 @@ pub conversion-of-bad : (s : Series) → goodSeries s ≡ false → refused 14 z
 unfolding conversion passing
 conversion-of-bad s h = rw h
 
-pub conversion-storable : (s : Series) → Storable (values (conversion s))
+pub conversion-storable : (s : Series) → Storable (payload (conversion s))
 unfolding conversion
 conversion-storable s = stored _ _ (λ p. p .1 .0)

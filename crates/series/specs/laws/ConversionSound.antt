@@ -20,7 +20,7 @@ use Rattle.chebyshev.specs.laws.Weight.{weight-end}
 use Rattle.model.specs.definitions.Models.{scale, coefficientCount, zeroModel}
 use Rattle.model.specs.definitions.Outcomes.{accepted}
 use Rattle.model.specs.definitions.Round.{rounded, roundingLoss}
-use Rattle.model.specs.definitions.Values.{position, AllowsAt, Allows, OnInterval}
+use Rattle.model.specs.definitions.Allowed.{position, AllowsAt, Allows, OnInterval}
 use Rattle.model.specs.laws.PlaceLaws.{outcome-accepted}
 use Rattle.model.specs.laws.RoundingPassLaws.{rounding-weight}
 use Rattle.model.specs.laws.ValueLaws.{valueAt, valueAt-add, valueAt-scale, valueAt-append-zeros, valueAt-difference, scale-nonzero}

@@ -7,9 +7,9 @@ use lib.IntN.{pos}
 use Rattle.integer.specs.definitions.Rounding.{upℕ}
 use Rattle.chebyshev.specs.definitions.Coefficients.{weight}
 use Rattle.model.specs.definitions.Models.{candidateModel}
-use Rattle.model.specs.definitions.Operations.{productList}
+use Rattle.model.specs.definitions.Multiply.{productList}
 use Rattle.model.specs.declared.types.Model.{Model}
-use Rattle.certificate.specs.definitions.Tests.{quotientContraction}
+use Rattle.certificate.specs.definitions.Quotient.{quotientContraction}
 use Rattle.certificate.specs.definitions.InnerContracts.{constantResidual}
 use Rattle.certificate.proofs.Ranges.{factors, constant-range, error-range}
 use Rattle.certificate.proofs.numbers.quotient_contraction.Statement.{statement}

@@ -4,8 +4,8 @@ use mathlib.Core.Path.{_∙_, ap}
 use Prim.Native.Nat.{ℕ, _^_}
 use native.Mathlib.Omega.{arith}
 use Rattle.integer.specs.definitions.Rounding.{upℕ}
-use Rattle.model.specs.definitions.Operations.{productList}
-use Rattle.certificate.specs.definitions.Tests.{rootContraction}
+use Rattle.model.specs.definitions.Multiply.{productList}
+use Rattle.certificate.specs.definitions.Root.{rootContraction}
 use Rattle.certificate.proofs.Ranges.{factors}
 use Rattle.certificate.proofs.numbers.root_contraction.Statement.{statement}
 use Rattle.certificate.proofs.numbers.root_contraction.Tie as tie

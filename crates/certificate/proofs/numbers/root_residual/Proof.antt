@@ -7,9 +7,9 @@ use Rattle.integer.specs.definitions.Rounding.{upℕ}
 use Rattle.chebyshev.specs.definitions.Coefficients.{weight}
 use Rattle.model.specs.definitions.Models.{candidateModel}
 use Rattle.model.specs.laws.ModelLaws.{good-is}
-use Rattle.model.specs.definitions.Operations.{productList}
+use Rattle.model.specs.definitions.Multiply.{productList}
 use Rattle.model.specs.declared.types.Model.{Model}
-use Rattle.certificate.specs.definitions.Tests.{rootResidual}
+use Rattle.certificate.specs.definitions.Root.{rootResidual}
 use Rattle.certificate.specs.definitions.InnerContracts.{residualList}
 use Rattle.certificate.proofs.Ranges.{factors, residual-range}
 use Rattle.certificate.proofs.numbers.root_residual.Statement.{statement}

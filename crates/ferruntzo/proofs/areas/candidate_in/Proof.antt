@@ -3,7 +3,7 @@ use mathlib.Core.Path.{_∙_}
 use native.Mathlib.Omega.{arith}
 use lib.ListN.{length-take}
 use denote.Ref.{now}
-use Rattle.model.specs.definitions.Areas.{candidateSize}
+use Rattle.model.specs.definitions.Area.{candidateSize}
 use Rattle.model.specs.laws.AreaLaws.{candidate-front}
 use Rattle.ferruntzo.proofs.areas.candidate_in.Statement.{statement}
 use Rattle.ferruntzo.proofs.areas.candidate_in.Tie as tie

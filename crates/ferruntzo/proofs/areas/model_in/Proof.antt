@@ -3,7 +3,7 @@ use mathlib.Core.Path.{_∙_}
 use native.Mathlib.Omega.{arith}
 use lib.ListN.{length-take}
 use denote.Ref.{now}
-use Rattle.model.specs.definitions.Areas.{modelSize}
+use Rattle.model.specs.definitions.Area.{modelSize}
 use Rattle.model.specs.laws.AreaLaws.{model-front}
 use Rattle.ferruntzo.proofs.areas.model_in.Statement.{statement}
 use Rattle.ferruntzo.proofs.areas.model_in.Tie as tie

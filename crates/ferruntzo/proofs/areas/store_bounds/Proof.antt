@@ -5,7 +5,7 @@ use mathlib.Core.List.{[], _∷_}
 use lib.Seq.{sets-eq}
 use mir.Facts.{toZ-ofZ}
 use denote.Ref.{now}
-use Rattle.ferruntzo.specs.definitions.Answers.{boundsSize}
+use Rattle.ferruntzo.specs.definitions.Areas.{boundsSize}
 use Rattle.ferruntzo.proofs.Answering.{filled, untouched}
 use Rattle.ferruntzo.proofs.areas.store_bounds.Statement.{statement}
 use Rattle.ferruntzo.proofs.areas.store_bounds.Tie as tie

@@ -6,7 +6,7 @@ use native.Mathlib.Omega.{arith}
 use lib.IntN.{ℤ}
 use lib.ListN.{drop, length-take}
 use denote.Ref.{now}
-use Rattle.model.specs.definitions.Areas.{modelSize, words}
+use Rattle.model.specs.definitions.Area.{modelSize, words}
 use Rattle.ferruntzo.proofs.Answering.{filled, untouched}
 use Rattle.ferruntzo.proofs.areas.store_model.Statement.{statement}
 use Rattle.ferruntzo.proofs.areas.store_model.Tie as tie

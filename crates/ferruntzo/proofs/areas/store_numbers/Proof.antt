@@ -6,7 +6,7 @@ use native.Mathlib.Omega.{arith}
 use lib.ListN.{length-set}
 use lib.Seq.{sets-eq}
 use denote.Ref.{now}
-use Rattle.ferruntzo.specs.definitions.TestAnswers.{numbersSize}
+use Rattle.ferruntzo.specs.definitions.Areas.{numbersSize}
 use Rattle.ferruntzo.proofs.Answering.{filled, untouched}
 use Rattle.ferruntzo.proofs.areas.store_numbers.Statement.{statement}
 use Rattle.ferruntzo.proofs.areas.store_numbers.Tie as tie

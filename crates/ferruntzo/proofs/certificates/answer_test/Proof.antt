@@ -3,11 +3,11 @@ use borrow.Author.Needs.{needs}
 use mathlib.Core.Path.{sym, ap, _∙_}
 use mathlib.Core.List.{[], _∷_}
 use denote.Ref.{now}
-use Rattle.model.specs.definitions.Areas.{modelSize, words}
-use Rattle.model.specs.laws.OutcomeLaws.{number-judged, values-judged}
+use Rattle.model.specs.definitions.Area.{modelSize, words}
+use Rattle.model.specs.laws.OutcomeLaws.{number-judged, payload-judged}
 use Rattle.certificate.specs.definitions.Tests.{scratchAfter, Certificate, makeCertificate}
-use Rattle.ferruntzo.specs.definitions.Answers.{areaOut}
-use Rattle.ferruntzo.specs.definitions.TestAnswers.{numbersSize, testAnswer, testIn}
+use Rattle.ferruntzo.specs.definitions.Areas.{areaOut, numbersSize}
+use Rattle.ferruntzo.specs.definitions.Certificates.{testAnswer, testIn}
 use Rattle.ferruntzo.proofs.certificates.answer_test.Statement.{statement}
 use Rattle.ferruntzo.proofs.certificates.answer_test.Tie as tie
 
@@ -19,7 +19,7 @@ returns c s =
     let g = m .before .before .before .args in
     let t = g .test in
     let d = makeCertificate (t .model) (t .contraction) (t .residual) (t .displacement) in
-    let same = sym (values-judged (t .verdict) d) in
+    let same = sym (payload-judged (t .verdict) d) in
     let number = c .verdict-number .ensures ∙ sym (number-judged (t .verdict) d) in
     let out = m .store-model .ensures ∙ ap (λ (x : Certificate). areaOut modelSize (words (x .model)) (now (g .out))) same in
     let numbers = n .store-numbers .ensures ∙ ap (λ (x : Certificate). areaOut numbersSize (x .m ∷ x .N ∷ x .b ∷ []) (now (g .numbers))) same in

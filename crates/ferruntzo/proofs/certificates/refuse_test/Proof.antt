@@ -8,7 +8,7 @@ use Rattle.model.specs.laws.ResultLaws.{zero-storable}
 use Rattle.model.specs.definitions.Outcomes.{refused}
 use Rattle.certificate.specs.definitions.Tests.{makeCertificate}
 use Rattle.model.specs.declared.types.Model.{Model}
-use Rattle.ferruntzo.specs.definitions.TestAnswers.{testAnswer, testIn}
+use Rattle.ferruntzo.specs.definitions.Certificates.{testAnswer, testIn}
 use Rattle.ferruntzo.proofs.certificates.refuse_test.Statement.{statement}
 use Rattle.ferruntzo.proofs.certificates.refuse_test.Tie as tie
 

@@ -4,10 +4,10 @@ use mathlib.Core.Path.{ap, _∙_}
 use denote.Ref.{now}
 use Rattle.model.specs.definitions.Outcomes.{Outcome}
 use Rattle.model.specs.declared.types.Model.{Model}
-use Rattle.model.specs.definitions.Areas.{modelSize}
+use Rattle.model.specs.definitions.Area.{modelSize}
 use Rattle.series.specs.definitions.Convert.{conversion}
 use Rattle.series.specs.laws.ConversionLaws.{conversion-storable}
-use Rattle.ferruntzo.specs.definitions.Answers.{outcomeIn}
+use Rattle.ferruntzo.specs.definitions.Operations.{outcomeIn}
 use Rattle.ferruntzo.specs.definitions.Conversions.{seriesSize}
 use Rattle.ferruntzo.proofs.Answering.{two-fit, outcome-storable}
 use Rattle.ferruntzo.proofs.conversions.ferruntzo_from_series.Statement.{statement}

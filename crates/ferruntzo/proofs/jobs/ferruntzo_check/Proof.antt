@@ -8,7 +8,7 @@ use lib.ListN.{set}
 use lib.Seq.{sets-eq}
 use denote.Ref.{now}
 use Rattle.job.specs.laws.AnswerBounds.{answer-small}
-use Rattle.job.specs.definitions.Commands.{maxResults}
+use Rattle.job.specs.definitions.Reading.{maxResults}
 use Rattle.job.specs.definitions.Outcomes.{jobOutcomeOf, counted, refusedCommand, resultCount}
 use Rattle.job.specs.definitions.Work.{areaPlaces, checkOutcome}
 use Rattle.job.specs.definitions.Requirement.{Requirement3}

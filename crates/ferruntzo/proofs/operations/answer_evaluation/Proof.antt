@@ -6,9 +6,10 @@ use mir.Syntax.{w64}
 use mir.Val.{SFits}
 use mir.Facts.{toZ-ofZ}
 use denote.Ref.{now}
-use Rattle.model.specs.definitions.Evaluation.{Bounds}
-use Rattle.model.specs.laws.OutcomeLaws.{number-judged, values-judged}
-use Rattle.ferruntzo.specs.definitions.Answers.{boundsSize, areaOut, evaluationAnswer, boundsIn}
+use Rattle.model.specs.definitions.Evaluate.{Bounds}
+use Rattle.model.specs.laws.OutcomeLaws.{number-judged, payload-judged}
+use Rattle.ferruntzo.specs.definitions.Areas.{boundsSize, areaOut}
+use Rattle.ferruntzo.specs.definitions.Operations.{evaluationAnswer, boundsIn}
 use Rattle.ferruntzo.proofs.operations.answer_evaluation.Statement.{statement}
 use Rattle.ferruntzo.proofs.operations.answer_evaluation.Tie as tie
 
@@ -23,7 +24,7 @@ returns c =
     let high-fits : SFits w64 (g .answer .high) = search needs in
     let stored = simp (toZ-ofZ low-fits, toZ-ofZ high-fits) at (s .store-bounds .ensures) in
     let n = c .verdict-number .ensures ∙ sym (number-judged v b) in
-    let o = stored ∙ ap (λ (x : Bounds). areaOut boundsSize (x .low ∷ x .high ∷ []) (now (g .bounds))) (sym (values-judged v b)) in
+    let o = stored ∙ ap (λ (x : Bounds). areaOut boundsSize (x .low ∷ x .high ∷ []) (now (g .bounds))) (sym (payload-judged v b)) in
     λ k. evaluationAnswer (n k) (o k)
 
 pub answer-evaluation-spec : {M : Type 1} → statement M

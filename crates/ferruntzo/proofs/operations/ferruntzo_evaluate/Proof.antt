@@ -3,11 +3,12 @@ use borrow.Author.Needs.{needs}
 use mathlib.Core.Path.{_≡_, ap, _∙_}
 use mir.Facts.{toZ-ofZ}
 use denote.Ref.{now}
-use Rattle.model.specs.definitions.Areas.{modelSize, areaModel}
-use Rattle.model.specs.definitions.Evaluation.{Bounds, boundsOf, evaluation}
+use Rattle.model.specs.definitions.Area.{modelSize, areaModel}
+use Rattle.model.specs.definitions.Evaluate.{Bounds, boundsOf, evaluation}
 use Rattle.model.specs.definitions.Outcomes.{Outcome}
 use Rattle.model.specs.declared.types.Model.{Model}
-use Rattle.ferruntzo.specs.definitions.Answers.{boundsSize, boundsIn}
+use Rattle.ferruntzo.specs.definitions.Areas.{boundsSize}
+use Rattle.ferruntzo.specs.definitions.Operations.{boundsIn}
 use Rattle.ferruntzo.proofs.Answering.{two-fit}
 use Rattle.ferruntzo.proofs.operations.ferruntzo_evaluate.Statement.{statement}
 use Rattle.ferruntzo.proofs.operations.ferruntzo_evaluate.Tie as tie

@@ -4,10 +4,10 @@ use mathlib.Core.Path.{ap, _∙_}
 use denote.Ref.{now}
 use Rattle.model.specs.definitions.Outcomes.{Outcome}
 use Rattle.model.specs.declared.types.Model.{Model}
-use Rattle.model.specs.definitions.Areas.{modelSize}
-use Rattle.model.specs.definitions.Integral.{integration}
+use Rattle.model.specs.definitions.Area.{modelSize}
+use Rattle.model.specs.definitions.Integrate.{integration}
 use Rattle.model.specs.laws.ResultLaws.{integration-storable}
-use Rattle.ferruntzo.specs.definitions.Answers.{outcomeIn}
+use Rattle.ferruntzo.specs.definitions.Operations.{outcomeIn}
 use Rattle.ferruntzo.proofs.Answering.{two-fit, outcome-storable}
 use Rattle.ferruntzo.proofs.operations.ferruntzo_integrate.Statement.{statement}
 use Rattle.ferruntzo.proofs.operations.ferruntzo_integrate.Tie as tie

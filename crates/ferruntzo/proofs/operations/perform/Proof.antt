@@ -4,18 +4,18 @@ use mathlib.Core.Path.{ap, ap₂, _∙_}
 use Prim.Native.Nat.{_≤_}
 use lib.ListN.{length}
 use denote.Ref.{now}
-use Rattle.model.specs.definitions.Outcomes.{Outcome, values}
-use Rattle.model.specs.definitions.Areas.{modelSize, Storable}
+use Rattle.model.specs.definitions.Outcomes.{Outcome, payload}
+use Rattle.model.specs.definitions.Area.{modelSize, Storable}
 use Rattle.model.specs.laws.ResultLaws.{addition-storable, subtraction-storable, multiplication-storable}
 use Rattle.model.specs.declared.types.Model.{Model}
-use Rattle.ferruntzo.specs.definitions.Answers.{operationFor, outcomeIn}
+use Rattle.ferruntzo.specs.definitions.Operations.{operationFor, outcomeIn}
 use Rattle.ferruntzo.specs.declared.operations.Operation.{Operation}
 use Rattle.ferruntzo.specs.declared.operations.Operation.the-variants.{Add, Subtract, Multiply}
 use Rattle.ferruntzo.proofs.Answering.{three-fit, outcome-storable}
 use Rattle.ferruntzo.proofs.operations.perform.Statement.{statement}
 use Rattle.ferruntzo.proofs.operations.perform.Tie as tie
 
-operation-storable : (o : Operation) (a b : Model) → Storable (values (operationFor o a b))
+operation-storable : (o : Operation) (a b : Model) → Storable (payload (operationFor o a b))
 operation-storable Add a b = addition-storable a b
 operation-storable Subtract a b = subtraction-storable a b
 operation-storable (Multiply kept) a b = multiplication-storable kept a b

@@ -5,7 +5,7 @@ use denote.Ref.{now}
 use Rattle.model.specs.laws.ResultLaws.{zero-storable}
 use Rattle.model.specs.definitions.Outcomes.{refused}
 use Rattle.model.specs.declared.types.Model.{Model}
-use Rattle.ferruntzo.specs.definitions.Answers.{outcomeIn}
+use Rattle.ferruntzo.specs.definitions.Operations.{outcomeIn}
 use Rattle.ferruntzo.proofs.operations.refuse_operation.Statement.{statement}
 use Rattle.ferruntzo.proofs.operations.refuse_operation.Tie as tie
 

@@ -1,7 +1,7 @@
 -- `decode::shape_of` meets its contract: in an arm of one number that is the byte, in an arm of a range the byte is none of
 -- the known ones.
 use mathlib.Core.Path.{_≡_, ap}
-use Rattle.job.specs.definitions.Commands.{commandBytes, shapeWith, shapeOf}
+use Rattle.job.specs.definitions.Decode.{commandBytes, shapeWith, shapeOf}
 use Rattle.job.specs.declared.types.Kind.the-variants.{Unknown}
 use Rattle.job.proofs.KindLaws.{kind-unknown}
 use Rattle.job.proofs.decode.shape_of.Statement.{statement}

@@ -3,9 +3,9 @@ use borrow.Author.Needs.{needs}
 use mathlib.Core.Path.{ap, sym, _∙_}
 use Prim.Native.Nat.{_+_}
 use denote.Ref.{now}
-use Rattle.model.specs.definitions.Operations.{loading}
+use Rattle.model.specs.definitions.Load.{loading}
 use Rattle.job.specs.definitions.Bytes.{blockAt, unsignedAt}
-use Rattle.job.specs.definitions.Commands.{makerAt}
+use Rattle.job.specs.definitions.Decode.{makerAt}
 use Rattle.job.specs.definitions.InnerContracts.{untestedOutcome}
 use Rattle.job.specs.laws.MakerLaws.{load-operation}
 use Rattle.job.proofs.OperationLaws.{performs-untested, loading-storable}

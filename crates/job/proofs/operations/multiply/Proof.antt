@@ -3,10 +3,10 @@ use mathlib.Core.Path.{ap, sym, _∙_}
 use Prim.Native.Nat.{ℕ, _+_}
 use native.Mathlib.Omega.{arith}
 use denote.Ref.{now}
-use Rattle.model.specs.definitions.Operations.{multiplication}
+use Rattle.model.specs.definitions.Multiply.{multiplication}
 use Rattle.model.specs.laws.ResultLaws.{multiplication-storable}
 use Rattle.job.specs.definitions.Bytes.{byteAt}
-use Rattle.job.specs.definitions.Commands.{makerAt, keptByte}
+use Rattle.job.specs.definitions.Decode.{makerAt, keptByte}
 use Rattle.job.specs.definitions.InnerContracts.{untestedOutcome}
 use Rattle.job.specs.laws.MakerLaws.{multiply-operation}
 use Rattle.job.proofs.OperationLaws.{performs-untested, held-two}

@@ -4,11 +4,12 @@ use Prim.Native.Nat.{_+_}
 use native.Mathlib.Omega.{arith}
 use lib.ListN.{length}
 use denote.Ref.{now}
-use Rattle.certificate.specs.definitions.Tests.{scratchSize, quotientOutcome}
+use Rattle.certificate.specs.definitions.Tests.{scratchSize}
+use Rattle.certificate.specs.definitions.Quotient.{quotientOutcome}
 use Rattle.certificate.specs.laws.Stages.{quotient-room}
 use Rattle.certificate.specs.laws.TestFits.{quotient-storable}
 use Rattle.job.specs.definitions.Bytes.{byteAt, blockAt}
-use Rattle.job.specs.definitions.Commands.{makerAt}
+use Rattle.job.specs.definitions.Decode.{makerAt}
 use Rattle.job.specs.laws.MakerLaws.{quotient-operation}
 use Rattle.job.proofs.OperationLaws.{performs, held-two}
 use borrow.Author.Needs.{needs}

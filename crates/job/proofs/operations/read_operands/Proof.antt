@@ -4,7 +4,7 @@ use Prim.Native.Nat.{_+_, _<_}
 use native.Mathlib.Omega.{arith}
 use denote.Ref.{now}
 use Rattle.job.specs.definitions.Bytes.{byteAt}
-use Rattle.job.specs.definitions.Commands.{maxResults}
+use Rattle.job.specs.definitions.Reading.{maxResults}
 use Rattle.job.specs.laws.CommandLaws.{both-below}
 use Rattle.job.proofs.operations.read_operands.Statement.{statement}
 use Rattle.job.proofs.operations.read_operands.Tie as tie

@@ -5,11 +5,13 @@ use native.Mathlib.Omega.{arith}
 use borrow.Author.Tests.{leb-false}
 use lib.ListN.{length}
 use denote.Ref.{now}
-use Rattle.certificate.specs.definitions.Tests.{scratchSize, byDiscriminant, rootOutcome}
+use Rattle.certificate.specs.definitions.Tests.{scratchSize}
+use Rattle.certificate.specs.definitions.Root.{byDiscriminant, rootOutcome}
 use Rattle.certificate.specs.laws.Stages.{root-room}
 use Rattle.certificate.specs.laws.TestFits.{root-storable}
 use Rattle.job.specs.definitions.Bytes.{byteAt, blockAt}
-use Rattle.job.specs.definitions.Commands.{maxResults, makerAt}
+use Rattle.job.specs.definitions.Reading.{maxResults}
+use Rattle.job.specs.definitions.Decode.{makerAt}
 use Rattle.job.specs.laws.MakerLaws.{root-operation}
 use Rattle.job.proofs.OperationLaws.{performs, held-one}
 use borrow.Author.Needs.{needs}

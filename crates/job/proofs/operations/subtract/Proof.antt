@@ -3,10 +3,10 @@ use mathlib.Core.Path.{ap, sym, _∙_}
 use Prim.Native.Nat.{_+_}
 use native.Mathlib.Omega.{arith}
 use denote.Ref.{now}
-use Rattle.model.specs.definitions.Operations.{subtraction}
+use Rattle.model.specs.definitions.Add.{subtraction}
 use Rattle.model.specs.laws.ResultLaws.{subtraction-storable}
 use Rattle.job.specs.definitions.Bytes.{byteAt}
-use Rattle.job.specs.definitions.Commands.{makerAt}
+use Rattle.job.specs.definitions.Decode.{makerAt}
 use Rattle.job.specs.definitions.InnerContracts.{untestedOutcome}
 use Rattle.job.specs.laws.MakerLaws.{subtract-operation}
 use Rattle.job.proofs.OperationLaws.{performs-untested, held-two}

@@ -35,7 +35,7 @@ use denote.Triple.Entry.{Vals, onEntry}
 use denote.Triple.Spec.{Meets, tripleOf}
 use denote.Triple.Table.{entered, cited}
 use denote.Triple.Clauses.{lasts}
-use Rattle.job.specs.definitions.Commands.{commandReading}
+use Rattle.job.specs.definitions.Reading.{commandReading}
 use Rattle.job.specs.declared.reader.Reader.{Reader}
 use Rattle.job.proofs.ReaderWalk.{answered}
 use Rattle.job.proofs.reader.Reader as T

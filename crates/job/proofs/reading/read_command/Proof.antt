@@ -8,7 +8,7 @@ use native.Mathlib.Omega.{arith}
 use lib.ListN.{length, drop}
 use denote.Ref.{now}
 use Rattle.model.specs.definitions.Outcomes.{passing}
-use Rattle.job.specs.definitions.Commands.{nameBytes, valueBytes, shapeAt, commandReading, readingPlaces}
+use Rattle.job.specs.definitions.Reading.{nameBytes, valueBytes, shapeAt, commandReading, readingPlaces}
 use Rattle.job.specs.declared.types.Kind.{Kind}
 use Rattle.job.specs.declared.types.Shape.{Shape}
 use Rattle.job.proofs.KindLaws.{agrees}

@@ -8,7 +8,7 @@ use lib.IntN.{ℤ}
 use lib.ListN.{length, drop}
 use denote.Ref.{now}
 use Rattle.model.specs.declared.types.Model.{Model}
-use Rattle.job.specs.definitions.Jobs.{Step, command}
+use Rattle.job.specs.definitions.Step.{Step, command}
 use Rattle.job.specs.definitions.Work.{workSize}
 use Rattle.job.specs.definitions.InnerContracts.{Stepped, Clear}
 use Rattle.job.specs.declared.types.Step.{Step as CodeStep}

@@ -11,7 +11,7 @@ use Rattle.model.specs.declared.types.Verdict.{Verdict}
 use Rattle.model.specs.declared.types.Verdict.the-variants.{Accepted}
 use Rattle.certificate.specs.definitions.Tests.{Certificate, makeCertificate}
 use Rattle.certificate.specs.declared.types.TestOutcome.{TestOutcome}
-use Rattle.job.specs.definitions.Jobs.{more, resulting}
+use Rattle.job.specs.definitions.Step.{more, resulting}
 use Rattle.job.specs.definitions.InnerContracts.{Holds, Stepped}
 use Rattle.job.specs.declared.types.Step.the-variants.{More, Refused}
 use Rattle.job.proofs.Results.{holds-all, stored-holds}

@@ -5,8 +5,9 @@ use Prim.Native.Nat.{ℕ}
 use borrow.Author.Tests.{leb-false}
 use lib.IntN.{ℤ}
 use denote.Ref.{now}
-use Rattle.job.specs.definitions.Commands.{maxResults, makerAt, commandAt}
-use Rattle.job.specs.definitions.Jobs.{more, resulting, performed}
+use Rattle.job.specs.definitions.Reading.{maxResults}
+use Rattle.job.specs.definitions.Decode.{makerAt, commandAt}
+use Rattle.job.specs.definitions.Step.{more, resulting, performed}
 use Rattle.job.specs.definitions.InnerContracts.{Stepped, StepsBy}
 use Rattle.job.specs.declared.types.Step.{Step}
 use Rattle.job.specs.declared.types.Step.the-variants.{More}

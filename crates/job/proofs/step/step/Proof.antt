@@ -2,7 +2,7 @@
 use mathlib.Core.Path.{refl, ap, sym, subst⁻¹, _∙_}
 use denote.Ref.{now}
 use Rattle.model.specs.definitions.Outcomes.{numberOf}
-use Rattle.job.specs.definitions.Commands.{commandReadingOf}
+use Rattle.job.specs.definitions.Reading.{commandReadingOf}
 use Rattle.job.specs.definitions.InnerContracts.{Stepped}
 use Rattle.job.specs.declared.types.Step.the-variants.{Refused}
 use Rattle.job.proofs.Results.{holds-all}

@@ -1,4 +1,4 @@
--- `work::store` meets its contract: the stretch lent on is what is replaced.
+-- `work::store` meets its contract: the part of the work area lent on is what is replaced.
 use borrow.Author.Needs.{needs}
 use borrow.Rule.Slice.PartMut.{putMid, post-is}
 use mathlib.Core.Path.{ap, _∙_}
@@ -8,7 +8,7 @@ use native.Mathlib.Omega.{arith}
 use lib.IntN.{ℤ}
 use lib.ListN.{take}
 use denote.Ref.{now}
-use Rattle.model.specs.definitions.Areas.{modelSize, words}
+use Rattle.model.specs.definitions.Area.{modelSize, words}
 use Rattle.job.proofs.work.store.Statement.{statement}
 use Rattle.job.proofs.work.store.Tie as tie
 

@@ -6,7 +6,7 @@ use lib.ListN.{getD, length-take}
 use mir.Syntax.{w32}
 use mir.Facts.{toZ-ofZ}
 use denote.Ref.{now}
-use Rattle.model.specs.definitions.Areas.{candidateSize, unsignedOf, areaCandidate}
+use Rattle.model.specs.definitions.Area.{candidateSize, unsignedOf, areaCandidate}
 use Rattle.model.specs.laws.AreaLaws.{candidate-front}
 use Rattle.model.proofs.area.read.Statement.{statement}
 use Rattle.model.proofs.area.read.Tie as tie

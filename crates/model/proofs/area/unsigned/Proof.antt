@@ -11,7 +11,7 @@ use mir.Val.{SFits, toZ, ofZ}
 use mir.Facts.{toZ-ofZ}
 use Rattle.integer.specs.laws.Parts.{abs, apart, lt-yes, lt-no}
 use Rattle.integer.specs.laws.Machine.{signed-needs, within, fits-widens}
-use Rattle.model.specs.definitions.Areas.{unsignedOf}
+use Rattle.model.specs.definitions.Area.{unsignedOf}
 use Rattle.model.proofs.area.unsigned.Statement.{statement}
 use Rattle.model.proofs.area.unsigned.Tie as tie
 

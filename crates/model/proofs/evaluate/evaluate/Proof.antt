@@ -15,7 +15,7 @@ use Rattle.integer.specs.definitions.Rounding.{floor, up}
 use Rattle.model.specs.definitions.Models.{scale, good}
 use Rattle.model.specs.definitions.Outcomes.{accepted, passing}
 use Rattle.model.specs.laws.ModelLaws.{Good, good-is}
-use Rattle.model.specs.definitions.Evaluation.{evaluation}
+use Rattle.model.specs.definitions.Evaluate.{evaluation}
 use Rattle.model.specs.laws.EvaluationLaws.{evaluation-accepted}
 use Rattle.model.specs.declared.types.Model.{Model}
 use Rattle.model.proofs.EvaluationBounds.{Sums, error-small, error-word, radius-word, fits-value, fits-fourfold, fits-below, fits-above, low, high}

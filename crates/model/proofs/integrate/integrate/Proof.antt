@@ -15,7 +15,7 @@ use Rattle.chebyshev.specs.laws.Weight.{weight-at}
 use Rattle.model.specs.definitions.Models.{good}
 use Rattle.model.specs.definitions.Outcomes.{passing}
 use Rattle.model.specs.laws.ModelLaws.{Good, good-is}
-use Rattle.model.specs.definitions.Integral.{integralModel, integration}
+use Rattle.model.specs.definitions.Integrate.{integralModel, integration}
 use Rattle.model.specs.laws.IntegralLaws.{integral-doubled, weight-doubled, integration-formed, integration-degree}
 use Rattle.model.specs.declared.types.Model.{Model}
 use Rattle.model.proofs.integrate.integrate.Statement.{statement}

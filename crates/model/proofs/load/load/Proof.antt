@@ -2,7 +2,7 @@
 use borrow.Author.Needs.{needs}
 use mathlib.Core.Path.{sym, _∙_}
 use Rattle.model.specs.definitions.Outcomes.{passing}
-use Rattle.model.specs.definitions.Operations.{loading}
+use Rattle.model.specs.definitions.Load.{loading}
 use Rattle.model.proofs.load.load.Statement.{statement}
 use Rattle.model.proofs.load.load.Tie as tie
 

@@ -9,7 +9,7 @@ use native.Mathlib.Omega.{arith}
 use Rattle.model.specs.definitions.InnerContracts.{unlessLarge}
 use Rattle.model.specs.definitions.Models.{maxDegree, good}
 use Rattle.model.specs.definitions.Outcomes.{passing}
-use Rattle.model.specs.definitions.Operations.{keptDegree, productModel, multiplication}
+use Rattle.model.specs.definitions.Multiply.{keptDegree, productModel, multiplication}
 use Rattle.model.specs.laws.MultiplicationLaws.{multiplication-of-good}
 use Rattle.model.specs.declared.types.Model.{Model}
 use Rattle.model.proofs.multiply.multiply.Statement.{statement}

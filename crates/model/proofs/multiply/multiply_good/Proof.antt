@@ -12,7 +12,7 @@ use Rattle.chebyshev.specs.laws.Weight.{weight-take}
 use Rattle.model.specs.definitions.InnerContracts.{formedOutcome}
 use Rattle.model.specs.definitions.Models.{scale}
 use Rattle.model.specs.laws.ModelLaws.{Good, good-is}
-use Rattle.model.specs.definitions.Operations.{productDegree, productList}
+use Rattle.model.specs.definitions.Multiply.{productDegree, productList}
 use Rattle.model.specs.definitions.Round.{RoundedFrom}
 use Rattle.model.specs.laws.GoodLaws.{weight-productList}
 use Rattle.model.specs.laws.MultiplicationLaws.{kept-is, radiusLoss, product-formed}

@@ -1,4 +1,4 @@
--- `products::add_row` meets its contract: the two parts, one after the other, are the row cut at place i.
+-- `products::add_term` meets its contract: the two parts, one after the other, are the term cut at place i.
 use borrow.Author.Needs.{needs}
 use mathlib.Core.Path.{_≡_, sym, _∙_, ap}
 use mathlib.Core.List.{List}
@@ -11,13 +11,13 @@ use mir.Facts.{toZ-ofZ}
 use Rattle.integer.specs.definitions.Integer.{ℤ-ring}
 use Rattle.chebyshev.specs.definitions.Coefficients.{weight}
 use Rattle.chebyshev.specs.laws.Weight.{weight-split}
-use Rattle.chebyshev.specs.definitions.Product.{addRow}
-use Rattle.chebyshev.specs.laws.ProductLaws.{length-addRow, row-cut}
-use Rattle.chebyshev.specs.laws.ProductWeight.{weight-addRow}
-use Rattle.model.proofs.products.add_row.Statement.{statement}
-use Rattle.model.proofs.products.add_row.Tie as tie
+use Rattle.chebyshev.specs.definitions.Product.{addTerm}
+use Rattle.chebyshev.specs.laws.ProductLaws.{length-addTerm, term-cut}
+use Rattle.chebyshev.specs.laws.ProductWeight.{weight-addTerm}
+use Rattle.model.proofs.products.add_term.Statement.{statement}
+use Rattle.model.proofs.products.add_term.Tie as tie
 
--- where the row is cut
+-- where the term is cut
 module _ (t : tie.Then1) where
   abbrev s : tie.Start
   s = t .before
@@ -33,7 +33,7 @@ module _ (t : tie.Then1) where
 
   -- what the first part leaves
   abbrev first : List ℤ
-  first = addRow ℤ-ring (s .args .c .now) x i 0 (take i b)
+  first = addTerm ℤ-ring (s .args .c .now) x i 0 (take i b)
 
   parts : natAbs x * weight b ≡ natAbs x * weight (take i b) + natAbs x * weight (drop i b)
   parts = omega (arith, ap (λ (n : ℕ). natAbs x * n) (weight-split i b))
@@ -62,7 +62,7 @@ add-pairs-requires-2 c κs =
     let f = c .before .before .before in
     let h = t f in
     simp (toZ-ofZ (s h .fits .x), first-is f, rest-is f)
-    (omega (arith, length-addRow ℤ-ring (s h .args .c .now) (x h) (i h) 0 (take (i h) (b h)), weight-addRow (s h .args .c .now) (x h) (i h) 0 (take (i h) (b h)), length-drop (i h) (b h), parts h, s h .pre))
+    (omega (arith, length-addTerm ℤ-ring (s h .args .c .now) (x h) (i h) 0 (take (i h) (b h)), weight-addTerm (s h .args .c .now) (x h) (i h) 0 (take (i h) (b h)), length-drop (i h) (b h), parts h, s h .pre))
 
 returns : tie.Need-returns
 returns c =
@@ -70,13 +70,13 @@ returns c =
     let h = t f in
     let e : 0 + i h ≡ i h = omega arith in
     (rw (toZ-ofZ (s h .fits .x), first-is f, rest-is f) at (c .before .add-pairs2 .ensures))
-    ∙ (rw e at (row-cut ℤ-ring (s h .args .c .now) (x h) (i h) 0 (i h) (b h) (omega arith)))
+    ∙ (rw e at (term-cut ℤ-ring (s h .args .c .now) (x h) (i h) 0 (i h) (b h) (omega arith)))
 
 returns-2 : tie.Need-returns-2
 returns-2 c = let d = c .before .before .before .before in rw (toZ-ofZ (d .fits .x)) at (c .before .add-pairs3 .ensures)
 
-pub add-row-spec : {M : Type 1} → statement M
-add-row-spec =
+pub add-term-spec : {M : Type 1} → statement M
+add-term-spec =
     tie.close (tie.spec
     slice-aggregate-add-pairs add-pairs-requires (λ c. search needs) (λ c. search needs) (λ c. search needs)
     (λ c. search needs) add-pairs-requires-2 (λ c κs. search needs) (λ c. search needs) returns (λ c. search needs) returns-2)

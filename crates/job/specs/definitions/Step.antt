@@ -1,13 +1,13 @@
--- The meaning of a command and of a whole job, computed command by command.
+-- The meaning of one command: its reading, then its operation.
 use mathlib.Core.List.{List, [], _∷_, _++_}
-use Prim.Native.Nat.{ℕ, zero, suc, _+_}
+use Prim.Native.Nat.{ℕ}
 use lib.ListN.{length}
 use Rattle.model.specs.definitions.Outcomes.{Outcome, passing}
 use Rattle.certificate.specs.definitions.Tests.{Certificate}
 use Rattle.model.specs.declared.types.Model.{Model}
-use Rattle.job.specs.definitions.Makers.{operation}
-use Rattle.job.specs.definitions.Commands.{Command, edition, result, finish, unknown, readingPlaces, commandRead, nextAt}
-use Rattle.job.specs.definitions.Outcomes.{JobOutcome, accepted}
+use Rattle.job.specs.definitions.Operations.{operation}
+use Rattle.job.specs.definitions.Decode.{Command, edition, result, finish, unknown}
+use Rattle.job.specs.definitions.Reading.{readingPlaces, commandRead, nextAt}
 
 -- what a command does: the results then, or their count, and the next position; the end of the job; a refusal
 pub data Step (A : Type 0) : Type 0 where
@@ -33,16 +33,3 @@ command job k rs at =
     passing (readingPlaces job k (length rs) at)
     (performed (commandRead job k (length rs) at) rs (nextAt job k (length rs) at))
     refused
-
-abbrev pub onward : (ℕ → List Model → ℕ → JobOutcome (List Model)) → ℕ → List Model → Step (List Model) → JobOutcome (List Model)
-onward next k rs (more rs′ at) = next (k + 1) rs′ at
-onward next k rs over = accepted rs
-onward next k rs (refused n) = JobOutcome.refused n k
-
--- the rest of a job from command k on; every command has a byte, so as many commands as bytes and one are enough
-unfoldable pub run : ℕ → List ℕ → ℕ → List Model → ℕ → JobOutcome (List Model)
-run zero job k rs at = JobOutcome.refused 10 k
-run (suc f) job k rs at = onward (run f job) k rs (command job k rs at)
-
-unfoldable pub jobOutcome : List ℕ → JobOutcome (List Model)
-jobOutcome job = run (length job + 1) job 0 [] 0

@@ -4,14 +4,12 @@ use mathlib.Core.List.{List, [], _∷_}
 use Prim.Native.Nat.{ℕ}
 use lib.IntN.{ℤ}
 use lib.ListN.{length}
-use Rattle.model.specs.definitions.Outcomes.{Outcome, refused, number, values}
-use Rattle.model.specs.definitions.Areas.{modelSize, candidateSize, words, areaModel, areaCandidate}
-use Rattle.certificate.specs.definitions.Tests.{scratchSize, scratchAfter, Certificate, zeroCertificate, quotientTest, rootTest}
-use Rattle.ferruntzo.specs.definitions.Answers.{fits, areaOut}
-
--- how many numbers m, N and b are
-abbrev pub numbersSize : ℕ
-numbersSize = 3
+use Rattle.model.specs.definitions.Outcomes.{Outcome, refused, number, payload}
+use Rattle.model.specs.definitions.Area.{modelSize, candidateSize, words, areaModel, areaCandidate}
+use Rattle.certificate.specs.definitions.Tests.{scratchSize, scratchAfter, Certificate, zeroCertificate}
+use Rattle.certificate.specs.definitions.Quotient.{quotientTest}
+use Rattle.certificate.specs.definitions.Root.{rootTest}
+use Rattle.ferruntzo.specs.definitions.Areas.{fits, areaOut, numbersSize}
 
 -- refusal 1, whichever area is too short: "Any other number an entry answers … is zero on refusal too"
 abbrev pub shortTest : Outcome Certificate
@@ -34,8 +32,8 @@ testIn t scratch out numbers =
     testAnswer
     (number t)
     (scratchAfter scratch)
-    (areaOut modelSize (words (values t .model)) out)
-    (areaOut numbersSize (values t .m ∷ values t .N ∷ values t .b ∷ []) numbers)
+    (areaOut modelSize (words (payload t .model)) out)
+    (areaOut numbersSize (payload t .m ∷ payload t .N ∷ payload t .b ∷ []) numbers)
 
 -- whether every area has its numbers: those of the models, of h and w, the scratch, the result, and m, N and b
 abbrev pub testFits : Bool → List ℤ → List ℤ → List ℤ → List ℤ → List ℕ → Bool

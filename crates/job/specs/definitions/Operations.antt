@@ -1,4 +1,4 @@
--- The commands that make a result, one row for each: the results that it names, the places that it passes through, and what it
+-- The commands that make a result, one making for each: the results that it names, the places that it passes through, and what it
 -- gives. "each of its results is exactly the loaded model, or what the operation or test of its command gives for the results, d
 -- and blocks it names".
 use mathlib.Core.Bool.{Bool, false, _||_}
@@ -8,11 +8,15 @@ use lib.Dec.{leb}
 use lib.ListN.{getD}
 use Rattle.model.specs.definitions.Models.{zeroModel}
 use Rattle.model.specs.definitions.Outcomes.{Outcome, outcome}
-use Rattle.model.specs.definitions.Operations.{loadingPlaces, sumModel, additionPlaces, differenceModel, subtractionPlaces}
-use Rattle.model.specs.definitions.Operations.{productModel, multiplicationPlaces}
+use Rattle.model.specs.definitions.Load.{loadingPlaces}
+use Rattle.model.specs.definitions.Add.{sumModel, additionPlaces, differenceModel, subtractionPlaces}
+use Rattle.model.specs.definitions.Multiply.{productModel, multiplicationPlaces}
 use Rattle.certificate.specs.definitions.Tests.{scratchSize, Certificate, makeCertificate, zeroCertificate}
-use Rattle.certificate.specs.definitions.Tests.{quotientPlaces, quotientCertificate, RootRule, rootTestPlaces, rootCertificate}
+use Rattle.certificate.specs.definitions.Quotient.{quotientPlaces, quotientCertificate}
+use Rattle.certificate.specs.definitions.Root.{RootRule, rootTestPlaces, rootCertificate}
 use Rattle.model.specs.declared.types.Model.{Model}
+use Rattle.job.specs.declared.types.Names.{Names}
+use Rattle.job.specs.declared.types.Names.the-variants.{Nothing, One, Two}
 
 -- a maker of a result with its operands; a kept degree 0xFF is read as 32, a candidate as a model with radius 0
 pub data Maker : Type 0 where
@@ -32,27 +36,33 @@ abbrev pub untested : Model → Certificate
 untested r = makeCertificate r 0 0 0
 
 -- the results that a maker names, in the order of their bytes, and what it gives for them
-pub data Row : Type 0 where
-  of-none : Given → Row
-  of-one : ℕ → (Model → Given) → Row
-  of-two : ℕ → ℕ → (Model → Model → Given) → Row
+pub data Making : Type 0 where
+  of-none : Given → Making
+  of-one : ℕ → (Model → Given) → Making
+  of-two : ℕ → ℕ → (Model → Model → Given) → Making
 
-abbrev pub rowFor : Maker → Row
-rowFor (load m) = of-none (record { places = loadingPlaces m; certificate = untested m })
-rowFor (add i j) = of-two i j (λ f g. record { places = additionPlaces f g; certificate = untested (sumModel f g) })
-rowFor (subtract i j) =
+abbrev pub makingFor : Maker → Making
+makingFor (load m) = of-none (record { places = loadingPlaces m; certificate = untested m })
+makingFor (add i j) = of-two i j (λ f g. record { places = additionPlaces f g; certificate = untested (sumModel f g) })
+makingFor (subtract i j) =
     of-two i j (λ f g. record { places = subtractionPlaces f g; certificate = untested (differenceModel f g) })
-rowFor (multiply i j d) =
+makingFor (multiply i j d) =
     of-two i j (λ f g. record { places = multiplicationPlaces d f g; certificate = untested (productModel d f g) })
-rowFor (quotient i j h w) =
+makingFor (quotient i j h w) =
     of-two i j (λ f g. record { places = quotientPlaces scratchSize f g h w; certificate = quotientCertificate f g h w })
-rowFor (root rule i h w) =
+makingFor (root rule i h w) =
     of-one i (λ f. record { places = rootTestPlaces rule scratchSize f h w; certificate = rootCertificate rule f h w })
 
--- ---- what follows from a row
+-- ---- what follows from a making
+
+-- how many results it names
+abbrev pub namesIn : Making → Names
+namesIn (of-none g) = Nothing
+namesIn (of-one i g) = One
+namesIn (of-two i j g) = Two
 
 -- "result bytes: 12, not yet a result"
-abbrev pub badIn : Row → ℕ → Bool
+abbrev pub badIn : Making → ℕ → Bool
 badIn (of-none g) count = false
 badIn (of-one i g) count = leb count i
 badIn (of-two i j g) count = leb count i || leb count j
@@ -61,18 +71,18 @@ badIn (of-two i j g) count = leb count i || leb count j
 abbrev pub resultAt : List Model → ℕ → Model
 resultAt rs i = getD rs i zeroModel
 
-abbrev pub givenIn : Row → List Model → Given
+abbrev pub givenIn : Making → List Model → Given
 givenIn (of-none g) rs = g
 givenIn (of-one i g) rs = g (resultAt rs i)
 givenIn (of-two i j g) rs = g (resultAt rs i) (resultAt rs j)
 
 -- a maker names a result that is not one of so many
 abbrev pub namesBad : Maker → ℕ → Bool
-namesBad m count = badIn (rowFor m) count
+namesBad m count = badIn (makingFor m) count
 
 -- the places that it passes through for the results rs, and its outcome
 unfoldable pub makerPlaces : Maker → List Model → List (Bool × ℕ)
-makerPlaces m rs = givenIn (rowFor m) rs .places
+makerPlaces m rs = givenIn (makingFor m) rs .places
 
 unfoldable pub operation : Maker → List Model → Outcome Certificate
-operation m rs = outcome (makerPlaces m rs) (givenIn (rowFor m) rs .certificate) zeroCertificate
+operation m rs = outcome (makerPlaces m rs) (givenIn (makingFor m) rs .certificate) zeroCertificate

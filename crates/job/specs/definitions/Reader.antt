@@ -5,7 +5,8 @@ use mathlib.Core.List.{List, [], _∷_, _++_}
 use Prim.Native.Nat.{ℕ, zero, suc, _+_}
 use lib.ListN.{length, getD}
 use Rattle.model.specs.definitions.Outcomes.{passing}
-use Rattle.job.specs.definitions.Commands.{Command, edition, result, finish, unknown, readingPlaces, commandRead, nextAt}
+use Rattle.job.specs.definitions.Decode.{Command, edition, result, finish, unknown}
+use Rattle.job.specs.definitions.Reading.{readingPlaces, commandRead, nextAt}
 
 -- read to its end, with the commands of its results in the order of their numbers; or refused with a number and a command
 pub data JobReading : Type 0 where

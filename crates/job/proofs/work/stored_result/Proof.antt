@@ -1,13 +1,13 @@
--- `work::stretch_at` meets its contract.
+-- `work::stored_result` meets its contract.
 use borrow.Author.Needs.{needs}
 use mathlib.Core.Path.{ap, _∙_}
 use Prim.Native.Nat.{ℕ, _*_}
 use native.Mathlib.Nat.{add-sub-cancel-left}
 use lib.ListN.{take, drop}
 use denote.Ref.{now}
-use Rattle.model.specs.definitions.Areas.{modelSize, areaModel}
-use Rattle.job.proofs.work.stretch_at.Statement.{statement}
-use Rattle.job.proofs.work.stretch_at.Tie as tie
+use Rattle.model.specs.definitions.Area.{modelSize, areaModel}
+use Rattle.job.proofs.work.stored_result.Statement.{statement}
+use Rattle.job.proofs.work.stored_result.Tie as tie
 
 mul-a : tie.Need-mul-a
 mul-a c = search needs
@@ -37,7 +37,7 @@ returns c =
     ∙ ap (λ (n : ℕ). areaModel (take n (drop (modelSize * g .i) (now (g .work)))))
     (add-sub-cancel-left (modelSize * g .i) modelSize)
 
-pub stretch-at-spec : {M : Type 1} → statement M
-stretch-at-spec =
+pub stored-result-spec : {M : Type 1} → statement M
+stored-result-spec =
     tie.close
     (tie.spec mul-a add-read mul-read sub-read part-read-start part-read-end read-requires returns)

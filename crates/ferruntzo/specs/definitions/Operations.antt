@@ -1,33 +1,19 @@
 -- What an exported operation answers and leaves in its areas. Every function takes areas of every length: one that is too short
 -- for its numbers is refusal 1, before all else. What an area holds afterwards depends on its own length alone.
-use mathlib.Core.Bool.{Bool, cond, _&&_}
-use mathlib.Core.List.{List, [], _∷_, _++_}
+use mathlib.Core.Bool.{cond, _&&_}
+use mathlib.Core.List.{List, [], _∷_}
 use Prim.Native.Nat.{ℕ}
-use lib.Dec.{leb}
 use lib.IntN.{ℤ}
-use lib.ListN.{length, drop}
-use Rattle.model.specs.definitions.Areas.{modelSize, words, areaModel}
-use Rattle.model.specs.definitions.Evaluation.{Bounds, zeroBounds, evaluation}
+use Rattle.model.specs.definitions.Area.{modelSize, words, areaModel}
+use Rattle.model.specs.definitions.Evaluate.{Bounds, zeroBounds, evaluation}
 use Rattle.model.specs.definitions.Models.{zeroModel}
-use Rattle.model.specs.definitions.Outcomes.{Outcome, refused, number, values}
-use Rattle.model.specs.definitions.Operations.{addition, subtraction, multiplication}
+use Rattle.model.specs.definitions.Outcomes.{Outcome, refused, number, payload}
+use Rattle.model.specs.definitions.Add.{addition, subtraction}
+use Rattle.model.specs.definitions.Multiply.{multiplication}
 use Rattle.model.specs.declared.types.Model.{Model}
+use Rattle.ferruntzo.specs.definitions.Areas.{boundsSize, fits, areaOut}
 use Rattle.ferruntzo.specs.declared.operations.Operation.{Operation}
 use Rattle.ferruntzo.specs.declared.operations.Operation.the-variants.{Add, Subtract, Multiply}
-
--- how many numbers the bounds of an evaluation have
-abbrev pub boundsSize : ℕ
-boundsSize = 2
-
--- ---- areas
-
--- whether an area has its n numbers
-abbrev pub fits : {A : Type 0} → ℕ → List A → Bool
-fits n s = leb n (length s)
-
--- an area afterwards: the new numbers stand in its n, and numbers behind stay; one that is itself too short is not touched
-unfoldable pub areaOut : {A : Type 0} → ℕ → List A → List A → List A
-areaOut n new old = cond (fits n old) (new ++ drop n old) old
 
 -- ---- refusal 1, whichever area is too short
 
@@ -51,7 +37,7 @@ operationAnswer n o = record { number = n; out = o }
 
 -- an outcome, answered over an area
 unfoldable pub outcomeIn : Outcome Model → List ℤ → OperationAnswer
-outcomeIn o out = operationAnswer (number o) (areaOut modelSize (words (values o)) out)
+outcomeIn o out = operationAnswer (number o) (areaOut modelSize (words (payload o)) out)
 
 -- of two models
 abbrev pub binaryAnswer : (Model → Model → Outcome Model) → List ℤ → List ℤ → List ℤ → OperationAnswer
@@ -81,7 +67,7 @@ abbrev pub evaluationAnswer : ℕ → List ℤ → EvaluationAnswer
 evaluationAnswer n b = record { number = n; bounds = b }
 
 unfoldable pub boundsIn : Outcome Bounds → List ℤ → EvaluationAnswer
-boundsIn o bounds = evaluationAnswer (number o) (areaOut boundsSize (values o .low ∷ values o .high ∷ []) bounds)
+boundsIn o bounds = evaluationAnswer (number o) (areaOut boundsSize (payload o .low ∷ payload o .high ∷ []) bounds)
 
 abbrev pub evaluateAnswer : List ℤ → ℤ → List ℤ → EvaluationAnswer
 evaluateAnswer a p bounds =

@@ -1,49 +1,19 @@
--- Document 01, "Plain operations": add, subtract and multiply; and a model that is loaded.
+-- Document 01, "Plain operations": multiply.
 use mathlib.Core.Bool.{Bool, not, cond}
 use mathlib.Core.List.{List, [], _∷_, _++_}
-use Prim.Native.Nat.{ℕ, suc, _+_, _*_, _-_, min, max}
+use Prim.Native.Nat.{ℕ, suc, _+_, _*_, _-_, min}
 use lib.Dec.{leb, eqb}
 use lib.IntN.{ℤ, pos}
 use lib.ListN.{replicate, take, drop}
 use Rattle.integer.specs.definitions.Integer.{ℤ-ring}
 use Rattle.integer.specs.definitions.Rounding.{upℕ}
-use Rattle.chebyshev.specs.definitions.Coefficients.{weight, addLists, subtractLists}
+use Rattle.chebyshev.specs.definitions.Coefficients.{weight}
 use Rattle.chebyshev.specs.definitions.Product.{product}
 use Rattle.model.specs.definitions.Models.{scale, maxDegree, coefficientCount, productSize, terms, makeModel, zeroModel}
 use Rattle.model.specs.definitions.Models.{badPlace, largePlace}
 use Rattle.model.specs.definitions.Outcomes.{Outcome, outcome}
 use Rattle.model.specs.definitions.Round.{rounded, roundingLoss}
 use Rattle.model.specs.declared.types.Model.{Model}
-
--- a model that is handed in: "each model: 2"
-abbrev pub loadingPlaces : Model → List (Bool × ℕ)
-loadingPlaces m = badPlace m ∷ []
-
-unfoldable pub loading : Model → Outcome Model
-loading m = outcome (loadingPlaces m) m zeroModel
-
--- "Add and subtract: coefficient by coefficient, the larger degree, radii added."
-unfoldable pub sumModel : Model → Model → Model
-sumModel a b =
-    makeModel (max (a .degree) (b .degree)) (addLists ℤ-ring (a .coefficients) (b .coefficients)) (a .radius + b .radius)
-
-unfoldable pub differenceModel : Model → Model → Model
-differenceModel a b =
-    makeModel (max (a .degree) (b .degree)) (subtractLists ℤ-ring (a .coefficients) (b .coefficients)) (a .radius + b .radius)
-
-abbrev pub additionPlaces : Model → Model → List (Bool × ℕ)
-additionPlaces a b = badPlace a ∷ badPlace b ∷ largePlace (sumModel a b) ∷ []
-
-unfoldable pub addition : Model → Model → Outcome Model
-addition a b = outcome (additionPlaces a b) (sumModel a b) zeroModel
-
-abbrev pub subtractionPlaces : Model → Model → List (Bool × ℕ)
-subtractionPlaces a b = badPlace a ∷ badPlace b ∷ largePlace (differenceModel a b) ∷ []
-
-unfoldable pub subtraction : Model → Model → Outcome Model
-subtraction a b = outcome (subtractionPlaces a b) (differenceModel a b) zeroModel
-
--- ---- multiply
 
 -- "kept degree, in the library: not 0 to 32 and not 255, which means 32"
 abbrev pub keptDegree : ℕ → ℕ

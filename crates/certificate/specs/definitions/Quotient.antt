@@ -1,0 +1,59 @@
+-- Document 01, "The two tests", in its whole numbers: the quotient test. "Candidates are h (the answer) and w (a helper); M and H
+-- are the weights of w and h." C( , ) is the whole list, nothing dropped; "inside weight( ) a bare number stands at place 0".
+use mathlib.Core.Bool.{Bool}
+use mathlib.Core.List.{List, [], _∷_, _++_}
+use Prim.Native.Nat.{ℕ, _+_, _*_, _-_}
+use lib.Dec.{ltb}
+use lib.IntN.{pos}
+use Rattle.integer.specs.definitions.Integer.{ℤ-ring}
+use Rattle.integer.specs.definitions.Rounding.{upℕ}
+use Rattle.chebyshev.specs.definitions.Coefficients.{weight, subtractLists, scaleList}
+use Rattle.model.specs.definitions.Models.{scale, candidateModel, badPlace, largePlace}
+use Rattle.model.specs.definitions.Outcomes.{Outcome, outcome}
+use Rattle.model.specs.definitions.Multiply.{productList}
+use Rattle.model.specs.declared.types.Model.{Model}
+use Rattle.model.specs.declared.types.Candidate.{Candidate}
+use Rattle.certificate.specs.definitions.Tests.{scratchSize, withRadius, displacement, Certificate, makeCertificate}
+use Rattle.certificate.specs.definitions.Tests.{zeroCertificate, testPlaces}
+
+-- "m = up((weight(2S² − C(w,g)) + 2·M·e_g)/(2S))"
+unfoldable pub quotientContraction : Model → Model → ℕ
+quotientContraction g w =
+    upℕ
+    (weight (subtractLists ℤ-ring (pos (2 * scale * scale) ∷ []) (productList w g)) + 2 * weight (w .coefficients) * g .radius)
+    (2 * scale)
+
+-- "N = up((weight(C(g,h) − 2S·f) + 2S·e_f + 2·H·e_g)/(2S))"
+unfoldable pub quotientResidual : Model → Model → Model → ℕ
+quotientResidual f g h =
+    upℕ
+    (weight (subtractLists ℤ-ring (productList g h) (scaleList ℤ-ring (pos (2 * scale)) (f .coefficients)))
+    + 2 * scale * f .radius
+    + 2 * weight (h .coefficients) * g .radius)
+    (2 * scale)
+
+-- "Result h with radius up(b·S/(S−m))"
+unfoldable pub quotientModel : Model → ℕ → ℕ → Model
+quotientModel h m b = withRadius h (upℕ (b * scale) (scale - m))
+
+-- Quotient f/g. "each model, in operand order, h then w"; "The test: m < S and N ≤ 2^28."
+abbrev pub quotientPlaces : ℕ → Model → Model → Model → Model → List (Bool × ℕ)
+quotientPlaces len f g h w =
+    let m = quotientContraction g w in
+    let n = quotientResidual f g h in
+    (ltb len scratchSize, 1) ∷ badPlace f ∷ badPlace g ∷ badPlace h ∷ badPlace w
+    ∷ (testPlaces m n ++ (largePlace (quotientModel h m (displacement w n)) ∷ []))
+
+abbrev pub quotientCertificate : Model → Model → Model → Model → Certificate
+quotientCertificate f g h w =
+    let m = quotientContraction g w in
+    let n = quotientResidual f g h in
+    let b = displacement w n in
+    makeCertificate (quotientModel h m b) m n b
+
+unfoldable pub quotientOutcome : ℕ → Model → Model → Model → Model → Outcome Certificate
+quotientOutcome len f g h w = outcome (quotientPlaces len f g h w) (quotientCertificate f g h w) zeroCertificate
+
+-- the entry's definition. "A candidate is a model without a radius (taken as 0)."
+abbrev pub quotientTest : ℕ → Model → Model → Candidate → Candidate → Outcome Certificate
+quotientTest len f g h w = quotientOutcome len f g (candidateModel h) (candidateModel w)

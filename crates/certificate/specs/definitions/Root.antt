@@ -1,0 +1,71 @@
+-- Document 01, "The two tests", in its whole numbers: the root test. "Candidates are h (the answer) and w (a helper); M and H
+-- are the weights of w and h." C( , ) is the whole list, nothing dropped; "inside weight( ) a bare number stands at place 0".
+use mathlib.Core.Bool.{Bool}
+use mathlib.Core.List.{List, [], _∷_, _++_}
+use Prim.Native.Nat.{ℕ, _+_, _*_, _-_}
+use lib.Dec.{ltb}
+use lib.IntN.{pos}
+use lib.Signed.{leZ}
+use Rattle.integer.specs.definitions.Integer.{ℤ-ring}
+use Rattle.integer.specs.definitions.Rounding.{upℕ}
+use Rattle.chebyshev.specs.definitions.Coefficients.{weight, subtractLists, scaleList, coefficientSum}
+use Rattle.model.specs.definitions.Models.{scale, candidateModel, badPlace, largePlace}
+use Rattle.model.specs.definitions.Outcomes.{Outcome, outcome}
+use Rattle.model.specs.definitions.Multiply.{productList}
+use Rattle.model.specs.declared.types.Model.{Model}
+use Rattle.model.specs.declared.types.Candidate.{Candidate}
+use Rattle.certificate.specs.definitions.Tests.{scratchSize, withRadius, displacement, Certificate, makeCertificate}
+use Rattle.certificate.specs.definitions.Tests.{zeroCertificate, testPlaces}
+
+-- "m = up(weight(S² − C(w,h))/S)"
+unfoldable pub rootContraction : Model → Model → ℕ
+rootContraction h w = upℕ (weight (subtractLists ℤ-ring (pos (scale * scale) ∷ []) (productList w h))) scale
+
+-- "N = up((weight(C(h,h) − 2S·f) + 2S·e_f)/(2S))"
+unfoldable pub rootResidual : Model → Model → ℕ
+rootResidual f h =
+    upℕ
+    (weight (subtractLists ℤ-ring (productList h h) (scaleList ℤ-ring (pos (2 * scale)) (f .coefficients)))
+    + 2 * scale * f .radius)
+    (2 * scale)
+
+-- "Result h with radius up(2·b·S/(S−m))"
+unfoldable pub rootModel : Model → ℕ → ℕ → Model
+rootModel h m b = withRadius h (upℕ (2 * b * scale) (scale - m))
+
+-- Root of f, through N: the places that every root command shares; "root: helper", 7, "Σ w_k ≤ 0"
+unfoldable pub rootPlaces : ℕ → Model → Model → Model → List (Bool × ℕ)
+rootPlaces len f h w =
+    (ltb len scratchSize, 1) ∷ badPlace f ∷ badPlace h ∷ badPlace w
+    ∷ (leZ (coefficientSum (w .coefficients)) (pos 0), 7) ∷ testPlaces (rootContraction h w) (rootResidual f h)
+
+-- behind them 8, "(S−m)² < 8·b·M", and the result; M is the weight of w
+abbrev pub negativeDiscriminant : ℕ → ℕ → ℕ → Bool
+negativeDiscriminant m b M = ltb ((scale - m) * (scale - m)) (8 * b * M)
+
+abbrev pub rootLastPlaces : Model → ℕ → ℕ → ℕ → List (Bool × ℕ)
+rootLastPlaces h M m b = (negativeDiscriminant m b M, 8) ∷ largePlace (rootModel h m b) ∷ []
+
+-- by which rule a root is accepted behind N, and with which radius
+pub data RootRule : Type 0 where
+  byDiscriminant : RootRule
+
+-- "The test: Σ w_k > 0, m < S, N ≤ 2^28, (S−m)² ≥ 8·b·M."
+abbrev pub rootTestPlaces : RootRule → ℕ → Model → Model → Model → List (Bool × ℕ)
+rootTestPlaces byDiscriminant len f h w =
+    rootPlaces len f h w
+    ++ rootLastPlaces h (weight (w .coefficients)) (rootContraction h w) (displacement w (rootResidual f h))
+
+abbrev pub rootCertificate : RootRule → Model → Model → Model → Certificate
+rootCertificate byDiscriminant f h w =
+    let m = rootContraction h w in
+    let n = rootResidual f h in
+    let b = displacement w n in
+    makeCertificate (rootModel h m b) m n b
+
+unfoldable pub rootOutcome : RootRule → ℕ → Model → Model → Model → Outcome Certificate
+rootOutcome rule len f h w = outcome (rootTestPlaces rule len f h w) (rootCertificate rule f h w) zeroCertificate
+
+-- the entry's definition. "A candidate is a model without a radius (taken as 0)."
+abbrev pub rootTest : ℕ → Model → Candidate → Candidate → Outcome Certificate
+rootTest len f h w = rootOutcome byDiscriminant len f (candidateModel h) (candidateModel w)
