@@ -195,7 +195,7 @@ uint32_t ferruntzo_evaluate(const int32_t *a, size_t a_len,
    coefficients are rounded to the nearest unit, a tie towards plus infinity, and
    the radius is the sum of the absolute rounding differences, rounded up.  The
    degree stays, even if top coefficients become zero.  Accepted: at every x from
-   -1 to 1 out allows the exact value of the series.  Some 9 kB of stack.
+   -1 to 1 out allows the exact value of the series.  About 11.5 kB of stack.
    Sizes: series 34, out 35.  Refused: out is zero, if it has its 35 numbers.
    Refusals: 1 (series or out), 14, 3 (a weight near 2^28 can pass it by rounding). */
 uint32_t ferruntzo_from_series(const int32_t *series, size_t series_len,
