@@ -1,1 +1,2 @@
+pub mod MultipleWalk
 pub mod TableTest

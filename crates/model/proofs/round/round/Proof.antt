@@ -63,9 +63,6 @@ module _ (s : tie.Start Inv-loop μ-loop) where
   bounded : {out : List ℤ} {total loss k : ℕ} → Walk d cs (weight (drop n all)) out total loss k → (total < 2 ^ 62) × (loss < 2 ^ 62)
   bounded w = let h = small two w in omega (arith, weight-split n all, s .pre .light)
 
-weigh-requires : tie.Need-weigh-requires Inv-loop μ-loop
-weigh-requires c κs = let s = c .before in rw (rest-is s) (omega (arith, weight-drop (n s) (all s), s .pre))
-
 loop-holds : tie.Need-loop-holds Inv-loop μ-loop
 loop-holds c =
     let s = c .before .before in
@@ -97,17 +94,14 @@ module _ (c : tie.After-near Inv-loop μ-loop) where
   fits-q : SFits w64 q
   fits-q = record { sfits = c .near .ok }
 
-  x-small : natAbs x < 2 ^ 62
-  x-small = omega (arith, weight-at (all s) k, s .pre .light)
-
   fits-product : SFits w64 (u s *ℤ q)
-  fits-product = abs-fits w64 (u s *ℤ q) (omega (arith, ap (λ (z : ℤ). natAbs (u s *ℤ z)) q-is, product-small (d s) (two s) x, ap (λ (z : ℤ). natAbs (z *ℤ roundedAt (d s) x)) (unit-is s), x-small))
+  fits-product = abs-fits w64 (u s *ℤ q) (omega (arith, ap (λ (z : ℤ). natAbs (u s *ℤ z)) q-is, product-small (d s) (two s) x, ap (λ (z : ℤ). natAbs (z *ℤ roundedAt (d s) x)) (unit-is s), weight-at (all s) k, s .pre .light))
 
   loss-is : natAbs (x -ℤ u s *ℤ q) ≡ lossAt (d s) x
   loss-is = ap₂ (λ (y z : ℤ). natAbs (x -ℤ y *ℤ z)) (unit-is s) q-is
 
   fits-loss : SFits w64 (x -ℤ u s *ℤ q)
-  fits-loss = abs-fits w64 (x -ℤ u s *ℤ q) (omega (arith, loss-is, loss-small (d s) (two s) x, x-small))
+  fits-loss = abs-fits w64 (x -ℤ u s *ℤ q) (omega (arith, loss-is, loss-small (d s) (two s) x, weight-at (all s) k, s .pre .light))
 
   after : (m n : ℕ) (out : List ℤ) → m ≡ natAbs q → n ≡ lossAt (d s) x → (l .loop .weight + m ≤ maxWeight → out ≡ set (l .loop .coefficients) k q)
       → Walk (d s) (cs s) (weight (drop (s .args .kept) (all s))) out (l .loop .weight + m) (l .loop .loss + n) (k + 1)
@@ -116,9 +110,6 @@ module _ (c : tie.After-near Inv-loop μ-loop) where
 
 lost : (m : tie.After-magnitude Inv-loop μ-loop) → m .magnitude .result ≡ lossAt (d (s (m .before))) (x (m .before))
 lost m = let c = m .before in (simp (toZ-ofZ (fits-x c), toZ-ofZ (fits-q c), toZ-ofZ (fits-product c), toZ-ofZ (fits-loss c)) at (m .magnitude .ensures)) ∙ loss-is c
-
-add-loss : tie.Need-add-loss Inv-loop μ-loop
-add-loss m = let c = m .before in omega (arith, bounded (s c) (after c (natAbs (q c)) (m .magnitude .result) _ refl (lost m) (λ _. refl)) .1)
 
 module _ (r : tie.After-magnitude2 Inv-loop μ-loop) where
   abbrev c : tie.After-near Inv-loop μ-loop
@@ -148,9 +139,10 @@ pub round-spec : {M : Type 1} → statement M
 round-spec =
     tie.close (tie.spec
     Inv-loop μ-loop (λ c. search signed-needs) (λ c. search signed-needs) (λ c. search signed-needs) (λ c. search signed-needs)
-    weigh-requires loop-holds (λ c. search signed-needs) (λ c. omega (arith, c .before .before .before .before .pre))
+    (λ c κs. let s = c .before in rw (rest-is s) (omega (arith, weight-drop (n s) (all s), s .pre))) loop-holds (λ c. search signed-needs) (λ c. omega (arith, c .before .before .before .before .pre))
     (λ c κs. let s = c .before .before .before .before .before in rw (same-unit s) (s .pre .positive)) (λ c. simp (toZ-ofZ (fits-q c)) (fits-product c))
-    (λ c. simp (toZ-ofZ (fits-x c), toZ-ofZ (fits-q c), toZ-ofZ (fits-product c)) (fits-loss c)) (λ c κs. tt) add-loss
+    (λ c. simp (toZ-ofZ (fits-x c), toZ-ofZ (fits-q c), toZ-ofZ (fits-product c)) (fits-loss c)) (λ c κs. tt)
+    (λ m. let c = m .before in omega (arith, bounded (s c) (after c (natAbs (q c)) (m .magnitude .result) _ refl (lost m) (λ _. refl)) .1))
     (λ c κs. tt) add-weight (λ t. simp (toZ-ofZ (fits-q (c (t .before)))) (narrows (t .before) (t .if1 .taken)))
     (λ c. search signed-needs) (λ c. search signed-needs) (λ c. search signed-needs) (λ c. search signed-needs) loop-again
     returns)
