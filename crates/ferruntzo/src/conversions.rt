@@ -7,12 +7,13 @@ ghost use Rattle.ferruntzo.specs.definitions.Conversions.{seriesSize, ar
 use crate::areas::candidate_in;
 use crate::operations::answer_operation;
 use crate::operations::refuse_operation;
+use model::area::CANDIDATE_SIZE;
 use model::area::MODEL_SIZE;
 use series::convert::from_series;
 use series::types::Series;
 
 // As many numbers as a candidate has.
-const SERIES_SIZE: usize = 34;
+const SERIES_SIZE: usize = CANDIDATE_SIZE;
 
 // The series in an area.
 fn series_in(area: &[i32]) -> Series

@@ -10,7 +10,8 @@ use Rattle.integer.specs.laws.Filling as Filling
 use Rattle.chebyshev.specs.definitions.Coefficients.{weight}
 use Rattle.chebyshev.specs.laws.Weight.{weight-step, weight-end}
 use Rattle.model.specs.definitions.Models.{coefficientCount, maxWeight}
-use Rattle.model.specs.definitions.Round.{rounded, roundingLoss, RoundedFrom}
+use Rattle.model.specs.definitions.InnerContracts.{RoundedFrom}
+use Rattle.model.specs.definitions.Round.{rounded, roundingLoss}
 use Rattle.model.specs.laws.RoundingPassLaws.{roundedAt, lossAt, rounded-length, rounded-at, rounded-weight, loss-step, loss-end, loss-weight}
 
 -- k of the numbers are rounded: their weight and their loss in rest form, with `dropped` lost besides; they are written as

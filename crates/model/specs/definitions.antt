@@ -1,9 +1,9 @@
 pub mod Models
 pub mod Outcomes
+pub mod Round
 pub mod InnerContracts
 pub mod Area
 pub mod Allowed
-pub mod Round
 pub mod Load
 pub mod Add
 pub mod Multiply

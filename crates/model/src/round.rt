@@ -1,7 +1,6 @@
 // A list of whole numbers over one divisor, rounded, with what the rounding and the dropped numbers lose.
-ghost use mathlib.Core.Path.{_≡_};
 ghost use lib.IntN.{natAbs};
-ghost use Rattle.model.specs.definitions.Round.{Roundable, RoundedFrom};
+ghost use Rattle.model.specs.definitions.InnerContracts.{Roundable, RoundedFrom};
 use crate::measure::weigh;
 use crate::types::COEFFICIENTS;
 use crate::types::Model;

@@ -12,7 +12,7 @@ use Rattle.integer.specs.definitions.Integer.{ℤ-ring}
 use Rattle.integer.specs.laws.Filling.{Filling, begins, turn, skip, next, ends}
 use Rattle.chebyshev.specs.definitions.Coefficients.{addLists, scaleList}
 use Rattle.chebyshev.specs.laws.CoefficientLaws.{length-add, length-scale, getD-add, getD-scale, add-split}
-use Rattle.series.specs.definitions.Convert.{Addable}
+use Rattle.series.specs.definitions.InnerContracts.{Addable}
 
 -- the places of the row in sums + p·row
 abbrev pub filled : List ℤ → ℤ → List ℤ → List ℤ

@@ -12,7 +12,7 @@ use Rattle.integer.specs.definitions.Integer.{ℤ-ring}
 use Rattle.integer.specs.definitions.Rounding.{floor}
 use Rattle.chebyshev.specs.definitions.Coefficients.{scaleList}
 use Rattle.chebyshev.specs.definitions.Neighbours.{neighbourSums}
-use Rattle.model.specs.definitions.Models.{maxDegree, coefficientCount}
+use Rattle.model.specs.definitions.Models.{maxDegree}
 use Rattle.series.specs.definitions.Table.{expansionUnit, expansionRow, rowsFrom, expansionTable}
 use Rattle.series.specs.laws.RowLaws.{halves-of-twice}
 

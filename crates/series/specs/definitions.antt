@@ -1,3 +1,4 @@
 pub mod Table
 pub mod Convert
 pub mod SeriesValue
+pub mod InnerContracts

@@ -1,14 +1,12 @@
 // A model from a power series: the powers expanded in T_0 to T_32 by the table, and the sums rounded.
 ghost use mathlib.Core.Path.{_≡_};
 ghost use mathlib.Core.Bool.{true};
-ghost use Prim.Native.Nat.{_+_, _*_, _^_, _<_, _≤_};
-ghost use lib.IntN.{natAbs};
-ghost use lib.ListN.{length};
 ghost use Rattle.integer.specs.definitions.Integer.{ℤ-ring};
-ghost use Rattle.chebyshev.specs.definitions.Coefficients.{weight, addLists, scaleList};
+ghost use Rattle.chebyshev.specs.definitions.Coefficients.{addLists, scaleList};
 ghost use Rattle.model.specs.definitions.InnerContracts.{unlessLarge};
 ghost use Rattle.model.specs.definitions.Outcomes.{outcomeOf};
-ghost use Rattle.series.specs.definitions.Convert.{Addable, Expandable, goodSeries, expandedFrom, seriesModel, conversion};
+ghost use Rattle.series.specs.definitions.Convert.{goodSeries, expandedFrom, seriesModel, conversion};
+ghost use Rattle.series.specs.definitions.InnerContracts.{Addable, Expandable};
 use crate::table::expansion_table;
 use crate::types::Series;
 use integer::rounding::up_unsigned;

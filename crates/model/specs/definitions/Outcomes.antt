@@ -1,4 +1,5 @@
--- What an entry answers: it accepts with its values, or refuses with a number of document 01's table "Refused, and where".
+-- What an entry answers: it accepts with its values, or refuses with a number of document 01's table "Refused, and where", to which
+-- the change requests of document 02 add theirs.
 use mathlib.Core.Path.{_≡_}
 use mathlib.Core.Bool.{Bool, true, false, cond}
 use mathlib.Core.List.{List, [], _∷_}
@@ -51,7 +52,7 @@ outcome ps a z = passing ps (accepted a) (λ n. refused n z)
 
 -- ---- what the code's answers mean
 
--- the numbers of the table
+-- the numbers of the table, and 14 of request S-3
 abbrev pub numberOf : Refusal → ℕ
 numberOf ShortArea = 1
 numberOf BadModel = 2

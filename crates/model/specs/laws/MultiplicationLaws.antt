@@ -8,11 +8,11 @@ use borrow.Author.Tests.{le-leb, ne-eqb}
 use Rattle.integer.specs.definitions.Rounding.{upℕ}
 use Rattle.chebyshev.specs.definitions.Coefficients.{weight}
 use Rattle.chebyshev.specs.laws.Weight.{weight-append-zeros}
-use Rattle.model.specs.definitions.InnerContracts.{formedOutcome, unlessLarge}
+use Rattle.model.specs.definitions.InnerContracts.{RoundedFrom, formedOutcome, unlessLarge}
 use Rattle.model.specs.definitions.Models.{scale, coefficientCount, maxDegree, good}
 use Rattle.model.specs.definitions.Outcomes.{passing}
 use Rattle.model.specs.definitions.Multiply.{keptDegree, productDegree, productList, productLoss, productModel, multiplication}
-use Rattle.model.specs.definitions.Round.{rounded, RoundedFrom}
+use Rattle.model.specs.definitions.Round.{rounded}
 use Rattle.model.specs.laws.FormedLaws.{formed-is}
 use Rattle.model.specs.declared.types.Model.{Model}
 use Rattle.model.specs.declared.round.Rounded.{Rounded}

@@ -1,8 +1,8 @@
 -- Add, subtract and multiply are sound: what the operands allow at x, added, subtracted or multiplied, the result allows at x.
-use mathlib.Core.Path.{_≡_, refl, subst}
+use mathlib.Core.Path.{_≡_, subst}
 use mathlib.Core.Bool.{true}
 use mathlib.Core.List.{List, [], _∷_}
-use Prim.Native.Nat.{ℕ, zero, suc, _+_, _*_, _-_}
+use Prim.Native.Nat.{ℕ, suc, _+_, _*_, _-_}
 use native.Mathlib.Omega.{arith}
 use lib.IntN.{ℤ, pos}
 use lib.ListN.{take, drop}
@@ -13,7 +13,7 @@ use Rattle.integer.specs.definitions.Fraction.{ℚ, whole, _+ℚ_, _-ℚ_, -ℚ
 use Rattle.integer.specs.laws.FractionSolver.{reifyℚ, solveℚ}
 use Rattle.integer.specs.laws.FractionOrder.{ℚ-ordered}
 use Rattle.integer.specs.laws.FractionRounding.{natural-add, natural-mul, up-bound}
-use Rattle.chebyshev.specs.definitions.Coefficients.{weight, addLists, subtractLists, scaleList}
+use Rattle.chebyshev.specs.definitions.Coefficients.{weight, scaleList}
 use Rattle.chebyshev.specs.definitions.Allows.{allows}
 use Rattle.model.specs.definitions.Models.{scale, coefficientCount, good}
 use Rattle.model.specs.definitions.Add.{sumModel, differenceModel, addition, subtraction}

@@ -15,7 +15,8 @@ use Rattle.integer.specs.laws.RoundingLaws.{near-closer}
 use Rattle.integer.specs.laws.RoundingSize.{near-size}
 use Rattle.chebyshev.specs.definitions.Coefficients.{weight, addLists, scaleList, subtractLists}
 use Rattle.chebyshev.specs.laws.Weight.{weight-split}
-use Rattle.model.specs.definitions.Round.{rounded, roundingLoss, RoundedFrom}
+use Rattle.model.specs.definitions.InnerContracts.{RoundedFrom}
+use Rattle.model.specs.definitions.Round.{rounded, roundingLoss}
 use Rattle.model.specs.declared.round.Rounded.{Rounded}
 
 -- one number: c = near(C/d), and |C − d·c|

@@ -1,12 +1,11 @@
 -- Document 02, S-3: "Clinics own stocks of paths as power series, Σ p_k·x^k with k up to 32, p_k in units and weight at most
 -- 2^28. A converter shall make models of them."
-use mathlib.Core.Path.{_≡_}
 use mathlib.Core.Bool.{Bool, not, _&&_}
 use mathlib.Core.List.{List, [], _∷_, _++_}
-use Prim.Native.Nat.{ℕ, suc, _+_, _*_, _-_, _^_, _<_, _≤_}
+use Prim.Native.Nat.{ℕ, suc, _-_}
 use lib.Dec.{leb, eqb}
-use lib.IntN.{ℤ, pos, natAbs}
-use lib.ListN.{length, getD, replicate, take, drop}
+use lib.IntN.{ℤ, pos}
+use lib.ListN.{replicate, take, drop}
 use Rattle.integer.specs.definitions.Integer.{ℤ-ring}
 use Rattle.integer.specs.definitions.Rounding.{upℕ}
 use Rattle.chebyshev.specs.definitions.Coefficients.{weight, addLists, scaleList}
@@ -14,7 +13,7 @@ use Rattle.model.specs.definitions.Models.{maxDegree, maxWeight, coefficientCou
 use Rattle.model.specs.definitions.Outcomes.{Outcome, outcome}
 use Rattle.model.specs.definitions.Round.{rounded, roundingLoss}
 use Rattle.model.specs.declared.types.Model.{Model}
-use Rattle.series.specs.definitions.Table.{expansionUnit, expansionRow, expansionTable}
+use Rattle.series.specs.definitions.Table.{expansionUnit, expansionRow}
 use Rattle.series.specs.declared.types.Series.{Series}
 
 -- the coefficients up to the degree, and those beyond it
@@ -52,19 +51,3 @@ conversionPlaces s = (not (goodSeries s), 14) ∷ largePlace (seriesModel s) ∷
 
 unfoldable pub conversion : Series → Outcome Model
 conversion s = outcome (conversionPlaces s) (seriesModel s) zeroModel
-
--- ---- what the code asks inside
-
--- room for the sums, so many powers, and the table
-pub record Expandable (sums ps table : List ℤ) : Type 0 where
-  pub few : length ps ≤ coefficientCount
-  pub room : length ps ≤ length sums
-  pub light : weight sums + expansionUnit * weight ps < 2 ^ 63
-  pub table-is : table ≡ expansionTable
-
--- the sums, and a row of which every other entry, the last but one among them, is zero
-pub record Addable (sums : List ℤ) (p : ℤ) (row : List ℤ) : Type 0 where
-  pub short : length row ≤ coefficientCount
-  pub room : length row ≤ length sums
-  pub light : weight sums + natAbs p * weight row < 2 ^ 63
-  pub alternate : (i m : ℕ) → suc (suc i) + 2 * m ≡ length row → getD row i (pos 0) ≡ pos 0

@@ -14,7 +14,7 @@ abbrev pub expansionUnit : ℕ
 expansionUnit = 2 ^ 32
 
 -- The weights of T_0..T_k in x^k, times 2^32: row 0 is 2^32, and twice the next row is the sums of the neighbours. "all whole
--- numbers": the halves are exact up to row 32 (`rows-exact`, TableLaws.antt).
+-- numbers": the halves are exact up to row 32 (`row-twice`, RowLaws.antt).
 unfoldable pub expansionRow : ℕ → List ℤ
 expansionRow zero = pos expansionUnit ∷ []
 expansionRow (suc k) = map (λ n. floor n 2) (neighbourSums ℤ-ring (expansionRow k))

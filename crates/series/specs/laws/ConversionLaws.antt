@@ -3,7 +3,7 @@
 use mathlib.Core.Path.{_≡_, refl, sym, _∙_, ap, ap₂}
 use mathlib.Core.Bool.{true, false}
 use mathlib.Core.List.{List, [], _∷_, _++_}
-use Prim.Native.Nat.{ℕ, zero, suc, _+_, _-_, _*_, _<_, _≤_, max}
+use Prim.Native.Nat.{ℕ, zero, suc, _+_, _-_, _*_, _<_, _≤_}
 use native.Mathlib.Omega.{arith}
 use native.Mathlib.Numerals.{add-one}
 use native.Mathlib.Nat.{mul-le-mul}
@@ -16,10 +16,10 @@ use Rattle.chebyshev.specs.laws.CoefficientLaws.{length-add, length-scale}
 use Rattle.chebyshev.specs.laws.Weight.{weight-add, weight-scale, weight-append-zeros, weight-end}
 use Rattle.integer.specs.definitions.Rounding.{upℕ}
 use Rattle.model.specs.definitions.Area.{Storable}
-use Rattle.model.specs.definitions.InnerContracts.{formedOutcome, unlessLarge}
+use Rattle.model.specs.definitions.InnerContracts.{RoundedFrom, formedOutcome, unlessLarge}
 use Rattle.model.specs.definitions.Models.{maxDegree, coefficientCount, makeModel, zeroModel, good}
 use Rattle.model.specs.definitions.Outcomes.{refused, payload, passing}
-use Rattle.model.specs.definitions.Round.{rounded, roundingLoss, RoundedFrom}
+use Rattle.model.specs.definitions.Round.{rounded, roundingLoss}
 use Rattle.model.specs.laws.FormedLaws.{formed-is}
 use Rattle.model.specs.laws.ModelLaws.{Good, good-is}
 use Rattle.model.specs.laws.ResultLaws.{stored}
@@ -34,7 +34,7 @@ use Rattle.series.specs.laws.RowLaws.{length-row, weight-row}
 drop-front : (a b : List ℤ) (n m : ℕ) → n ≡ length a + m → drop n (a ++ b) ≡ drop m b
 drop-front a b n m h = rw h (drop-append-add a b m)
 
-row-in : (n k i : ℕ) → i < n → k + n ≤ coefficientCount → take (suc (k + i)) (drop (33 * i) (rowsFrom n k)) ≡ expansionRow (k + i)
+row-in : (n k i : ℕ) → i < n → k + n ≤ coefficientCount → take (suc (k + i)) (drop (coefficientCount * i) (rowsFrom n k)) ≡ expansionRow (k + i)
 row-in zero k i h b = absurd (omega arith)
 row-in (suc n) k zero h b =
     let e : k + 0 ≡ k = omega arith in
@@ -44,22 +44,22 @@ row-in (suc n) k (suc i) h b =
     let e : k + suc i ≡ suc k + i = omega arith in
     rw (
       e,
-      drop-front (expansionRow k) (z ++ rowsFrom n (suc k)) (33 * suc i) (maxDegree - k + 33 * i) (omega (arith, length-row k)),
-      drop-front z (rowsFrom n (suc k)) (maxDegree - k + 33 * i) (33 * i) (omega (arith, length-replicate (maxDegree - k) (pos 0))),
+      drop-front (expansionRow k) (z ++ rowsFrom n (suc k)) (coefficientCount * suc i) (maxDegree - k + coefficientCount * i) (omega (arith, length-row k)),
+      drop-front z (rowsFrom n (suc k)) (maxDegree - k + coefficientCount * i) (coefficientCount * i) (omega (arith, length-replicate (maxDegree - k) (pos 0))),
     )
     (row-in n (suc k) i (omega arith) (omega arith))
 
-pub row-in-table : (k : ℕ) → k ≤ maxDegree → take (suc k) (drop (33 * k) expansionTable) ≡ expansionRow k
+pub row-in-table : (k : ℕ) → k ≤ maxDegree → take (suc k) (drop (coefficientCount * k) expansionTable) ≡ expansionRow k
 unfolding expansionTable
 row-in-table k h =
     let e : 0 + k ≡ k = omega arith in
     rw e at (row-in coefficientCount 0 k (omega arith) (omega arith))
 
-pub length-table : length expansionTable ≡ 33 * 33
+pub length-table : length expansionTable ≡ coefficientCount * coefficientCount
 unfolding expansionTable
 length-table = from coefficientCount 0 (omega arith)
   where
-    from : (n k : ℕ) → k + n ≤ coefficientCount → length (rowsFrom n k) ≡ 33 * n
+    from : (n k : ℕ) → k + n ≤ coefficientCount → length (rowsFrom n k) ≡ coefficientCount * n
     from zero k h = refl
     from (suc n) k h =
         rw (length-append, length-append, length-replicate) (omega (arith, length-row k, from n (suc k) (omega arith)))

@@ -9,11 +9,10 @@ use lib.ListN.{length, take}
 use lib.Seq.{length-take-le}
 use Rattle.integer.specs.definitions.Rounding.{upℕ}
 use Rattle.chebyshev.specs.laws.Weight.{weight-take}
-use Rattle.model.specs.definitions.InnerContracts.{formedOutcome}
+use Rattle.model.specs.definitions.InnerContracts.{RoundedFrom, formedOutcome}
 use Rattle.model.specs.definitions.Models.{scale}
 use Rattle.model.specs.laws.ModelLaws.{Good, good-is}
 use Rattle.model.specs.definitions.Multiply.{productDegree, productList}
-use Rattle.model.specs.definitions.Round.{RoundedFrom}
 use Rattle.model.specs.laws.GoodLaws.{weight-productList}
 use Rattle.model.specs.laws.MultiplicationLaws.{kept-is, radiusLoss, product-formed}
 use Rattle.model.specs.laws.RoundingPassLaws.{rounded-loss}

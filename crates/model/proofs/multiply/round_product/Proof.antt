@@ -8,6 +8,7 @@ use native.Mathlib.Nat.{mul-le-mul}
 use lib.IntN.{ℤ}
 use lib.ListN.{length, take}
 use lib.Seq.{length-take-le}
+use lib.Signed.{ltZ-yes}
 use Rattle.integer.specs.definitions.Integer.{ℤ-ring}
 use Rattle.chebyshev.specs.definitions.Coefficients.{weight}
 use Rattle.chebyshev.specs.laws.Weight.{weight-take, weight-zeros}
@@ -50,8 +51,12 @@ slice-aggregate-round c = let s = c .before .before .before .before in rw (forme
 round-requires : tie.Need-round-requires
 round-requires c κs =
     let s = c .before .before .before .before in
-    rw (formed (c .before .before))
-    (omega (arith, prefix-length s, weight-take (end s) (C s), weight-product productSize (a s) (b s), weights s, s .pre))
+    rw (formed (c .before .before)) (record {
+      kept-fits = omega (arith, s .pre);
+      there = omega (arith, prefix-length s, s .pre);
+      light = omega (arith, weight-take (end s) (C s), weight-product productSize (a s) (b s), weights s);
+      divides = ltZ-yes tt;
+    })
 
 returns : tie.Need-returns
 returns c =

@@ -11,7 +11,7 @@ use lib.Seq.{length-take-le, getD-take, take-all}
 use mir.Syntax.{w64, w32}
 use mir.Val.{SFits, toZ, ofZ}
 use mir.Facts.{toZ-ofZ}
-use Rattle.integer.specs.laws.Machine.{signed-needs, abs-fits, is-positive, positive-is}
+use Rattle.integer.specs.laws.Machine.{signed-needs, abs-fits, is-positive, above-one, positive-is}
 use Rattle.chebyshev.specs.definitions.Coefficients.{weight}
 use Rattle.chebyshev.specs.laws.Weight.{weight-at, weight-drop, weight-split}
 use Rattle.model.specs.definitions.Models.{maxWeight}
@@ -48,10 +48,10 @@ module _ (s : tie.Start Inv-loop μ-loop) where
   same-unit = toZ-ofZ (s .fits .unit)
 
   unit-is : u ≡ pos d
-  unit-is = positive-is u (rw same-unit (is-positive (s .args .unit) (s .pre .positive)))
+  unit-is = positive-is u (rw same-unit (is-positive (s .args .unit) (above-one (s .args .unit) (s .pre .divides) .0)))
 
   two : 2 ≤ d
-  two = rw same-unit (s .pre .large)
+  two = rw same-unit (above-one (s .args .unit) (s .pre .divides) .1)
 
   cs-length : length cs ≡ n
   cs-length = length-take-le n all (s .pre .there)
@@ -140,7 +140,7 @@ round-spec =
     tie.close (tie.spec
     Inv-loop μ-loop (λ c. search signed-needs) (λ c. search signed-needs) (λ c. search signed-needs) (λ c. search signed-needs)
     (λ c κs. let s = c .before in rw (rest-is s) (omega (arith, weight-drop (n s) (all s), s .pre))) loop-holds (λ c. search signed-needs) (λ c. omega (arith, c .before .before .before .before .pre))
-    (λ c κs. let s = c .before .before .before .before .before in rw (same-unit s) (s .pre .positive)) (λ c. simp (toZ-ofZ (fits-q c)) (fits-product c))
+    (λ c κs. let s = c .before .before .before .before .before in rw (same-unit s) (above-one (s .args .unit) (s .pre .divides) .0)) (λ c. simp (toZ-ofZ (fits-q c)) (fits-product c))
     (λ c. simp (toZ-ofZ (fits-x c), toZ-ofZ (fits-q c), toZ-ofZ (fits-product c)) (fits-loss c)) (λ c κs. tt)
     (λ m. let c = m .before in omega (arith, bounded (s c) (after c (natAbs (q c)) (m .magnitude .result) _ refl (lost m) (λ _. refl)) .1))
     (λ c κs. tt) add-weight (λ t. simp (toZ-ofZ (fits-q (c (t .before)))) (narrows (t .before) (t .if1 .taken)))

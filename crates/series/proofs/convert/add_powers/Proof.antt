@@ -1,14 +1,12 @@
 -- `convert::add_powers` meets its contract: after k turns the first k powers are expanded.
-use borrow.Author.Needs.{needs}
-use mathlib.Core.Path.{_≡_, refl, sym, _∙_, ap, ap₂}
+use mathlib.Core.Path.{_≡_, refl, sym, _∙_, ap}
 use mathlib.Core.List.{List}
 use Prim.Native.Nat.{ℕ, suc, _+_, _-_, _*_, _<_, _≤_}
 use native.Mathlib.Omega.{arith}
-use native.Mathlib.Numerals.{add-one}
-use lib.IntN.{ℤ, pos, natAbs}
+use lib.IntN.{ℤ, pos}
 use lib.ListN.{length, getD, take, drop}
-use mir.Syntax.{w32, w64}
-use mir.Val.{SFits, toZ, ofZ}
+use mir.Syntax.{w32}
+use mir.Val.{SFits}
 use mir.Facts.{toZ-ofZ}
 use Rattle.integer.specs.definitions.Integer.{ℤ-ring}
 use Rattle.integer.specs.laws.Machine.{signed-needs, fits-widens}
@@ -16,8 +14,9 @@ use Rattle.chebyshev.specs.definitions.Coefficients.{weight, addLists, scaleLis
 use Rattle.chebyshev.specs.laws.CoefficientLaws.{length-add, length-scale, add-nil, addLists-assoc}
 use Rattle.chebyshev.specs.laws.Weight.{weight-add, weight-step, weight-scale}
 use Rattle.model.specs.definitions.Models.{maxDegree}
-use Rattle.series.specs.definitions.Table.{expansionUnit, expansionRow, expansionTable}
-use Rattle.series.specs.definitions.Convert.{expandedFrom, Expandable}
+use Rattle.series.specs.definitions.Table.{expansionUnit, expansionRow}
+use Rattle.series.specs.definitions.Convert.{expandedFrom}
+use Rattle.series.specs.definitions.InnerContracts.{Expandable}
 use Rattle.series.specs.laws.RowLaws.{length-row, row-alternate}
 use Rattle.series.specs.laws.ConversionLaws.{row-in-table, length-table, expanded-step, expanded-end, multiple-weight}
 use Rattle.series.proofs.convert.add_powers.Statement.{statement}

@@ -1,12 +1,12 @@
 -- `convert::convert_good` meets its contract.
 use borrow.Author.Needs.{needs}
-use mathlib.Core.Path.{_≡_, refl, sym, _∙_, ap}
+use mathlib.Core.Path.{_≡_, sym, _∙_, ap}
 use mathlib.Core.List.{List}
-use Prim.Native.Nat.{ℕ, suc, _+_, _*_, _^_, _<_, _≤_}
+use Prim.Native.Nat.{suc, _+_, _^_, _<_, _≤_}
 use native.Mathlib.Omega.{arith}
 use native.Mathlib.Numerals.{add-one}
-use lib.IntN.{ℤ, pos}
-use lib.ListN.{length, take, replicate}
+use lib.IntN.{ℤ}
+use lib.ListN.{length, take}
 use lib.Seq.{length-take-le}
 use lib.Signed.{ltZ-yes}
 use Rattle.chebyshev.specs.definitions.Coefficients.{weight}
@@ -14,7 +14,7 @@ use Rattle.chebyshev.specs.laws.Weight.{weight-take, weight-zeros}
 use Rattle.model.specs.definitions.InnerContracts.{formedOutcome}
 use Rattle.model.specs.definitions.Models.{makeModel}
 use Rattle.model.specs.laws.ModelLaws.{Good}
-use Rattle.series.specs.definitions.Convert.{powers, expanded, expandedFrom}
+use Rattle.series.specs.definitions.Convert.{powers, expandedFrom}
 use Rattle.series.specs.laws.ConversionLaws.{limits, length-expanded, weight-expanded, from-zeros, series-formed}
 use Rattle.series.specs.declared.types.Series.{Series}
 use Rattle.series.proofs.convert.convert_good.Statement.{statement}
@@ -84,8 +84,7 @@ round-requires c κs =
       kept-fits = omega (arith, within (start d));
       there = omega (arith, first-sums d);
       light = rw (sums-are d) (light d);
-      positive = ltZ-yes tt;
-      large = omega arith;
+      divides = ltZ-yes tt;
     }
 
 returns : tie.Need-returns

@@ -1,7 +1,6 @@
 -- `convert::from_series` meets its contract.
 use borrow.Author.Needs.{needs}
 use mathlib.Core.Path.{_≡_, sym, _∙_}
-use mathlib.Core.Bool.{true, false}
 use Rattle.series.specs.definitions.Convert.{goodSeries}
 use Rattle.series.specs.laws.ConversionLaws.{series-good, conversion-of-good, conversion-of-bad}
 use Rattle.series.proofs.convert.from_series.Statement.{statement}
