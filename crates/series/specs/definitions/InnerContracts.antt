@@ -17,7 +17,6 @@ pub record Expandable (sums ps table : List ℤ) : Type 0 where
 
 -- the sums, and a row of which every other entry, the last but one among them, is zero
 pub record Addable (sums : List ℤ) (p : ℤ) (row : List ℤ) : Type 0 where
-  pub short : length row ≤ coefficientCount
   pub room : length row ≤ length sums
   pub light : weight sums + natAbs p * weight row < 2 ^ 63
   pub alternate : (i m : ℕ) → suc (suc i) + 2 * m ≡ length row → getD row i (pos 0) ≡ pos 0

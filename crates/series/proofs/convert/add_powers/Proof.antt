@@ -86,7 +86,6 @@ add-multiple-requires c κs =
     let b : k l ≤ maxDegree = omega (arith, l .before .pre .few) in
     rw (lent (k l) (l .before .pre) (omega arith))
     (simp (toZ-ofZ (fits-p c), toZ-ofZ (fits-widens (fits-p c))) (record {
-      short = omega (arith, length-row (k l), b);
       room = omega (arith, length-row (k l), l .loop .inv, l .before .pre);
       light =
           omega (arith, l .loop .inv, l .before .pre, weight-scale (p l) (expansionRow (k l)), multiple-weight (k l) (p l) b, weight-step (ps l) (k l) (omega arith));
