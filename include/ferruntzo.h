@@ -12,7 +12,8 @@
      cc -Iinclude program.c target/staticlib/libferruntzo.a
 
    examples/check_job.c is a program to copy, docs/FORMAT.md the format of
-   jobs.  "01" below is the scope document that fixes every number.
+   jobs.  "01" below is the scope document that fixes every number but those of
+   power series, which change request S-3 fixes.
 
    NUMBERS
 
@@ -102,7 +103,7 @@ extern "C" {
 #define FERRUNTZO_WORK_SIZE 1120      /* int32_t: 32 models */
 #define FERRUNTZO_ANSWER_SIZE 2       /* uint32_t: count, command */
 
-/* ---- Places inside a model area (a candidate's and a series' are the same) ---- */
+/* ---- Places inside a model area (also of a candidate and a series, which have no radius) ---- */
 
 #define FERRUNTZO_PLACE_DEGREE 0
 #define FERRUNTZO_PLACE_COEFFICIENTS 1  /* of a_0; a_k stands at 1 + k */
@@ -195,7 +196,9 @@ uint32_t ferruntzo_evaluate(const int32_t *a, size_t a_len,
    coefficients are rounded to the nearest unit, a tie towards plus infinity, and
    the radius is the sum of the absolute rounding differences, rounded up.  The
    degree stays, even if top coefficients become zero.  Accepted: at every x from
-   -1 to 1 out allows the exact value of the series.  About 11.5 kB of stack.
+   -1 to 1 out allows the exact value of the series.  The radius covers this
+   rounding only; docs/FORMAT.md says how the model becomes a load of a job.
+   About 11.5 kB of stack.
    Sizes: series 34, out 35.  Refused: out is zero, if it has its 35 numbers.
    Refusals: 1 (series or out), 14, 3 (a weight near 2^28 can pass it by rounding). */
 uint32_t ferruntzo_from_series(const int32_t *series, size_t series_len,

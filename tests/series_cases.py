@@ -210,7 +210,7 @@ def entry_shows(judged, k, j, change):
 
 
 def check_cases():
-    """The fixed cases are enough and sharp: they tell the oracle from a converter that cuts, from one that rounds ties downwards
+    """The fixed cases are enough, and they show each wrong rule: they tell the oracle from a converter that cuts, from one that rounds ties downwards
     and from one with an entry of the table one off; they have ties above and below zero at every degree from 2 on."""
     answers = [(s, o.from_series(s)) for (s,) in (c.inputs for c in fixed_from_series())]
     judged = [(s, sums(s), answer) for s, answer in answers if answer[0] != BAD_SERIES]
