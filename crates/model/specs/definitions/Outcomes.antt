@@ -1,5 +1,5 @@
--- What an entry answers: it accepts with its values, or refuses with a number of document 01's table "Refused, and where", to which
--- the change requests of document 02 add theirs.
+-- What an entry answers: it accepts with its values, or refuses with a number of document 01's table "Refused, and where", to
+-- which the change requests of document 02 add theirs.
 use mathlib.Core.Path.{_≡_}
 use mathlib.Core.Bool.{Bool, true, false, cond}
 use mathlib.Core.List.{List, [], _∷_}
