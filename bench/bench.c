@@ -31,10 +31,12 @@ typedef uint32_t root_entry(const int32_t *, size_t, const int32_t *, size_t,
                             int64_t *, size_t, int32_t *, size_t, uint64_t *, size_t);
 typedef uint32_t check_entry(const uint8_t *, size_t, int32_t *, size_t, int64_t *, size_t,
                              uint32_t *, size_t);
+typedef uint32_t from_series_entry(const int32_t *, size_t, int32_t *, size_t);
 multiply_entry plain2_multiply, plain3_multiply;
 quotient_entry plain2_quotient, plain3_quotient;
 root_entry plain2_root, plain3_root;
 check_entry plain2_check, plain3_check;
+from_series_entry plain2_from_series, plain3_from_series;
 
 struct version {
     const char *name;
@@ -42,26 +44,29 @@ struct version {
     quotient_entry *quotient;
     root_entry *root;
     check_entry *check;
+    from_series_entry *from_series;
 };
 
 enum { LIBRARY, PLAIN_O2, PLAIN_O3, FORMER, VERSIONS };
 
 static const struct version versions[VERSIONS] = {
-    {"library", ferruntzo_multiply, ferruntzo_quotient, ferruntzo_root, ferruntzo_check},
-    {"O2", plain2_multiply, plain2_quotient, plain2_root, plain2_check},
-    {"O3", plain3_multiply, plain3_quotient, plain3_root, plain3_check},
-    {"former", NULL, NULL, NULL, NULL},
+    {"library", ferruntzo_multiply, ferruntzo_quotient, ferruntzo_root, ferruntzo_check,
+     ferruntzo_from_series},
+    {"O2", plain2_multiply, plain2_quotient, plain2_root, plain2_check, plain2_from_series},
+    {"O3", plain3_multiply, plain3_quotient, plain3_root, plain3_check, plain3_from_series},
+    {"former", NULL, NULL, NULL, NULL, NULL},
 };
 
-enum kind { MULTIPLY, QUOTIENT, ROOT, CHECK };
+enum kind { MULTIPLY, QUOTIENT, ROOT, CHECK, FROM_SERIES };
 
-static const char *const kind_names[] = {"multiply", "quotient", "root", "check"};
+static const char *const kind_names[] = {"multiply", "quotient", "root", "check", "from_series"};
 
 struct bench_case {
     enum kind kind;
     char name[48];
     int32_t f[FERRUNTZO_MODEL_SIZE], g[FERRUNTZO_MODEL_SIZE];
     int32_t h[FERRUNTZO_CANDIDATE_SIZE], w[FERRUNTZO_CANDIDATE_SIZE];
+    int32_t series[FERRUNTZO_SERIES_SIZE];
     const uint8_t *job;
     size_t job_len;
     int with_former;
@@ -122,7 +127,7 @@ static void geometric(int32_t *model, int degree, double first, double term, dou
         model[1 + k] = (int32_t)lround(term * FERRUNTZO_S * pow(ratio, k));
 }
 
-/* Multiply, quotient and root with every polynomial of one degree. */
+/* Multiply, quotient, root and the conversion of a series, every polynomial of one degree. */
 static void add_degree(int degree)
 {
     struct bench_case *product = new_case(MULTIPLY, "multiply", degree);
@@ -150,6 +155,9 @@ static void add_degree(int degree)
     project(values, degree, root->h);
     project(inverse, degree, root->w);
     root->with_former = degree == FERRUNTZO_MAX_DEGREE;
+
+    struct bench_case *series = new_case(FROM_SERIES, "from_series", degree);
+    geometric(series->series, degree, 4.0, 0.8, -0.7);
 }
 
 static struct bench_case *add_job(const char *path)
@@ -220,6 +228,9 @@ static void call(int v, const struct bench_case *c)
     case ROOT:
         lent.number = version->root(WHOLE(c->f), WHOLE(c->h), WHOLE(c->w), WHOLE(lent.scratch),
                                     WHOLE(lent.out), WHOLE(lent.numbers));
+        break;
+    case FROM_SERIES:
+        lent.number = version->from_series(WHOLE(c->series), WHOLE(lent.out));
         break;
     case CHECK:
         lent.number = version->check(c->job, c->job_len, WHOLE(lent.work), WHOLE(lent.scratch),

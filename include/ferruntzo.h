@@ -2,8 +2,9 @@
 
    The library checks Chebyshev certificates.  Polynomials in the Chebyshev
    basis are added, subtracted, multiplied, integrated and evaluated with a
-   proved error radius; a proposed quotient or square root is accepted with a
-   proved radius or refused; and a whole job of such commands is checked.
+   proved error radius; models are made of power series; a proposed quotient or
+   square root is accepted with a proved radius or refused; and a whole job of
+   such commands is checked.
 
    Link with libferruntzo.a, which scripts/build_library makes (x86-64, System V
    calling convention):
@@ -11,7 +12,8 @@
      cc -Iinclude program.c target/staticlib/libferruntzo.a
 
    examples/check_job.c is a program to copy, docs/FORMAT.md the format of
-   jobs.  "01" below is the scope document that fixes every number.
+   jobs.  "01" below is the scope document that fixes every number but those of
+   power series, which change request S-3 fixes.
 
    NUMBERS
 
@@ -26,6 +28,11 @@
      | v - (a_0 T_0(x) + .. + a_n T_n(x)) / S |  <=  e / S.
 
    A candidate area holds 34 numbers: a model without its radius.
+
+   A series area holds 34 numbers: the degree n (0 to 32) and 33 coefficients
+   p_0 .. p_32, in units, of the power series (p_0 + p_1 x + .. + p_n x^n) / S.
+   Coefficients beyond the degree are zero, the weight |p_0| + .. + |p_32| is at
+   most 2^28.
 
    AREAS
 
@@ -71,9 +78,9 @@ extern "C" {
 /* ---- Version ---- */
 
 #define FERRUNTZO_VERSION_MAJOR 1
-#define FERRUNTZO_VERSION_MINOR 0
+#define FERRUNTZO_VERSION_MINOR 1
 #define FERRUNTZO_VERSION_PATCH 0
-#define FERRUNTZO_VERSION "1.0.0"
+#define FERRUNTZO_VERSION "1.1.0"
 
 /* ---- Limits ---- */
 
@@ -88,6 +95,7 @@ extern "C" {
 
 #define FERRUNTZO_MODEL_SIZE 35       /* int32_t: degree, coefficients, radius */
 #define FERRUNTZO_CANDIDATE_SIZE 34   /* int32_t: degree, coefficients */
+#define FERRUNTZO_SERIES_SIZE 34      /* int32_t: degree, coefficients of x^0 .. x^32 */
 #define FERRUNTZO_BOUNDS_SIZE 2       /* int64_t: low, high */
 #define FERRUNTZO_SCRATCH_SIZE 65     /* int64_t */
 #define FERRUNTZO_NUMBERS_SIZE 3      /* uint64_t: m, N, b */
@@ -95,7 +103,7 @@ extern "C" {
 #define FERRUNTZO_WORK_SIZE 1120      /* int32_t: 32 models */
 #define FERRUNTZO_ANSWER_SIZE 2       /* uint32_t: count, command */
 
-/* ---- Places inside a model area ---- */
+/* ---- Places inside a model area (also of a candidate and a series, which have no radius) ---- */
 
 #define FERRUNTZO_PLACE_DEGREE 0
 #define FERRUNTZO_PLACE_COEFFICIENTS 1  /* of a_0; a_k stands at 1 + k */
@@ -138,7 +146,8 @@ enum ferruntzo_refusal {
     FERRUNTZO_JOB_ENDS = 10,              /* the job ends inside a command or without an end */
     FERRUNTZO_BYTES_AFTER_END = 11,       /* bytes follow the end */
     FERRUNTZO_NOT_A_RESULT = 12,          /* a command names a result that is not there yet */
-    FERRUNTZO_TOO_MANY_RESULTS = 13       /* a 33rd result */
+    FERRUNTZO_TOO_MANY_RESULTS = 13,      /* a 33rd result */
+    FERRUNTZO_BAD_SERIES = 14             /* a series' degree, weight, or a nonzero beyond the degree */
 };
 
 /* ---- Plain operations on models ----
@@ -180,6 +189,20 @@ uint32_t ferruntzo_integrate(const int32_t *a, size_t a_len,
 uint32_t ferruntzo_evaluate(const int32_t *a, size_t a_len,
                             int32_t p,
                             int64_t *bounds, size_t bounds_len);
+
+/* ---- Power series ----
+
+   The model of a power series.  Each x^k is expanded in T_0 .. T_k, the
+   coefficients are rounded to the nearest unit, a tie towards plus infinity, and
+   the radius is the sum of the absolute rounding differences, rounded up.  The
+   degree stays, even if top coefficients become zero.  Accepted: at every x from
+   -1 to 1 out allows the exact value of the series.  The radius covers this
+   rounding only; docs/FORMAT.md says how the model becomes a load of a job.
+   About 11.5 kB of stack.
+   Sizes: series 34, out 35.  Refused: out is zero, if it has its 35 numbers.
+   Refusals: 1 (series or out), 14, 3 (a weight near 2^28 can pass it by rounding). */
+uint32_t ferruntzo_from_series(const int32_t *series, size_t series_len,
+                               int32_t *out, size_t out_len);
 
 /* ---- The two tests ----
 

@@ -3,6 +3,8 @@
 
 #include <string.h>
 
+#include "expansion_table.h"
+
 #define UNIT 1048576             /* S: one unit is 1/S */
 #define LIMIT 268435456          /* largest weight, radius and N */
 #define MAX_DEGREE 32
@@ -10,6 +12,7 @@
 #define RADIUS 34                /* place of the radius in a model area */
 #define MODEL_SIZE 35
 #define CANDIDATE_SIZE 34
+#define SERIES_SIZE 34
 #define BOUNDS_SIZE 2
 #define PRODUCT_SIZE 65          /* the list C */
 #define SCRATCH_SIZE PRODUCT_SIZE
@@ -18,11 +21,13 @@
 #define WORK_SIZE (MAX_RESULTS * MODEL_SIZE)
 #define ANSWER_SIZE 2
 #define DEFAULT_KEPT 255
+#define EXPANSION_UNIT ((int64_t)1 << 32)
 
 enum {
     SHORT_AREA = 1, BAD_MODEL = 2, LARGE_RESULT = 3, POINT_OUTSIDE = 4, NOT_CONTRACTING = 5,
     LARGE_RESIDUAL = 6, HELPER_NOT_POSITIVE = 7, NEGATIVE_DISCRIMINANT = 8, BAD_VALUE = 9,
-    JOB_ENDS = 10, BYTES_AFTER_END = 11, NOT_A_RESULT = 12, TOO_MANY_RESULTS = 13
+    JOB_ENDS = 10, BYTES_AFTER_END = 11, NOT_A_RESULT = 12, TOO_MANY_RESULTS = 13,
+    BAD_SERIES = 14
 };
 
 /* ---- Rounding and weights ---- */
@@ -177,6 +182,23 @@ static uint32_t evaluate(const int32_t *a, int32_t p, int64_t *bounds)
     return 0;
 }
 
+/* A series has the limits of a candidate. */
+static uint32_t from_series(const int32_t *series, int32_t *out)
+{
+    int64_t sums[COEFFICIENTS] = {0}, row[COEFFICIENTS], error = 0;
+    if (!good_candidate(series))
+        return BAD_SERIES;
+    int degree = series[0];
+    for (int k = 0; k <= degree; k++)
+        for (int j = 0; j <= k; j++)
+            sums[j] += series[1 + k] * expansion_table[k][j];
+    for (int j = 0; j <= degree; j++) {
+        row[j] = near(sums[j], EXPANSION_UNIT);
+        error += magnitude(sums[j] - EXPANSION_UNIT * row[j]);
+    }
+    return finish(degree, row, up(error, EXPANSION_UNIT), out);
+}
+
 /* ---- The two tests ---- */
 
 /* c := c - 2S f, over f's coefficients; c is zero above C's own degree. */
@@ -302,6 +324,14 @@ uint32_t plain_evaluate(const int32_t *a, size_t a_len, int32_t p,
     if (!CLEAR(bounds, BOUNDS_SIZE) || a_len < MODEL_SIZE)
         return SHORT_AREA;
     return evaluate(a, p, bounds);
+}
+
+uint32_t plain_from_series(const int32_t *series, size_t series_len,
+                           int32_t *out, size_t out_len)
+{
+    if (!CLEAR(out, MODEL_SIZE) || series_len < SERIES_SIZE)
+        return SHORT_AREA;
+    return from_series(series, out);
 }
 
 uint32_t plain_quotient(const int32_t *f, size_t f_len, const int32_t *g, size_t g_len,

@@ -1,6 +1,7 @@
 /* Plain C99 version of the library and job checker of document 01.
    A model area is 35 numbers: degree, 33 coefficients, radius.
-   A candidate area is 34 numbers: degree, 33 coefficients.
+   A candidate area is 34 numbers: degree, 33 coefficients; a series area has the
+   coefficients of x^0 to x^32.
    Every function gives the refusal's number, 0 when accepted.  Areas are left as
    include/ferruntzo.h says. */
 #ifndef PLAIN_H
@@ -20,6 +21,10 @@ uint32_t plain_integrate(const int32_t *a, size_t a_len, int32_t *out, size_t ou
 /* bounds: low, high. */
 uint32_t plain_evaluate(const int32_t *a, size_t a_len, int32_t p,
                         int64_t *bounds, size_t bounds_len);
+
+/* The model of a power series. */
+uint32_t plain_from_series(const int32_t *series, size_t series_len,
+                           int32_t *out, size_t out_len);
 
 /* numbers: m, N, b. */
 uint32_t plain_quotient(const int32_t *f, size_t f_len, const int32_t *g, size_t g_len,

@@ -7,6 +7,7 @@
 #define plain_multiply PREFIXED(PREFIX, multiply)
 #define plain_integrate PREFIXED(PREFIX, integrate)
 #define plain_evaluate PREFIXED(PREFIX, evaluate)
+#define plain_from_series PREFIXED(PREFIX, from_series)
 #define plain_quotient PREFIXED(PREFIX, quotient)
 #define plain_root PREFIXED(PREFIX, root)
 #define plain_check PREFIXED(PREFIX, check)

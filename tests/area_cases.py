@@ -7,14 +7,16 @@ import jobs
 from cases import Case
 from examples_of_01 import example_job
 from header import (
-    ACCEPTED, ANSWER_SIZE, BAD_MODEL, BAD_VALUE, BOUNDS_SIZE, BYTES_AFTER_END, CANDIDATE_SIZE,
-    HELPER_NOT_POSITIVE, JOB_ENDS, LARGE_RESIDUAL, LARGE_RESULT, MAX_DEGREE, MAX_RESULTS,
+    ACCEPTED, ANSWER_SIZE, BAD_MODEL, BAD_SERIES, BAD_VALUE, BOUNDS_SIZE, BYTES_AFTER_END,
+    CANDIDATE_SIZE, HELPER_NOT_POSITIVE, JOB_ENDS, LARGE_RESIDUAL, LARGE_RESULT, MAX_DEGREE, MAX_RESULTS,
     MODEL_SIZE, NEGATIVE_DISCRIMINANT, NOT_A_RESULT, NOT_CONTRACTING, NUMBERS_SIZE, POINT_OUTSIDE,
-    SCRATCH_SIZE, TOO_MANY_RESULTS, WORK_SIZE)
-from oracle import LIMIT, S, constant, model, term
+    SCRATCH_SIZE, SERIES_SIZE, TOO_MANY_RESULTS, WORK_SIZE)
+from oracle import LIMIT, S, constant, model, power, series, term
+from series_cases import GROWN
 
 # Areas of each entry: array type code, size in numbers, and what it is.
 MODEL_IN, CANDIDATE_IN = ('i', MODEL_SIZE, 'in'), ('i', CANDIDATE_SIZE, 'in')
+SERIES_IN = ('i', SERIES_SIZE, 'in')
 OUT, BOUNDS = ('i', MODEL_SIZE, 'out'), ('q', BOUNDS_SIZE, 'bounds')
 SCRATCH, NUMBERS = ('q', SCRATCH_SIZE, 'scratch'), ('Q', NUMBERS_SIZE, 'numbers')
 AREAS = {
@@ -26,6 +28,7 @@ AREAS = {
     'quotient': (MODEL_IN, MODEL_IN, CANDIDATE_IN, CANDIDATE_IN, SCRATCH, OUT, NUMBERS),
     'root': (MODEL_IN, CANDIDATE_IN, CANDIDATE_IN, SCRATCH, OUT, NUMBERS),
     'check': (('B', 0, 'job'), ('i', WORK_SIZE, 'work'), SCRATCH, ('I', ANSWER_SIZE, 'answer')),
+    'from_series': (SERIES_IN, OUT),
 }
 # What an entry answers in; each is zero after every refusal if it is itself long enough.
 ANSWERS = ('out', 'bounds', 'numbers', 'answer')
@@ -70,6 +73,8 @@ WITNESSES = {
         LARGE_RESULT: one_load(jobs.add(0, 0), loaded=MOST),
         BYTES_AFTER_END: example_job() + jobs.END,
     }.items()},
+    'from_series': {ACCEPTED: (series([S, -7, S // 3, 5]),), LARGE_RESULT: (GROWN[0],),
+                    BAD_SERIES: (power(MAX_DEGREE, LIMIT + 1),)},
 }
 
 

@@ -7,7 +7,8 @@
 
 Exits with 0 when all answers agree, 1 when any answer differs, 2 when something
 could not be built or run or the oracle's own checks failed.  A sample of the
-accepted cases is also put through the soundness checks.
+accepted cases is also put through the soundness checks; of the models that are
+made of series, each as it was answered.
 """
 
 import argparse
@@ -25,6 +26,7 @@ import cases
 import certificate_cases
 import job_cases
 import oracle as o
+import series_cases
 import soundness
 from area_cases import ANSWERS, AREAS, WITNESSES, area_cases, witness
 from examples_of_01 import check_examples
@@ -36,7 +38,7 @@ PLAIN = ROOT / 'plain' / 'plain.c'
 ENTRIES = list(AREAS)
 # Shares of the random cases.
 SHARE = {'add': 2, 'subtract': 2, 'multiply': 3, 'integrate': 3, 'evaluate': 3,
-         'quotient': 4, 'root': 4, 'check': 5}
+         'quotient': 4, 'root': 4, 'check': 5, 'from_series': 3}
 BATCH = 2000
 SOUNDNESS_SAMPLE = 0.04
 
@@ -47,7 +49,8 @@ def stop(message):
 
 
 def flat(m):
-    return [m.degree, *m.coefficients, m.radius]
+    """The numbers of a model, or of a series, which has no radius."""
+    return [m.degree, *m.coefficients, *m[2:]]
 
 
 # ---- What the oracle says ---------------------------------------------------------
@@ -172,8 +175,9 @@ def build_harness(folder, entries, library, plain, flags):
 
 def make_cases(entries, wanted, rng):
     """All fixed cases of the entries, then random ones up to the number wanted."""
-    fixed = {**cases.FIXED, **certificate_cases.FIXED, **job_cases.FIXED}
-    drawn = {**cases.RANDOM, **certificate_cases.RANDOM, 'check': job_cases.RandomJobs()}
+    fixed = {**cases.FIXED, **certificate_cases.FIXED, **job_cases.FIXED, **series_cases.FIXED}
+    drawn = {**cases.RANDOM, **certificate_cases.RANDOM, 'check': job_cases.RandomJobs(),
+             **series_cases.RANDOM}
     made = 0
     for entry in entries:
         for case in (*area_cases(entry), *fixed[entry]()):
@@ -213,6 +217,13 @@ def place_of(case, areas, wanted):
         if what in wanted:
             return start, i
         start += len(content) * content.itemsize
+
+
+def answered_model(case, areas, answer):
+    """The model in the area out of an answer."""
+    start, _ = place_of(case, areas, ('out',))
+    row = array('i', answer[start:start + 4 * MODEL_SIZE])
+    return o.Model(row[0], tuple(row[1:PLACE_RADIUS]), row[PLACE_RADIUS])
 
 
 def plant(batch, answers, entry):
@@ -266,6 +277,7 @@ def main():
     check_examples()
     check_witnesses()
     cases.check_border_models()
+    series_cases.check_series()
 
     rng, sound_rng = Random(options.seed), Random(options.seed)
     began = time.perf_counter()
@@ -277,13 +289,17 @@ def main():
         batch = []
 
         def judge():
-            nonlocal differences, planted
+            nonlocal differences, planted, sound
             answers = run_harness(program, batch, options.runner.split())
             if options.plant and not planted:
                 planted = plant(batch, answers, options.plant)
             if options.leave and not planted:
                 planted = leave(batch, answers, options.leave)
-            for (case, areas, _, expected), found in zip(batch, answers):
+            for (case, areas, number, expected), found in zip(batch, answers):
+                if expected == found and case.entry == 'from_series' and number == 0:
+                    soundness.soundness_from_series(sound_rng, *case.inputs,
+                                                    answered_model(case, areas, found))
+                    sound += 1
                 if expected != found:
                     differences += 1
                     if differences <= 10:
@@ -298,7 +314,7 @@ def main():
             oracle_time += time.perf_counter() - before
             counts[case.entry][number] += 1
             batch.append((case, areas, number, expected))
-            if number == 0 and sound_rng.random() < SOUNDNESS_SAMPLE:
+            if number == 0 and case.entry != 'from_series' and sound_rng.random() < SOUNDNESS_SAMPLE:
                 soundness.check(sound_rng, case)
                 sound += 1
             if len(batch) == BATCH:

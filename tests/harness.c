@@ -31,6 +31,7 @@ uint32_t ENTRY(root)(const int32_t *, size_t, const int32_t *, size_t,
                      int64_t *, size_t, int32_t *, size_t, uint64_t *, size_t);
 uint32_t ENTRY(check)(const uint8_t *, size_t, int32_t *, size_t, int64_t *, size_t,
                       uint32_t *, size_t);
+uint32_t ENTRY(from_series)(const int32_t *, size_t, int32_t *, size_t);
 
 #define MAX_AREAS 8
 
@@ -102,6 +103,9 @@ static uint32_t call(int entry, struct area *x, uint32_t scalar)
 #endif
 #ifdef WITH_CHECK
     case 7: return ENTRY(check)(AREA(0), AREA(1), AREA(2), AREA(3));
+#endif
+#ifdef WITH_FROM_SERIES
+    case 8: return ENTRY(from_series)(AREA(0), AREA(1));
 #endif
     default: fail("an entry that was not compiled in");
     }

@@ -1,4 +1,4 @@
-"""Sizes, limits and refusals of document 01, by the names of include/ferruntzo.h.
+"""Sizes, limits and refusals of documents 01 and 02, by the names of include/ferruntzo.h.
 
 check_header() compares them with the header; compare.py calls it before every comparison.
 """
@@ -22,6 +22,7 @@ PROGRAM_JOB_BYTES = 65536
 COEFFICIENTS = MAX_DEGREE + 1
 MODEL_SIZE = 1 + COEFFICIENTS + 1       # degree, coefficients, radius
 CANDIDATE_SIZE = 1 + COEFFICIENTS       # degree, coefficients
+SERIES_SIZE = 1 + COEFFICIENTS          # degree, coefficients of x^0 .. x^32
 PLACE_RADIUS = MODEL_SIZE - 1
 BOUNDS_SIZE = 2                         # low, high
 SCRATCH_SIZE = 65
@@ -34,7 +35,7 @@ BLOCK_BYTES = 1 + 4 * COEFFICIENTS      # degree byte, coefficients
 
 (ACCEPTED, SHORT_AREA, BAD_MODEL, LARGE_RESULT, POINT_OUTSIDE, NOT_CONTRACTING, LARGE_RESIDUAL,
  HELPER_NOT_POSITIVE, NEGATIVE_DISCRIMINANT, BAD_VALUE, JOB_ENDS, BYTES_AFTER_END, NOT_A_RESULT,
- TOO_MANY_RESULTS) = range(14)
+ TOO_MANY_RESULTS, BAD_SERIES) = range(15)
 
 # Every name above, with its number.
 NAMES = {name: value for name, value in globals().items() if isinstance(value, int)}

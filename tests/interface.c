@@ -1,6 +1,6 @@
 /* What the header promises of null pointers, of areas that are too short, of inputs that
-   are the same area, and of areas that need no alignment beyond their type's.  Exit status
-   0 when all holds. */
+   are the same area, of series, and of areas that need no alignment beyond their type's.
+   Exit status 0 when all holds. */
 #include "ferruntzo.h"
 
 #include <stdio.h>
@@ -19,6 +19,7 @@ static int failures;
 #define S FERRUNTZO_S
 
 static int32_t one[FERRUNTZO_MODEL_SIZE] = {0, S};
+static int32_t curve[FERRUNTZO_SERIES_SIZE] = {2, S, 0, 2 * S};      /* 1 + 2 x^2 */
 static int32_t out[FERRUNTZO_MODEL_SIZE], work[FERRUNTZO_WORK_SIZE];
 static int64_t scratch[FERRUNTZO_SCRATCH_SIZE], bounds[FERRUNTZO_BOUNDS_SIZE];
 static uint64_t numbers[FERRUNTZO_NUMBERS_SIZE];
@@ -40,6 +41,8 @@ static void null_pointers(void)
     EXPECT(ferruntzo_multiply(NONE, NONE, FERRUNTZO_MAX_DEGREE, NONE) == FERRUNTZO_SHORT_AREA);
     EXPECT(ferruntzo_integrate(NONE, NONE) == FERRUNTZO_SHORT_AREA);
     EXPECT(ferruntzo_integrate(WHOLE(one), NONE) == FERRUNTZO_SHORT_AREA);
+    EXPECT(ferruntzo_from_series(NONE, NONE) == FERRUNTZO_SHORT_AREA);
+    EXPECT(ferruntzo_from_series(WHOLE(curve), NONE) == FERRUNTZO_SHORT_AREA);
     EXPECT(ferruntzo_evaluate(NONE, 0, NONE) == FERRUNTZO_SHORT_AREA);
     EXPECT(ferruntzo_evaluate(WHOLE(one), 0, NONE) == FERRUNTZO_SHORT_AREA);
     EXPECT(ferruntzo_quotient(NONE, NONE, NONE, NONE, NONE, NONE, NONE) == FERRUNTZO_SHORT_AREA);
@@ -65,6 +68,10 @@ static void short_areas(void)
     out[1] = 7;
     EXPECT(ferruntzo_add(WHOLE(one), SHORT(one), WHOLE(out)) == FERRUNTZO_SHORT_AREA);
     EXPECT(out[1] == 0);
+    out[1] = 7;
+    EXPECT(ferruntzo_from_series(SHORT(curve), WHOLE(out)) == FERRUNTZO_SHORT_AREA && out[1] == 0);
+    out[1] = 7;
+    EXPECT(ferruntzo_from_series(WHOLE(curve), SHORT(out)) == FERRUNTZO_SHORT_AREA && out[1] == 7);
     scratch[FERRUNTZO_SCRATCH_SIZE - 1] = 7;
     numbers[2] = 7;
     out[1] = 7;
@@ -89,6 +96,30 @@ static void same_inputs(void)
     EXPECT(out[1] == S && out[FERRUNTZO_PLACE_RADIUS] == 0 && numbers[0] == 0 && numbers[1] == 0);
 }
 
+/* A series: accepted, 14 by each of its grounds, 3 by rounding alone. */
+static void power_series(void)
+{
+    int32_t grown[FERRUNTZO_SERIES_SIZE] = {29, 199};
+    int32_t bad[FERRUNTZO_SERIES_SIZE] = {FERRUNTZO_MAX_DEGREE + 1};
+    EXPECT(ferruntzo_from_series(WHOLE(curve), WHOLE(out)) == 0);
+    EXPECT(out[0] == 2 && out[1] == 2 * S && out[2] == 0 && out[3] == S);
+    EXPECT(out[FERRUNTZO_PLACE_RADIUS] == 0);
+    EXPECT(ferruntzo_from_series(WHOLE(bad), WHOLE(out)) == FERRUNTZO_BAD_SERIES && out[0] == 0);
+    bad[0] = -1;
+    EXPECT(ferruntzo_from_series(WHOLE(bad), WHOLE(out)) == FERRUNTZO_BAD_SERIES);
+    bad[0] = 0;
+    EXPECT(ferruntzo_from_series(WHOLE(bad), WHOLE(out)) == FERRUNTZO_ACCEPTED);
+    bad[FERRUNTZO_SERIES_SIZE - 1] = 1;
+    EXPECT(ferruntzo_from_series(WHOLE(bad), WHOLE(out)) == FERRUNTZO_BAD_SERIES);
+    grown[1 + 29] = FERRUNTZO_MAX_WEIGHT - 199;
+    out[1] = 7;
+    EXPECT(ferruntzo_from_series(WHOLE(grown), WHOLE(out)) == FERRUNTZO_LARGE_RESULT && out[1] == 0);
+    grown[1] = 200;
+    EXPECT(ferruntzo_from_series(WHOLE(grown), WHOLE(out)) == FERRUNTZO_BAD_SERIES);
+    grown[1] = 197;
+    EXPECT(ferruntzo_from_series(WHOLE(grown), WHOLE(out)) == FERRUNTZO_ACCEPTED && out[0] == 29);
+}
+
 /* Models and candidates may stand at any multiple of 4, long numbers at any multiple of 8. */
 static void alignment(void)
 {
@@ -99,6 +130,7 @@ static void alignment(void)
         int32_t *a = room + shift, *b = a + size;
         memcpy(a, one, sizeof one);
         EXPECT(ferruntzo_multiply(a, size, a, size, FERRUNTZO_MAX_DEGREE, b, size) == 0 && b[1] == S);
+        EXPECT(ferruntzo_from_series(CANDIDATE(a), b, size) == 0 && b[1] == S);
         EXPECT(ferruntzo_evaluate(a, size, S, wide + shift, FERRUNTZO_BOUNDS_SIZE) == 0);
         EXPECT(wide[shift] == S);
         EXPECT(ferruntzo_root(a, size, CANDIDATE(a), CANDIDATE(out), wide + shift,
@@ -112,6 +144,7 @@ int main(void)
     null_pointers();
     short_areas();
     same_inputs();
+    power_series();
     alignment();
     EXPECT(ferruntzo_evaluate(WHOLE(one), 0, WHOLE(bounds)) == 0 && bounds[0] == S && bounds[1] == S);
     return failures != 0;

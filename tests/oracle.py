@@ -3,7 +3,8 @@
 Every answer is formed with Python's unbounded whole numbers.  Products and
 primitives are formed in the power basis (1, x, x^2, ...) and converted back;
 neither the pair walk nor the primitive rule of the product is used to get
-them.  Only the rounding is taken over from document 01 as it stands there.
+them.  Power series (document 02, S-3) are expanded by binomials, not by the
+rule of the product's table.  Only the rounding is taken over from document 01 as it stands there.
 Areas, and refusal 1 for a short one, are compare.py's.
 
 Run as a program it checks the examples P1 to P11.
@@ -14,7 +15,7 @@ from operator import mul
 from typing import NamedTuple
 
 from header import (
-    BAD_MODEL, BAD_VALUE, BLOCK_BYTES, BYTES_AFTER_END, COEFFICIENTS, DEFAULT_KEPT,
+    BAD_MODEL, BAD_SERIES, BAD_VALUE, BLOCK_BYTES, BYTES_AFTER_END, COEFFICIENTS, DEFAULT_KEPT,
     HELPER_NOT_POSITIVE, JOB_ENDS, LARGE_RESIDUAL, LARGE_RESULT, MAX_DEGREE, MAX_RESULTS,
     MAX_WEIGHT, NEGATIVE_DISCRIMINANT, NOT_A_RESULT, NOT_CONTRACTING, POINT_OUTSIDE,
     PROGRAM_JOB_BYTES, S, TOO_MANY_RESULTS)
@@ -28,6 +29,12 @@ class Model(NamedTuple):
     degree: int
     coefficients: tuple
     radius: int
+
+
+class Series(NamedTuple):
+    """Degree, and the coefficients of x^0 .. x^32 in units."""
+    degree: int
+    coefficients: tuple
 
 
 ZERO_MODEL = Model(0, (0,) * COEFFICIENTS, 0)
@@ -47,6 +54,16 @@ def constant(value, radius=0):
 def term(place, value, radius=0):
     """value times T_place."""
     return model([0] * place + [value], radius)
+
+
+def series(powers, degree=None):
+    """A series from its leading coefficients; the rest are zero."""
+    return Series(*model(powers, 0, degree)[:2])
+
+
+def power(k, value):
+    """value times x^k."""
+    return series([0] * k + [value])
 
 
 # ---- Rounding and weights ---------------------------------------------------
@@ -257,6 +274,15 @@ def evaluate(a, p):
     assert low * whole <= exact - a.radius * whole, "value below the bounds"
     assert exact + a.radius * whole <= high * whole, "value above the bounds"
     return 0, low, high
+
+
+def from_series(s):
+    if not good(Model(*s, 0)):
+        return refused(BAD_SERIES)
+    exact = chebyshev_form(s.coefficients[:s.degree + 1])   # times 2^SCALE
+    row = [near(c, 1 << SCALE) for c in exact]
+    error = sum(abs(c - (r << SCALE)) for c, r in zip(exact, row))
+    return finished(s.degree, row, up(error, 1 << SCALE))
 
 
 # ---- The two tests ------------------------------------------------------------

@@ -75,6 +75,38 @@ SLIPS = [
      '    while (degree > 0 && row[degree] == 0) degree--;\n    out[0] = degree;'),
     ('kept 255 unknown', 'multiply', 'if (kept == DEFAULT_KEPT)', 'if (kept == DEFAULT_KEPT - 1)'),
     ('kept as a byte', 'multiply', 'if (kept == DEFAULT_KEPT)', 'kept &= 255;\n    if (kept == DEFAULT_KEPT)'),
+    ('near cuts, series', 'from_series', 'return down(2 * n + d, 2 * d);',
+     'return (2 * n + d) / (2 * d);'),
+    ('ties downwards, series', 'from_series', 'return down(2 * n + d, 2 * d);',
+     'return -down(d - 2 * n, 2 * d);'),
+    ('series cut towards zero', 'from_series', 'row[j] = near(sums[j], EXPANSION_UNIT)', 'row[j] = sums[j] / EXPANSION_UNIT'),
+    ('series rounded down', 'from_series', 'row[j] = near(sums[j], EXPANSION_UNIT)', 'row[j] = down(sums[j], EXPANSION_UNIT)'),
+    ('series: radius 0', 'from_series', 'up(error, EXPANSION_UNIT)', 'up(0 * error, EXPANSION_UNIT)'),
+    ('series: radius downwards', 'from_series', 'up(error, EXPANSION_UNIT)', 'down(error, EXPANSION_UNIT)'),
+    ('series: difference with its sign', 'from_series', 'magnitude(sums[j] - EXPANSION_UNIT * row[j])',
+     'sums[j] - EXPANSION_UNIT * row[j]'),
+    ('series: each power rounded', 'from_series', 'sums[j] += series[1 + k] * expansion_table[k][j]',
+     'sums[j] += EXPANSION_UNIT * near(series[1 + k] * expansion_table[k][j], EXPANSION_UNIT)'),
+    ('series: degree lowered', 'from_series', '    return finish(degree, row, up(error, EXPANSION_UNIT)',
+     '    while (degree > 0 && row[degree] == 0) degree--;\n    return finish(degree, row, up(error, EXPANSION_UNIT)'),
+    ('series: T_k left out', 'from_series', 'j <= k; j++', 'j < k || j == 0; j++'),
+    ('series: last power left out', 'from_series', 'k <= degree; k++)\n        for (int j = 0; j <= k',
+     'k < degree; k++)\n        for (int j = 0; j <= k'),
+    ('series: 2 for 14', 'from_series', 'return BAD_SERIES;', 'return BAD_MODEL;'),
+    ('series: degree 33', 'from_series', 'if (!good_candidate(series))',
+     'if (!good_candidate(series) && series[0] != MAX_DEGREE + 1)'),
+    ('series: negative degree', 'from_series', 'if (!good_candidate(series))', 'if (series[0] >= 0 && !good_candidate(series))'),
+    ('series: weight one more', 'from_series', 'if (!good_candidate(series))',
+     'if (!good_candidate(series) && (model_weight(series) != LIMIT + 1 || series[0] < 0 || series[0] > MAX_DEGREE))'),
+    ('series: weight at the limit', 'from_series', 'if (!good_candidate(series))',
+     'if (!good_candidate(series) || model_weight(series) == LIMIT)'),
+    ('series: nonzero beyond', 'from_series', 'if (!good_candidate(series))',
+     'if (series[0] < 0 || series[0] > MAX_DEGREE || model_weight(series) > LIMIT)'),
+    ('series: 3 left out', 'from_series', '    return finish(degree, row, up(error, EXPANSION_UNIT)',
+     '    if (weight(row, degree + 1) > LIMIT) row[0] = 0;\n    return finish(degree, row, up(error, EXPANSION_UNIT)'),
+    ('out left on 1, series', 'from_series', '!CLEAR(out, MODEL_SIZE) || series_len < SERIES_SIZE',
+     'series_len < SERIES_SIZE || !CLEAR(out, MODEL_SIZE)'),
+    ('series of 35 numbers', 'from_series', 'series_len < SERIES_SIZE', 'series_len < MODEL_SIZE'),
     ('integral radius', 'integrate', '(int64_t)a[RADIUS] + degree', '(int64_t)a[RADIUS] + a[0]'),
     ('integral a_0 once', 'integrate', 'k == 1 ? 2 * (int64_t)a[1]', 'k == 1 ? (int64_t)a[1]'),
     ('W left out', 'evaluate', 'down(4 * v - w,', 'down(4 * v,'),
@@ -127,7 +159,8 @@ def found(slip, folder):
     assert old in text, f'{name}: the text to alter is gone'
     spoiled = Path(folder) / 'plain.c'
     spoiled.write_text(text.replace(old, new, 1))
-    (Path(folder) / 'plain.h').write_text((PLAIN.parent / 'plain.h').read_text())
+    for header in ('plain.h', 'expansion_table.h'):
+        (Path(folder) / header).write_text((PLAIN.parent / header).read_text())
     run = subprocess.run([sys.executable, str(HERE / 'compare.py'), '--plain', str(spoiled),
                           '--entries', entries, '--cases', '5000'],
                          stdout=subprocess.PIPE, stderr=subprocess.STDOUT, text=True)

@@ -2,7 +2,8 @@
 
 Each soundness_*() takes what was handed in and what came out, draws a fraction
 and allowed values there, and raises AssertionError when a value that the
-result should cover is not covered.  compare.py calls check() on a sample.
+result should cover is not covered.  compare.py calls check() on a sample, and
+soundness_from_series() on every model that the library makes of a series.
 """
 
 from fractions import Fraction
@@ -75,6 +76,19 @@ def soundness_integrate(rng, a, result):
     exact[0] = -sum(c if k % 2 == 0 else -c for k, c in enumerate(exact) if k)
     far = sum(abs(c - r * unit) for c, r in zip(exact, result.coefficients))
     assert far <= result.radius * unit, 'primitive not covered'
+
+
+def series_value(s, point):
+    """The exact value of a power series at the point."""
+    p, q = point
+    n = o.MAX_DEGREE
+    numerator = sum(c * p ** k * q ** (n - k) for k, c in enumerate(s.coefficients) if c)
+    return Fraction(numerator, q ** n * S)
+
+
+def soundness_from_series(rng, s, result):
+    for x in (rng.choice(((1, 1), (-1, 1))), random_point(rng), random_point(rng)):
+        assert allows(result, x, series_value(s, x)), 'series not covered'
 
 
 def soundness_quotient(rng, f, g, result):
@@ -193,4 +207,4 @@ def check(rng, case):
         soundness_root(rng, f, o.root(f, h, w)[1])
     elif entry == 'check':
         soundness_job(rng, inputs[0], o.check_job(inputs[0])[2])
-    # evaluate asserts its bounds on every call.
+    # evaluate asserts its bounds on every call; models of series are checked as they are answered.

@@ -6,8 +6,9 @@
 //! rustc --edition 2021 -L target/staticlib -L . --extern ferruntzo program.rs
 //! ```
 //!
-//! The typed functions ([`Model::add`], [`quotient`], [`check`], ...) lend the library areas of
-//! the right size. The functions in [`areas`] take the caller's own slices of every length.
+//! The typed functions ([`Model::add`], [`Model::from_series`], [`quotient`], [`check`], ...) lend
+//! the library areas of the right size. The functions in [`areas`] take the caller's own slices of
+//! every length.
 //! The crate needs `core` alone, allocates nothing and has no state.
 //!
 //! ```
@@ -46,6 +47,8 @@ pub const DEFAULT_KEPT: u32 = 255;
 pub const MODEL_SIZE: usize = 35;
 /// Numbers in a candidate area: degree, coefficients.
 pub const CANDIDATE_SIZE: usize = 34;
+/// Numbers in a series area: degree, coefficients of x^0 to x^32.
+pub const SERIES_SIZE: usize = 34;
 /// Numbers in the area for bounds: low, high.
 pub const BOUNDS_SIZE: usize = 2;
 /// Numbers in the scratch area of a test.
@@ -61,7 +64,7 @@ pub const ANSWER_SIZE: usize = 2;
 
 const RADIUS: usize = 34;
 
-/// The numbered refusals of document 01.
+/// The numbered refusals of document 01, and number 14 of document 02.
 #[derive(Clone, Copy, Debug, PartialEq, Eq, Hash)]
 #[repr(u32)]
 pub enum Refusal {
@@ -91,11 +94,13 @@ pub enum Refusal {
     NotAResult = 12,
     /// A 33rd result.
     TooManyResults = 13,
+    /// A series' degree or weight, or a nonzero coefficient beyond its degree.
+    BadSeries = 14,
 }
 
 impl Refusal {
     /// All refusals, by rising number.
-    pub const ALL: [Refusal; 13] = [
+    pub const ALL: [Refusal; 14] = [
         Refusal::ShortArea,
         Refusal::BadModel,
         Refusal::LargeResult,
@@ -109,9 +114,10 @@ impl Refusal {
         Refusal::BytesAfterEnd,
         Refusal::NotAResult,
         Refusal::TooManyResults,
+        Refusal::BadSeries,
     ];
 
-    /// Document 01's number, 1 to 13.
+    /// Its number, 1 to 14.
     pub fn number(self) -> u32 {
         self as u32
     }
@@ -138,6 +144,7 @@ impl fmt::Display for Refusal {
             Refusal::BytesAfterEnd => "bytes after the end",
             Refusal::NotAResult => "not yet a result",
             Refusal::TooManyResults => "more than 32 results",
+            Refusal::BadSeries => "bad series",
         };
         write!(f, "refused {}: {}", self.number(), reason)
     }
@@ -176,6 +183,15 @@ impl Model {
     /// The constant c, in units, with radius 0.
     pub fn constant(c: i32) -> Model {
         Candidate::constant(c).with_radius(0)
+    }
+
+    /// The model of a power series, of the same degree; it allows the exact value of the series at
+    /// every x from −1 to 1.
+    ///
+    /// Refusals, in order: `BadSeries`, `LargeResult` (a weight near 2^28 can pass it by rounding).
+    pub fn from_series(series: &Series) -> Result<Model, Refusal> {
+        let mut out = Model::ZERO;
+        areas::from_series(&series.0, &mut out.0).map(|()| out)
     }
 
     /// The model in these 35 numbers: degree, coefficients, radius.
@@ -293,6 +309,41 @@ impl Candidate {
         numbers[..RADIUS].copy_from_slice(&self.0);
         numbers[RADIUS] = radius;
         Model(numbers)
+    }
+}
+
+/// A power series: degree, coefficients of x^0 to x^32 in units of 1/[`S`].
+#[derive(Clone, Copy, Debug, PartialEq, Eq)]
+#[repr(transparent)]
+pub struct Series([i32; SERIES_SIZE]);
+
+impl Series {
+    /// A series of this degree and these coefficients.
+    pub fn new(degree: i32, coefficients: [i32; COEFFICIENTS]) -> Series {
+        let mut numbers = [0; SERIES_SIZE];
+        numbers[0] = degree;
+        numbers[1..].copy_from_slice(&coefficients);
+        Series(numbers)
+    }
+
+    /// The series in these 34 numbers: degree, coefficients.
+    pub fn from_numbers(numbers: [i32; SERIES_SIZE]) -> Series {
+        Series(numbers)
+    }
+
+    /// The 34 numbers: degree, coefficients.
+    pub fn numbers(&self) -> &[i32; SERIES_SIZE] {
+        &self.0
+    }
+
+    /// The degree.
+    pub fn degree(&self) -> i32 {
+        self.0[0]
+    }
+
+    /// The 33 coefficients, in units.
+    pub fn coefficients(&self) -> &[i32] {
+        &self.0[1..]
     }
 }
 
@@ -454,6 +505,14 @@ pub mod areas {
         })
     }
 
+    /// The model of a power series; `series` has 34 numbers, `out` 35.
+    pub fn from_series(series: &[i32], out: &mut [i32]) -> Result<(), Refusal> {
+        // SAFETY: as in `add`.
+        accepted(unsafe {
+            raw::ferruntzo_from_series(series.as_ptr(), series.len(), out.as_mut_ptr(), out.len())
+        })
+    }
+
     /// Bounds at p/S; `a` has 35 numbers, `bounds` 2: low, high.
     pub fn evaluate(a: &[i32], p: i32, bounds: &mut [i64]) -> Result<(), Refusal> {
         // SAFETY: as in `add`.
@@ -539,6 +598,9 @@ mod raw {
         ) -> u32;
         pub fn ferruntzo_integrate(
             a: *const i32, a_len: usize, out: *mut i32, out_len: usize,
+        ) -> u32;
+        pub fn ferruntzo_from_series(
+            series: *const i32, series_len: usize, out: *mut i32, out_len: usize,
         ) -> u32;
         pub fn ferruntzo_evaluate(
             a: *const i32, a_len: usize, p: i32, bounds: *mut i64, bounds_len: usize,

@@ -1,4 +1,4 @@
-//! Tests of the wrapper: document 01's examples, every refusal, every area at every length around its size.
+//! Tests of the wrapper: document 01's examples, series, every refusal, every area at every length around its size.
 use super::*;
 use std::format;
 use std::vec;
@@ -114,6 +114,58 @@ fn sum_and_difference() {
     assert_eq!(a.subtract(&b), Ok(model(&[4, -8, 2], 7)));
 }
 
+/// A series of this degree from its nonzero coefficients.
+fn series(degree: i32, powers: &[(usize, i32)]) -> Series {
+    let mut coefficients = [0; COEFFICIENTS];
+    for &(k, p) in powers {
+        coefficients[k] = p;
+    }
+    Series::new(degree, coefficients)
+}
+
+/// x² = (T_0 + T_2)/2, x³ = (3·T_1 + T_3)/4; the degree stays when the top rounds to zero.
+#[test]
+fn models_of_series() {
+    let of = Model::from_series;
+    assert_eq!(of(&series(0, &[])), Ok(Model::ZERO));
+    assert_eq!(of(&series(1, &[(0, 5), (1, -7)])), Ok(model(&[5, -7], 0)));
+    assert_eq!(of(&series(2, &[(2, 2 * S)])), Ok(model(&[S, 0, S], 0)));
+    assert_eq!(of(&series(3, &[(0, S), (3, -4 * S)])), Ok(model(&[S, -3 * S, 0, -S], 0)));
+    assert_eq!(of(&series(4, &[(2, 2 * S)])), Ok(model(&[S, 0, S, 0, 0], 0)));
+    assert_eq!(of(&series(3, &[(3, 1)])), Ok(model(&[0, 1, 0, 0], 1)));
+    // x^32 without ties: its weight of T_32 is 2^-31, far below half a unit.
+    let top = of(&series(32, &[(32, S + 1)])).unwrap();
+    assert_eq!((top.degree(), top.coefficients()[32]), (32, 0));
+    assert!(top.radius() > 0);
+}
+
+#[test]
+fn refusals_of_series() {
+    let of = Model::from_series;
+    for degree in [-1, MAX_DEGREE as i32 + 1, i32::MIN, i32::MAX] {
+        assert_eq!(of(&series(degree, &[])), Err(Refusal::BadSeries));
+    }
+    assert_eq!(of(&series(31, &[(32, 1)])), Err(Refusal::BadSeries));
+    assert_eq!(of(&series(32, &[(0, LIMIT), (32, -1)])), Err(Refusal::BadSeries));
+    assert_eq!(of(&series(32, &[(0, i32::MIN)])), Err(Refusal::BadSeries));
+    assert!(of(&series(1, &[(0, LIMIT - 1), (1, -1)])).is_ok());
+    // Weights that grow past the limit by rounding alone, whichever way ties go; their neighbours.
+    let grown = [(14, -152), (31, 268435304)];
+    assert_eq!(of(&series(31, &grown)), Err(Refusal::LargeResult));
+    assert_eq!(of(&series(30, &grown)), Err(Refusal::BadSeries));
+    assert!(of(&series(31, &[(14, -152), (31, 268435303)])).is_ok());
+    assert_eq!(of(&series(29, &[(0, 199), (29, LIMIT - 199)])), Err(Refusal::LargeResult));
+    assert_eq!(of(&series(29, &[(0, 200), (29, LIMIT - 199)])), Err(Refusal::BadSeries));
+    assert!(of(&series(29, &[(0, 197), (29, LIMIT - 199)])).is_ok());
+}
+
+#[test]
+fn numbers_of_series() {
+    let curve = series(2, &[(0, 5), (2, -6)]);
+    assert_eq!(Series::from_numbers(*curve.numbers()), curve);
+    assert_eq!((curve.degree(), curve.coefficients()[2]), (2, -6));
+}
+
 #[test]
 fn example_job() {
     let checked = check(&example()).unwrap();
@@ -137,7 +189,7 @@ fn numbers_of_refusals() {
     for refusal in Refusal::ALL {
         assert_eq!(Refusal::from_number(refusal.number()), Some(refusal));
     }
-    for number in [0, 14, 255, u32::MAX] {
+    for number in [0, 15, 255, u32::MAX] {
         assert_eq!(Refusal::from_number(number), None);
     }
 }
@@ -167,6 +219,7 @@ fn header_agrees() {
         ("MAX_RESULTS", MAX_RESULTS),
         ("MODEL_SIZE", MODEL_SIZE),
         ("CANDIDATE_SIZE", CANDIDATE_SIZE),
+        ("SERIES_SIZE", SERIES_SIZE),
         ("BOUNDS_SIZE", BOUNDS_SIZE),
         ("SCRATCH_SIZE", SCRATCH_SIZE),
         ("NUMBERS_SIZE", NUMBERS_SIZE),
@@ -303,6 +356,29 @@ fn areas_of_operations() {
         call(binary, Ok(()), &|out| areas::multiply(&a, &b, 0, out));
         call(binary, Err(Refusal::BadValue), &|out| areas::multiply(&a, &b, 999, out));
         call(unary, Ok(()), &|out| areas::integrate(&a, out));
+    }
+}
+
+#[test]
+fn areas_of_series() {
+    let (good, bad) = (series(2, &[(2, 2 * S)]), series(33, &[]));
+    for series_len in lengths(SERIES_SIZE) {
+        for out_len in lengths(MODEL_SIZE) {
+            for (lent, otherwise) in [(&good, Ok(())), (&bad, Err(Refusal::BadSeries))] {
+                let numbers = lent.numbers().iter().copied().chain([MARK; 2]);
+                let area: Vec<i32> = numbers.take(series_len).collect();
+                let mut out = vec![MARK; out_len];
+                let short = series_len < SERIES_SIZE || out_len < MODEL_SIZE;
+                let expected = if short { Err(Refusal::ShortArea) } else { otherwise };
+                assert_eq!(areas::from_series(&area, &mut out), expected);
+                if expected.is_err() {
+                    assert_eq!(out, zeroed(MARK, out_len, MODEL_SIZE));
+                } else {
+                    assert_eq!(out[..MODEL_SIZE], *model(&[S, 0, S], 0).numbers());
+                    assert_eq!(out[MODEL_SIZE..], vec![MARK; out_len - MODEL_SIZE]);
+                }
+            }
+        }
     }
 }
 

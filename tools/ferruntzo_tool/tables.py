@@ -88,6 +88,9 @@ REFUSALS = [
     Refusal(12, 'NOT_A_RESULT', 'a command names a result that is not there yet',
             'count the results from 0; only earlier ones can be named'),
     Refusal(13, 'TOO_MANY_RESULTS', 'a 33rd result', 'spread the results over two jobs'),
+    Refusal(14, 'BAD_SERIES', 'a degree or weight of a power series is beyond its limit, or a '
+            'coefficient beyond the degree is not zero',
+            'convert series within their limits; a job never causes it'),
 ]
 REFUSAL = {refusal.number: refusal for refusal in REFUSALS}
 

@@ -1,5 +1,6 @@
 pub mod Recurrences
 pub mod Product
+pub mod Neighbours
 pub mod Coefficients
 pub mod Norms
 pub mod TwoSums

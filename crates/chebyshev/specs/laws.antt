@@ -5,6 +5,7 @@ pub mod NormLaws
 pub mod Weight
 pub mod Lipschitz
 pub mod ProductLaws
+pub mod NeighbourLaws
 pub mod ProductWeight
 pub mod ProductEnd
 pub mod ProductSums

@@ -2,3 +2,4 @@ pub mod Areas
 pub mod Operations
 pub mod Certificates
 pub mod Jobs
+pub mod Conversions

@@ -2,5 +2,6 @@
 // content; include/ferruntzo.h is their header.
 pub mod areas;
 pub mod certificates;
+pub mod conversions;
 pub mod jobs;
 pub mod operations;

@@ -45,7 +45,7 @@ fn operate(operation: Operation, a: Model, b: Model) -> ModelOutcome
 }
 
 // Stores what an operation answers, and gives the number of its verdict.
-fn answer_operation(answer: ModelOutcome, out: &mut [i32]) -> u32
+pub(crate) fn answer_operation(answer: ModelOutcome, out: &mut [i32]) -> u32
     requires { ⌜ Storable (answer .model) ⌝ }
     ensures { λ r. ⌜ operationAnswer r (now (out .exit)) ≡ outcomeIn (outcomeOf answer) (now (out .entry)) ⌝ }
 {
@@ -55,7 +55,7 @@ fn answer_operation(answer: ModelOutcome, out: &mut [i32]) -> u32
 }
 
 // Refusal 1 of an operation.
-fn refuse_operation(out: &mut [i32]) -> u32
+pub(crate) fn refuse_operation(out: &mut [i32]) -> u32
     ensures { λ r. ⌜ operationAnswer r (now (out .exit)) ≡ outcomeIn shortOutcome (now (out .entry)) ⌝ }
 {
     let answer = ModelOutcome {

@@ -1,5 +1,6 @@
 pub mod Models
 pub mod Outcomes
+pub mod Round
 pub mod InnerContracts
 pub mod Area
 pub mod Allowed

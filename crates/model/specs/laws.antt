@@ -5,10 +5,10 @@ pub mod PlaceLaws
 pub mod ValueLaws
 pub mod CrossMultiplied
 pub mod GoodLaws
+pub mod RoundingPassLaws
 pub mod OperationsSound
 pub mod FormedLaws
 pub mod CombinationLaws
-pub mod RoundingPassLaws
 pub mod MultiplicationLaws
 pub mod ResultLaws
 pub mod GoodResults

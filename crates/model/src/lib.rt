@@ -7,4 +7,5 @@ pub mod load;
 pub mod measure;
 pub mod multiply;
 pub mod products;
+pub mod round;
 pub mod types;

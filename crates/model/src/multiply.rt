@@ -4,21 +4,18 @@ ghost use Prim.Native.Nat.{_+_, _*_, _^_, _<_, _≤_};
 ghost use lib.ListN.{length};
 ghost use Rattle.integer.specs.definitions.Integer.{ℤ-ring};
 ghost use Rattle.chebyshev.specs.definitions.Product.{product};
-ghost use Rattle.model.specs.definitions.InnerContracts.{Factors, Limited, Multipliable, Roundable};
-ghost use Rattle.model.specs.definitions.InnerContracts.{RoundedFrom, unlessLarge};
-ghost use Rattle.model.specs.definitions.Models.{coefficientCount, productSize};
+ghost use Rattle.model.specs.definitions.InnerContracts.{Factors, Limited, Multipliable, RoundedFrom, unlessLarge};
+ghost use Rattle.model.specs.definitions.Models.{scale, coefficientCount, productSize};
 ghost use Rattle.model.specs.definitions.Outcomes.{outcomeOf};
 ghost use Rattle.model.specs.definitions.Multiply.{productModel, multiplication};
 use crate::measure::measure;
-use crate::measure::weigh;
 use crate::products::add_products;
-use crate::types::COEFFICIENTS;
+use crate::round::Rounded;
+use crate::round::round;
 use crate::types::Model;
 use crate::types::ModelOutcome;
 use crate::types::PRODUCT_SIZE;
 use crate::types::Refusal;
-use integer::absolute::magnitude;
-use integer::rounding::near;
 use integer::rounding::up_unsigned;
 
 // One unit of a coefficient, in units of C.
@@ -26,40 +23,6 @@ const UNIT: i64 = 2 * Model::SCALE;
 
 // A kept degree that means MAX_DEGREE.
 const KEEP_ALL: u32 = 255;
-
-// The rounded coefficients, which count only where their weight is within its limit, their weight, and what the rounding
-// and the dropped coefficients lose, in units of C.
-struct Rounded {
-    coefficients: [i32; COEFFICIENTS],
-    weight: u64,
-    loss: u64,
-}
-
-// The first `kept` numbers of the list c rounded, the others dropped.
-fn round(c: &[i64], kept: usize) -> Rounded
-    requires { ⌜ Roundable (now c) kept ⌝ }
-    ensures { λ (r : Rounded). ⌜ RoundedFrom (now (c .entry)) kept r ⌝ }
-{
-    let mut coefficients = [0i32; COEFFICIENTS];
-    let mut weight: u64 = 0;
-    let mut loss: u64 = weigh(&c[kept..]);
-    let mut k = 0;
-    while k < kept {
-        let exact = c[k];
-        let q = near(exact, UNIT);
-        loss += magnitude(exact - UNIT * q);
-        weight += magnitude(q);
-        if weight <= Model::MAX_WEIGHT {
-            coefficients[k] = q as i32;
-        }
-        k += 1;
-    }
-    Rounded {
-        coefficients,
-        weight,
-        loss,
-    }
-}
 
 // What the radii lose: 2(A·e_b + B·e_a + e_a·e_b) of weights A, B and radii e_a, e_b.
 fn radius_loss(a: u64, ea: u64, b: u64, eb: u64) -> u64
@@ -73,12 +36,12 @@ fn radius_loss(a: u64, ea: u64, b: u64, eb: u64) -> u64
 fn round_product(a: &[i32], b: &[i32], kept: usize) -> Rounded
     requires { ⌜ Factors (now a) (now b) ⌝ }
     requires { ⌜ (kept ≤ coefficientCount) × (kept < length (now a) + length (now b)) ⌝ }
-    ensures { λ (r : Rounded). ⌜ RoundedFrom (product ℤ-ring productSize (now (a .entry)) (now (b .entry))) kept r ⌝ }
+    ensures { λ (r : Rounded). ⌜ RoundedFrom (2 * scale) (product ℤ-ring productSize (now (a .entry)) (now (b .entry))) kept r ⌝ }
 {
     let mut c = [0i64; PRODUCT_SIZE];
     add_products(&mut c, a, b);
     let end = a.len() + b.len() - 1;
-    round(&c[..end], kept)
+    round(&c[..end], kept, UNIT)
 }
 
 // Of two good models, with their weights, to a kept degree within its limit.

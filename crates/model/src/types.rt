@@ -21,7 +21,7 @@ pub struct Candidate {
     pub coefficients: [i32; COEFFICIENTS],
 }
 
-// Document 01's numbered refusals; `number_of` gives the number of each.
+// The numbered refusals of documents 01 and 02; `number_of` gives the number of each.
 pub enum Refusal {
     ShortArea,
     BadModel,
@@ -36,6 +36,7 @@ pub enum Refusal {
     BytesAfterEnd,
     NotAResult,
     TooManyResults,
+    BadSeries,
 }
 
 // How an operation ends.
@@ -74,6 +75,7 @@ pub fn number_of(refusal: Refusal) -> u32
         Refusal::BytesAfterEnd => 11,
         Refusal::NotAResult => 12,
         Refusal::TooManyResults => 13,
+        Refusal::BadSeries => 14,
     }
 }
 
@@ -125,7 +127,7 @@ impl Model {
 
 impl ModelOutcome {
     // A refused operation: its refusal beside the zero model.
-    pub(crate) fn refused(refusal: Refusal) -> ModelOutcome
+    pub fn refused(refusal: Refusal) -> ModelOutcome
         ensures { λ (r : ModelOutcome). ⌜ outcomeOf r ≡ refused (numberOf refusal) zeroModel ⌝ }
     {
         ModelOutcome {
@@ -135,7 +137,7 @@ impl ModelOutcome {
     }
 
     // An operation that has formed its result: that result, unless it is too large.
-    pub(crate) fn formed(
+    pub fn formed(
         degree: u32,
         coefficients: [i32; COEFFICIENTS],
         weight: u64,

@@ -14,7 +14,7 @@ use Rattle.chebyshev.specs.definitions.Recurrences.{firstKind}
 use Rattle.chebyshev.specs.definitions.Coefficients.{valueFrom, value, addLists, scaleList, subtractLists}
 
 module _ (R : CommutativeRing) where
-  open CommutativeRing R using (A, add as _⊕_, mul as _⊗_, opp as ⊖_, ι, add-assoc, zero-add, opp-is, ι-add, ι-mul)
+  open CommutativeRing R using (A, add as _⊕_, mul as _⊗_, opp as ⊖_, ι, add-assoc, dist, zero-add, opp-is, ι-add, ι-mul)
 
   infixl 6 _⊕_
   infixl 7 _⊗_
@@ -121,8 +121,26 @@ module _ (R : CommutativeRing) where
   unfolding subtractLists
   getD-subtract a b i = rw (getD-add, opposite-scale, getD-scale, ← opp-is)
 
+  pub add-nil : (a : List A) → addLists R a [] ≡ a
+  unfolding addLists
+  add-nil [] = refl
+  add-nil (x ∷ a) = refl
+
+  pub addLists-assoc : (a b c : List A) → addLists R (addLists R a b) c ≡ addLists R a (addLists R b c)
+  unfolding addLists
+  addLists-assoc [] b c = refl
+  addLists-assoc (x ∷ a) [] c = refl
+  addLists-assoc (x ∷ a) (y ∷ b) [] = refl
+  addLists-assoc (x ∷ a) (y ∷ b) (z ∷ c) = ap₂ _∷_ (add-assoc x y z) (addLists-assoc a b c)
+
+  pub scale-add : (s : A) (a b : List A) → scaleList R s (addLists R a b) ≡ addLists R (scaleList R s a) (scaleList R s b)
+  unfolding addLists scaleList
+  scale-add s [] b = refl
+  scale-add s (x ∷ a) [] = refl
+  scale-add s (x ∷ a) (y ∷ b) = ap₂ _∷_ (dist s x y) (scale-add s a b)
+
   -- where b is the shorter list, the sum changes only the places of b
-  add-split : (a b : List A) → length b ≤ length a → addLists R a b ≡ addLists R (take (length b) a) b ++ drop (length b) a
+  pub add-split : (a b : List A) → length b ≤ length a → addLists R a b ≡ addLists R (take (length b) a) b ++ drop (length b) a
   unfolding addLists
   add-split [] [] h = refl
   add-split [] (y ∷ b) h = absurd (omega arith)

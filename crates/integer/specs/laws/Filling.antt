@@ -1,11 +1,11 @@
 -- Loops that write the n elements of a list Z one by one into a list, from place a on.
-use mathlib.Core.Path.{_≡_, refl, ap, _∙_}
+use mathlib.Core.Path.{_≡_, refl, ap, subst, _∙_}
 use mathlib.Core.List.{List, _++_, append-nil}
 use Prim.Native.Nat.{ℕ, zero, suc, _+_, _-_, _≤_, _<_}
 use native.Mathlib.Omega.{arith}
 use native.Mathlib.Numerals.{add-one}
 use lib.ListN.{length, getD, set, take, drop, replicate, length-set, drop-of-length-le}
-use lib.Seq.{paste, paste-zero, paste-suc, drop-paste, getD-drop, take-all}
+use lib.Seq.{paste, paste-zero, paste-suc, drop-paste, getD-drop, set-getD, take-all}
 
 -- the invariant after i of them: `start` is the list where the loop begins, `l` the list now
 pub record Filling {A : Type 0} (Z start l : List A) (a n i : ℕ) : Type 0 where
@@ -29,6 +29,12 @@ module _ {A : Type 0} where
     bound = omega arith;
     is = rw (e, ev, f .is, add-one) (paste-suc start a Z i d (omega (arith, f .room)) (omega (arith, f .wide)));
   }
+
+  -- element i stands at its place p already
+  pub skip : {Z start l : List A} {a n i : ℕ} (p : ℕ) (d : A) → Filling Z start l a n i → i < n → p ≡ a + i → getD l p d ≡ getD Z i d
+      → Filling Z start l a n (i + 1)
+  skip {Z} {start} {l} {a} {n} {i} p d f h e ev =
+      subst (λ (t : List A). Filling Z start t a n (i + 1)) (set-getD l p d) (turn p (getD l p d) d f h e ev)
 
   -- the place that the next turn stores into is as it was
   pub next : {Z start l : List A} {a n i : ℕ} (p : ℕ) (d : A) → Filling Z start l a n i → p ≡ a + i → getD l p d ≡ getD start p d

@@ -65,6 +65,9 @@ lt-false a b e = ≤-parts b a .1 (lt-no a b e)
 pub is-positive : (d : ℤ) → pos 0 <ℤ d → 0 < d ⁺
 is-positive d h = omega (arith, <-parts (pos 0) d .0 h)
 
+pub above-one : (d : ℤ) → pos 1 <ℤ d → (pos 0 <ℤ d) × (1 < natAbs d)
+above-one d h = let p = <-parts (pos 1) d .0 h in (<-parts (pos 0) d .1 (omega (arith, p)), omega (arith, p, abs d))
+
 pub positive-is : (d : ℤ) → 0 < d ⁺ → d ≡ pos (natAbs d)
 positive-is (pos n) h = refl
 positive-is (negsuc n) h = absurd (omega arith)

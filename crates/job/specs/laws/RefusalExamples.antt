@@ -9,10 +9,11 @@ use Rattle.chebyshev.specs.definitions.Product.{addAt, addPair, addTerm, addTer
 use Rattle.model.specs.definitions.Models.{good, tooLarge, zeroModel}
 use Rattle.model.specs.definitions.Outcomes.{passing}
 use Rattle.model.specs.definitions.Add.{sumModel, differenceModel}
-use Rattle.model.specs.definitions.Multiply.{productModel, productList, productLoss, rounded, roundingLoss}
+use Rattle.model.specs.definitions.Multiply.{productModel, productList, productLoss}
 use Rattle.certificate.specs.definitions.Root.{rootPlaces, rootContraction, rootResidual, rootModel}
 use Rattle.certificate.specs.definitions.Quotient.{quotientContraction, quotientResidual, quotientModel}
 use Rattle.certificate.specs.definitions.Tests.{displacement}
+use Rattle.model.specs.definitions.Round.{rounded, roundingLoss}
 use Rattle.job.specs.definitions.Bytes.{signedsAt}
 use Rattle.job.specs.definitions.Operations.{makerPlaces, operation}
 use Rattle.job.specs.definitions.Decode.{makerAt}

@@ -12,7 +12,8 @@ use Rattle.chebyshev.specs.definitions.Product.{addAt, addPair, addTerm, addTer
 use Rattle.model.specs.definitions.Models.{makeModel, good, tooLarge, zeroModel}
 use Rattle.model.specs.definitions.Outcomes.{passing}
 use Rattle.model.specs.definitions.Add.{sumModel, differenceModel}
-use Rattle.model.specs.definitions.Multiply.{productModel, productList, productLoss, rounded, roundingLoss}
+use Rattle.model.specs.definitions.Multiply.{productModel, productList, productLoss}
+use Rattle.model.specs.definitions.Round.{rounded, roundingLoss}
 use Rattle.model.specs.declared.types.Model.{Model}
 use Rattle.certificate.specs.definitions.Root.{rootPlaces, rootContraction, rootResidual, rootModel}
 use Rattle.certificate.specs.definitions.Quotient.{quotientContraction, quotientResidual, quotientModel}

@@ -5,16 +5,17 @@ use mathlib.Core.List.{List, [], _∷_, _++_}
 use Prim.Native.Nat.{ℕ, suc, _+_, _*_, _-_, _^_, _≤_, _<_, max}
 use lib.Dec.{ltb}
 use lib.IntN.{ℤ, pos, natAbs}
+use lib.Signed.{_<ℤ_}
 use lib.ListN.{length, take, drop, replicate}
 use Rattle.integer.specs.definitions.Integer.{ℤ-ring}
 use Rattle.chebyshev.specs.definitions.Coefficients.{weight, addLists, scaleList, subtractLists}
 use Rattle.model.specs.definitions.Models.{scale, coefficientCount, maxDegree, maxWeight, maxRadius, good}
 use Rattle.model.specs.definitions.Models.{makeModel, zeroModel, badPlace, largePlace}
 use Rattle.model.specs.definitions.Outcomes.{Outcome, outcome}
-use Rattle.model.specs.definitions.Multiply.{rounded, roundingLoss}
+use Rattle.model.specs.definitions.Round.{rounded, roundingLoss}
 use Rattle.model.specs.definitions.Integrate.{halved, alternating}
 use Rattle.model.specs.declared.types.Model.{Model}
-use Rattle.model.specs.declared.multiply.Rounded.{Rounded}
+use Rattle.model.specs.declared.round.Rounded.{Rounded}
 
 -- ---- what is asked
 
@@ -61,11 +62,12 @@ pub record Integrable (degree : ℕ) (doubled : List ℤ) : Type 0 where
   pub degree-fits : degree < maxDegree
   pub light : weight doubled ≤ 2 * maxWeight
 
--- a list of which the first numbers are to be rounded
-pub record Roundable (c : List ℤ) (kept : ℕ) : Type 0 where
+-- a list of which the first numbers are to be rounded, and a divisor
+pub record Roundable (c : List ℤ) (kept : ℕ) (unit : ℤ) : Type 0 where
   pub kept-fits : kept ≤ coefficientCount
   pub there : kept ≤ length c
   pub light : weight c < 2 ^ 62
+  pub divides : pos 1 <ℤ unit
 
 -- ---- a result that is formed
 
@@ -91,12 +93,13 @@ unfoldable pub combination : ℤ → Model → Model → Outcome Model
 combination s a b =
     outcome (badPlace a ∷ badPlace b ∷ largePlace (combinedModel s a b) ∷ []) (combinedModel s a b) zeroModel
 
--- ---- the pass over a list c, of which the first n numbers are kept
+-- ---- the pass over a list c, of which the first n numbers are kept, with the divisor d
 
-pub record RoundedFrom (c : List ℤ) (n : ℕ) (r : Rounded) : Type 0 where
-  pub weight-is : r .weight ≡ weight (rounded (take n c))
-  pub loss-is : r .loss ≡ roundingLoss (take n c) + weight (drop n c)
-  pub coefficients-are : r .weight ≤ maxWeight → r .coefficients ≡ rounded (take n c) ++ replicate (coefficientCount - n) (pos 0)
+pub record RoundedFrom (d : ℕ) (c : List ℤ) (n : ℕ) (r : Rounded) : Type 0 where
+  pub weight-is : r .weight ≡ weight (rounded d (take n c))
+  pub loss-is : r .loss ≡ roundingLoss d (take n c) + weight (drop n c)
+  pub coefficients-are : r .weight ≤ maxWeight
+      → r .coefficients ≡ rounded d (take n c) ++ replicate (coefficientCount - n) (pos 0)
 
 -- ---- the integral from the list ds = 2·a_0, a_1, …
 

@@ -1,17 +1,18 @@
 -- Document 01, "Plain operations": multiply.
 use mathlib.Core.Bool.{Bool, not, cond}
-use mathlib.Core.List.{List, [], _∷_, _++_, map}
+use mathlib.Core.List.{List, [], _∷_, _++_}
 use Prim.Native.Nat.{ℕ, suc, _+_, _*_, _-_, min}
 use lib.Dec.{leb, eqb}
-use lib.IntN.{ℤ, pos, natAbs, _-ℤ_, _*ℤ_}
+use lib.IntN.{ℤ, pos}
 use lib.ListN.{replicate, take, drop}
 use Rattle.integer.specs.definitions.Integer.{ℤ-ring}
-use Rattle.integer.specs.definitions.Rounding.{near, upℕ}
+use Rattle.integer.specs.definitions.Rounding.{upℕ}
 use Rattle.chebyshev.specs.definitions.Coefficients.{weight}
 use Rattle.chebyshev.specs.definitions.Product.{product}
 use Rattle.model.specs.definitions.Models.{scale, maxDegree, coefficientCount, productSize, terms, makeModel, zeroModel}
 use Rattle.model.specs.definitions.Models.{badPlace, largePlace}
 use Rattle.model.specs.definitions.Outcomes.{Outcome, outcome}
+use Rattle.model.specs.definitions.Round.{rounded, roundingLoss}
 use Rattle.model.specs.declared.types.Model.{Model}
 
 -- "kept degree, in the library: not 0 to 32 and not 255, which means 32"
@@ -25,19 +26,10 @@ productList a b = product ℤ-ring productSize (terms a) (terms b)
 abbrev pub productDegree : ℕ → Model → Model → ℕ
 productDegree d a b = min (keptDegree d) (a .degree + b .degree)
 
--- "c_k = near(C_k/(2S))"
-unfoldable pub rounded : List ℤ → List ℤ
-rounded cs = map (λ c. near c (2 * scale)) cs
-
--- "Σ|C_k − 2S·c_k|"
-unfoldable pub roundingLoss : List ℤ → ℕ
-roundingLoss [] = 0
-roundingLoss (c ∷ cs) = natAbs (c -ℤ pos (2 * scale) *ℤ near c (2 * scale)) + roundingLoss cs
-
 -- "E = Σ|C_k − 2S·c_k| over kept k + Σ|C_k| over dropped k + 2(A·e_b + B·e_a + e_a·e_b)"
 unfoldable pub productLoss : ℕ → Model → Model → ℕ
 productLoss n a b =
-    roundingLoss (take (suc n) (productList a b))
+    roundingLoss (2 * scale) (take (suc n) (productList a b))
     + weight (drop (suc n) (productList a b))
     + 2 * (weight (a .coefficients) * b .radius + weight (b .coefficients) * a .radius + a .radius * b .radius)
 
@@ -46,7 +38,7 @@ unfoldable pub productModel : ℕ → Model → Model → Model
 productModel d a b =
     let n = productDegree d a b in
     makeModel n
-    (rounded (take (suc n) (productList a b)) ++ replicate (coefficientCount - suc n) (pos 0))
+    (rounded (2 * scale) (take (suc n) (productList a b)) ++ replicate (coefficientCount - suc n) (pos 0))
     (upℕ (productLoss n a b) (2 * scale))
 
 abbrev pub multiplicationPlaces : ℕ → Model → Model → List (Bool × ℕ)

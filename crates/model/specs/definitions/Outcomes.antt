@@ -1,4 +1,5 @@
--- What an entry answers: it accepts with its values, or refuses with a number of document 01's table "Refused, and where".
+-- What an entry answers: it accepts with its values, or refuses with a number of document 01's table "Refused, and where", to
+-- which the change requests of document 02 add theirs.
 use mathlib.Core.Path.{_≡_}
 use mathlib.Core.Bool.{Bool, true, false, cond}
 use mathlib.Core.List.{List, [], _∷_}
@@ -9,7 +10,7 @@ use Rattle.model.specs.declared.types.Refusal.{Refusal}
 use Rattle.model.specs.declared.types.Refusal.the-variants.{ShortArea, BadModel, LargeResult, PointOutside}
 use Rattle.model.specs.declared.types.Refusal.the-variants.{NotContracting, LargeResidual, HelperNotPositive}
 use Rattle.model.specs.declared.types.Refusal.the-variants.{NegativeDiscriminant, BadValue, JobEnds, BytesAfterEnd}
-use Rattle.model.specs.declared.types.Refusal.the-variants.{NotAResult, TooManyResults}
+use Rattle.model.specs.declared.types.Refusal.the-variants.{NotAResult, TooManyResults, BadSeries}
 use Rattle.model.specs.declared.types.Verdict.{Verdict}
 use Rattle.model.specs.declared.types.Verdict.the-variants.{Accepted, Refused}
 
@@ -51,7 +52,7 @@ outcome ps a z = passing ps (accepted a) (λ n. refused n z)
 
 -- ---- what the code's answers mean
 
--- the numbers of the table
+-- the numbers of the table, and 14 of request S-3
 abbrev pub numberOf : Refusal → ℕ
 numberOf ShortArea = 1
 numberOf BadModel = 2
@@ -66,6 +67,7 @@ numberOf JobEnds = 10
 numberOf BytesAfterEnd = 11
 numberOf NotAResult = 12
 numberOf TooManyResults = 13
+numberOf BadSeries = 14
 
 abbrev pub verdictNumber : Verdict → ℕ
 verdictNumber Accepted = 0

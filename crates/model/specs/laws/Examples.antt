@@ -9,9 +9,10 @@ use Rattle.chebyshev.specs.definitions.Coefficients.{weight, addLists, subtract
 use Rattle.chebyshev.specs.definitions.Product.{addAt, addPair, addTerm, addTerms, product}
 use Rattle.model.specs.definitions.Models.{coefficientCount, good, tooLarge, makeModel, constantModel, zeroModel}
 use Rattle.model.specs.definitions.Outcomes.{accepted, passing}
-use Rattle.model.specs.definitions.Multiply.{multiplication, productModel, productList, productLoss, rounded, roundingLoss}
+use Rattle.model.specs.definitions.Multiply.{multiplication, productModel, productList, productLoss}
 use Rattle.model.specs.definitions.Integrate.{integration, integralModel, integralList, halved, numerators, doubleFirst, alternating}
 use Rattle.model.specs.definitions.Evaluate.{evaluation, lowBound, highBound, pointTerm, pointSum, pointError}
+use Rattle.model.specs.definitions.Round.{rounded, roundingLoss}
 use Rattle.model.specs.declared.types.Model.{Model}
 
 -- a list whose first coefficients are given, zeros behind them

@@ -2,7 +2,7 @@
 use mathlib.Core.Path.{_≡_, sym}
 use mathlib.Core.Bool.{true, false}
 use mathlib.Core.List.{List, [], _∷_, _++_, map}
-use Prim.Native.Nat.{ℕ, zero, suc, _+_, _-_, _≤_}
+use Prim.Native.Nat.{ℕ, zero, suc, _+_, _-_, _≤_, _*_}
 use native.Mathlib.Omega.{arith}
 use borrow.Author.Tests.{le-leb, ltb-false, not-false}
 use lib.Dec.{ltb}
@@ -12,13 +12,14 @@ use Rattle.integer.specs.definitions.Integer.{ℤ-ring}
 use Rattle.chebyshev.specs.definitions.Coefficients.{weight, addLists, subtractLists}
 use Rattle.chebyshev.specs.laws.Weight.{weight-add, weight-drop, weight-zeros, weight-opposite}
 use Rattle.model.specs.definitions.InnerContracts.{roundedIntegral, roundedTail}
-use Rattle.model.specs.definitions.Models.{maxDegree, maxWeight, maxRadius, coefficientCount, terms, beyond, good, tooLarge, zeroModel}
+use Rattle.model.specs.definitions.Models.{scale, maxDegree, maxWeight, maxRadius, coefficientCount, terms, beyond, good, tooLarge, zeroModel}
 use Rattle.model.specs.laws.ModelLaws.{good-is}
 use Rattle.model.specs.definitions.Outcomes.{accepted}
 use Rattle.model.specs.definitions.Load.{loading, loadingPlaces}
 use Rattle.model.specs.definitions.Add.{sumModel, differenceModel, additionPlaces, subtractionPlaces, addition, subtraction}
-use Rattle.model.specs.definitions.Multiply.{productList, productDegree, productModel, multiplicationPlaces, multiplication, rounded}
+use Rattle.model.specs.definitions.Multiply.{productList, productDegree, productModel, multiplicationPlaces, multiplication}
 use Rattle.model.specs.definitions.Integrate.{doubleFirst, alternating, integralModel, integrationPlaces, integration}
+use Rattle.model.specs.definitions.Round.{rounded}
 use Rattle.model.specs.laws.IntegralLaws.{integral-is, length-rounded, length-doubled}
 use Rattle.model.specs.laws.RoundingPassLaws.{rounded-length}
 use Rattle.model.specs.laws.PlaceLaws.{outcome-accepted}
@@ -100,7 +101,7 @@ product-beyond : (d : ℕ) (a b : Model) → weight (beyond (productModel d a b)
 unfolding productModel
 product-beyond d a b =
     let n = productDegree d a b in
-    let kept = rounded (take (suc n) (productList a b)) in
+    let kept = rounded (2 * scale) (take (suc n) (productList a b)) in
     weight-behind (suc n) kept (coefficientCount - suc n) (rw (rounded-length, length-take) (omega arith))
 
 integral-beyond : (a : Model) → weight (beyond (integralModel a)) ≡ 0

@@ -11,10 +11,11 @@ use Rattle.chebyshev.specs.laws.Weight.{weight-append-zeros}
 use Rattle.model.specs.definitions.InnerContracts.{RoundedFrom, formedOutcome, unlessLarge}
 use Rattle.model.specs.definitions.Models.{scale, coefficientCount, maxDegree, good}
 use Rattle.model.specs.definitions.Outcomes.{passing}
-use Rattle.model.specs.definitions.Multiply.{keptDegree, productDegree, productList, productLoss, productModel, rounded, multiplication}
+use Rattle.model.specs.definitions.Multiply.{keptDegree, productDegree, productList, productLoss, productModel, multiplication}
+use Rattle.model.specs.definitions.Round.{rounded}
 use Rattle.model.specs.laws.FormedLaws.{formed-is}
 use Rattle.model.specs.declared.types.Model.{Model}
-use Rattle.model.specs.declared.multiply.Rounded.{Rounded}
+use Rattle.model.specs.declared.round.Rounded.{Rounded}
 
 -- a kept degree within the limit stands for itself
 pub kept-is : (d : ℕ) → d ≤ maxDegree → keptDegree d ≡ d
@@ -25,13 +26,13 @@ abbrev pub radiusLoss : Model → Model → ℕ
 radiusLoss a b = 2 * (weight (a .coefficients) * b .radius + weight (b .coefficients) * a .radius + a .radius * b .radius)
 
 -- the result from the rounded list C
-pub product-formed : (d : ℕ) (a b : Model) (r : Rounded) → RoundedFrom (productList a b) (suc (productDegree d a b)) r
+pub product-formed : (d : ℕ) (a b : Model) (r : Rounded) → RoundedFrom (2 * scale) (productList a b) (suc (productDegree d a b)) r
     → formedOutcome (productDegree d a b) (r .coefficients) (r .weight) (upℕ (r .loss + radiusLoss a b) (2 * scale)) ≡ unlessLarge (productModel d a b)
 unfolding productModel productLoss
 product-formed d a b r f =
     let m = productModel d a b in
     let n = productDegree d a b in
-    let w : r .weight ≡ weight (m .coefficients) = f .weight-is ∙ sym (weight-append-zeros (rounded (take (suc n) (productList a b))) (coefficientCount - suc n)) in
+    let w : r .weight ≡ weight (m .coefficients) = f .weight-is ∙ sym (weight-append-zeros (rounded (2 * scale) (take (suc n) (productList a b))) (coefficientCount - suc n)) in
     let e : upℕ (r .loss + radiusLoss a b) (2 * scale) ≡ m .radius = ap (λ l. upℕ (l + radiusLoss a b) (2 * scale)) (f .loss-is) in
     (λ t. formedOutcome n (r .coefficients) (w t) (e t)) ∙ formed-is m (r .coefficients) (λ h. f .coefficients-are (omega arith))
 

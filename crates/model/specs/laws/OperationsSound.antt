@@ -1,8 +1,8 @@
 -- Add, subtract and multiply are sound: what the operands allow at x, added, subtracted or multiplied, the result allows at x.
-use mathlib.Core.Path.{_≡_, refl, subst}
+use mathlib.Core.Path.{_≡_, subst}
 use mathlib.Core.Bool.{true}
 use mathlib.Core.List.{List, [], _∷_}
-use Prim.Native.Nat.{ℕ, zero, suc, _+_, _*_, _-_}
+use Prim.Native.Nat.{ℕ, suc, _+_, _*_, _-_}
 use native.Mathlib.Omega.{arith}
 use lib.IntN.{ℤ, pos}
 use lib.ListN.{take, drop}
@@ -13,12 +13,14 @@ use Rattle.integer.specs.definitions.Fraction.{ℚ, whole, _+ℚ_, _-ℚ_, -ℚ
 use Rattle.integer.specs.laws.FractionSolver.{reifyℚ, solveℚ}
 use Rattle.integer.specs.laws.FractionOrder.{ℚ-ordered}
 use Rattle.integer.specs.laws.FractionRounding.{natural-add, natural-mul, up-bound}
-use Rattle.chebyshev.specs.definitions.Coefficients.{weight, addLists, subtractLists, scaleList}
+use Rattle.chebyshev.specs.definitions.Coefficients.{weight, scaleList}
 use Rattle.chebyshev.specs.definitions.Allows.{allows}
 use Rattle.model.specs.definitions.Models.{scale, coefficientCount, good}
 use Rattle.model.specs.definitions.Add.{sumModel, differenceModel, addition, subtraction}
-use Rattle.model.specs.definitions.Multiply.{productModel, productList, productDegree, productLoss, rounded, roundingLoss, multiplication}
+use Rattle.model.specs.definitions.Multiply.{productModel, productList, productDegree, productLoss, multiplication}
 use Rattle.model.specs.definitions.Allowed.{position, AllowsAt, Allows, OnInterval}
+use Rattle.model.specs.definitions.Round.{rounded, roundingLoss}
+use Rattle.model.specs.laws.RoundingPassLaws.{rounding-weight}
 use Rattle.model.specs.laws.ValueLaws.{valueAt, valueAt-add, valueAt-subtract, valueAt-scale, valueAt-append-zeros, valueAt-weight, valueAt-difference}
 use Rattle.model.specs.laws.GoodLaws.{value-productList}
 use Rattle.model.specs.definitions.Outcomes.{accepted}
@@ -50,14 +52,6 @@ subtract-sound a b x v w h k =
     (difference-bound (whole (pos scale)) v w (valueAt x (a .coefficients)) (valueAt x (b .coefficients)) h k)
 
 -- ---- multiply
-
--- the weight of C − 2S·c, where c is the rounded first k places of C: what rounding and dropping lose
-rounding-weight : (k : ℕ) (cs : List ℤ) → weight (subtractLists ℤ-ring cs (scaleList ℤ-ring (pos (2 * scale)) (rounded (take k cs)))) ≡ roundingLoss (take k cs) + weight (drop k cs)
-unfolding weight subtractLists addLists scaleList rounded roundingLoss
-rounding-weight zero [] = refl
-rounding-weight zero (c ∷ cs) = omega arith
-rounding-weight (suc k) [] = refl
-rounding-weight (suc k) (c ∷ cs) = omega (arith, rounding-weight k cs)
 
 -- 2s·(v·w·s − c) = (2·α·β − 2s·c) + 2·(α·η + β·ε + ε·η), where ε = v·s − α and η = w·s − β
 product-bound : (s v w α β c : ℚ) {l A B e f : ℚ}
@@ -91,17 +85,17 @@ multiply-sound d a b ga gb x v w on h k =
     n = productDegree d a b
 
     kept : List ℤ
-    kept = rounded (take (suc n) (productList a b))
+    kept = rounded (2 * scale) (take (suc n) (productList a b))
 
     lost : ℕ
-    lost = roundingLoss (take (suc n) (productList a b)) + weight (drop (suc n) (productList a b))
+    lost = roundingLoss (2 * scale) (take (suc n) (productList a b)) + weight (drop (suc n) (productList a b))
 
     loss-natural : (l A B e f : ℕ) → whole (pos (l + 2 * (A * f + B * e + e * f))) ≡ whole (pos l) +ℚ whole (pos 2) *ℚ (whole (pos A) *ℚ whole (pos f) +ℚ whole (pos B) *ℚ whole (pos e) +ℚ whole (pos e) *ℚ whole (pos f))
     loss-natural l A B e f = simp (natural-add, natural-mul)
 
     rounding : ∣ whole (pos 2) *ℚ valueAt x (a .coefficients) *ℚ valueAt x (b .coefficients) -ℚ whole (pos 2) *ℚ whole (pos scale) *ℚ valueAt x kept ∣ℚ ≤ℚ whole (pos lost)
     rounding =
-        rw (value-productList a b ga gb x, ← natural-mul 2 scale, ← valueAt-scale x (pos (2 * scale)) kept, ← rounding-weight (suc n) (productList a b))
+        rw (value-productList a b ga gb x, ← natural-mul 2 scale, ← valueAt-scale x (pos (2 * scale)) kept, ← rounding-weight (2 * scale) (suc n) (productList a b))
         (valueAt-difference on (productList a b) (scaleList ℤ-ring (pos (2 * scale)) kept))
 
 -- ---- the same of the outcomes

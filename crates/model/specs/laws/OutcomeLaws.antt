@@ -9,7 +9,7 @@ use Rattle.model.specs.definitions.Evaluate.{boundsOf}
 use Rattle.model.specs.declared.types.ModelOutcome.{ModelOutcome}
 use Rattle.model.specs.declared.types.BoundsOutcome.{BoundsOutcome}
 use Rattle.model.specs.declared.types.Refusal.{Refusal}
-use Rattle.model.specs.declared.types.Refusal.the-variants.{ShortArea, BadModel, LargeResult, PointOutside, NotContracting, LargeResidual, HelperNotPositive, NegativeDiscriminant, BadValue, JobEnds, BytesAfterEnd, NotAResult, TooManyResults}
+use Rattle.model.specs.declared.types.Refusal.the-variants.{ShortArea, BadModel, LargeResult, PointOutside, NotContracting, LargeResidual, HelperNotPositive, NegativeDiscriminant, BadValue, JobEnds, BytesAfterEnd, NotAResult, TooManyResults, BadSeries}
 use Rattle.model.specs.declared.types.Verdict.{Verdict}
 use Rattle.model.specs.declared.types.Verdict.the-variants.{Accepted, Refused}
 
@@ -27,7 +27,8 @@ named n =
     (cond (eqb n 9) BadValue
     (cond (eqb n 10) JobEnds
     (cond (eqb n 11) BytesAfterEnd
-    (cond (eqb n 12) NotAResult TooManyResults)))))))))))
+    (cond (eqb n 12) NotAResult
+    (cond (eqb n 13) TooManyResults BadSeries))))))))))))
 
 named-number : (r : Refusal) → named (numberOf r) ≡ r
 named-number ShortArea = refl
@@ -43,6 +44,7 @@ named-number JobEnds = refl
 named-number BytesAfterEnd = refl
 named-number NotAResult = refl
 named-number TooManyResults = refl
+named-number BadSeries = refl
 
 -- no refusal has the number of an acceptance
 pub numberOf-positive : (r : Refusal) → 0 < numberOf r
@@ -59,6 +61,7 @@ numberOf-positive JobEnds = omega arith
 numberOf-positive BytesAfterEnd = omega arith
 numberOf-positive NotAResult = omega arith
 numberOf-positive TooManyResults = omega arith
+numberOf-positive BadSeries = omega arith
 
 pub numberOf-injective : (r s : Refusal) → numberOf r ≡ numberOf s → r ≡ s
 numberOf-injective r s e = sym (named-number r) ∙ ap named e ∙ named-number s

@@ -42,7 +42,7 @@ outcome-payload P (p ∷ ps) a z own zero = pick (p .0) own (λ h. outcome-paylo
     pick false own rest = rest (λ h. own (refl, h))
 
 -- the last place of an operation is that of its result
-stored : (ps : List (Bool × ℕ)) (m : Model) → (Passed ps → tooLarge m ≡ false) → Storable (payload (outcome ps m zeroModel))
+pub stored : (ps : List (Bool × ℕ)) (m : Model) → (Passed ps → tooLarge m ≡ false) → Storable (payload (outcome ps m zeroModel))
 stored ps m small = outcome-payload Storable ps m zeroModel (λ p. small-storable m (small p)) zero-storable
 
 pub addition-storable : (a b : Model) → Storable (payload (addition a b))

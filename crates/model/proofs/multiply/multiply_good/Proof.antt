@@ -92,7 +92,7 @@ module _ (c : tie.After-round-product) where
   abbrev start : tie.Start
   start = s at
 
-  rounded-from : RoundedFrom (productList (a start) (b start)) (suc (productDegree (start .args .kept) (a start) (b start))) (c .round-product .result)
+  rounded-from : RoundedFrom (2 * scale) (productList (a start) (b start)) (suc (productDegree (start .args .kept) (a start) (b start))) (c .round-product .result)
   unfolding productList
   rounded-from = simp (add-one, degree-is at) at (c .round-product .ensures)
 
@@ -103,7 +103,7 @@ add-loss : tie.Need-add-loss
 add-loss c =
     let r = c .before .before .before .before .before in
     let s = start r in
-    omega (arith, c .before .radius-loss .ensures .1, rounded-loss (productList (a s) (b s)) _ (r .round-product .result) (rounded-from r), weight-productList (a s) (b s) (s .pre .first-good) (s .pre .second-good))
+    omega (arith, c .before .radius-loss .ensures .1, rounded-loss (2 * scale) (omega arith) (productList (a s) (b s)) _ (r .round-product .result) (rounded-from r), weight-productList (a s) (b s) (s .pre .first-good) (s .pre .second-good))
 
 returns : tie.Need-returns
 returns c =

@@ -8,6 +8,7 @@ use native.Mathlib.Nat.{mul-le-mul}
 use lib.IntN.{ℤ}
 use lib.ListN.{length, take}
 use lib.Seq.{length-take-le}
+use lib.Signed.{ltZ-yes}
 use Rattle.integer.specs.definitions.Integer.{ℤ-ring}
 use Rattle.chebyshev.specs.definitions.Coefficients.{weight}
 use Rattle.chebyshev.specs.laws.Weight.{weight-take, weight-zeros}
@@ -15,7 +16,7 @@ use Rattle.chebyshev.specs.definitions.Product.{product}
 use Rattle.chebyshev.specs.laws.ProductLaws.{length-product}
 use Rattle.chebyshev.specs.laws.ProductWeight.{weight-product}
 use Rattle.chebyshev.specs.laws.ProductEnd.{product-end}
-use Rattle.model.specs.definitions.Models.{productSize}
+use Rattle.model.specs.definitions.Models.{scale, productSize}
 use Rattle.model.specs.laws.RoundingPassLaws.{rounded-prefix}
 use Rattle.model.proofs.multiply.round_product.Statement.{statement}
 use Rattle.model.proofs.multiply.round_product.Tie as tie
@@ -50,13 +51,17 @@ slice-aggregate-round c = let s = c .before .before .before .before in rw (forme
 round-requires : tie.Need-round-requires
 round-requires c κs =
     let s = c .before .before .before .before in
-    rw (formed (c .before .before))
-    (omega (arith, prefix-length s, weight-take (end s) (C s), weight-product productSize (a s) (b s), weights s, s .pre))
+    rw (formed (c .before .before)) (record {
+      kept-fits = omega (arith, s .pre);
+      there = omega (arith, prefix-length s, s .pre);
+      light = omega (arith, weight-take (end s) (C s), weight-product productSize (a s) (b s), weights s);
+      divides = ltZ-yes tt;
+    })
 
 returns : tie.Need-returns
 returns c =
     let s = c .before .before .before .before .before in
-    rounded-prefix (C s) (end s) (s .args .kept) (c .round .result) (product-end productSize (end s) (a s) (b s) (omega arith)) (omega (arith, s .pre))
+    rounded-prefix (2 * scale) (C s) (end s) (s .args .kept) (c .round .result) (product-end productSize (end s) (a s) (b s) (omega arith)) (omega (arith, s .pre))
     (rw (formed (c .before .before .before)) at (c .round .ensures))
 
 pub round-product-spec : {M : Type 1} → statement M

@@ -1,0 +1,2 @@
+pub mod MultipleWalk
+pub mod TableTest

@@ -1,0 +1,4 @@
+pub mod Table
+pub mod Convert
+pub mod SeriesValue
+pub mod InnerContracts

@@ -1,0 +1,4 @@
+pub mod RowLaws
+pub mod ConversionLaws
+pub mod ConversionSound
+pub mod Examples
