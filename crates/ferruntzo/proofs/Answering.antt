@@ -14,6 +14,7 @@ use Rattle.model.specs.declared.types.ModelOutcome.{ModelOutcome}
 use Rattle.certificate.specs.definitions.Tests.{scratchSize, scratchAfter, Certificate, testOf}
 use Rattle.certificate.specs.declared.types.TestOutcome.{TestOutcome}
 use Rattle.ferruntzo.specs.definitions.Areas.{fits, areaOut, numbersSize}
+use Rattle.ferruntzo.specs.definitions.Operations.{OperationAnswer, outcomeIn}
 use Rattle.ferruntzo.specs.definitions.Certificates.{testAnswer, testIn, testFits}
 
 -- ---- areas that have their numbers
@@ -55,6 +56,11 @@ module _ {A : Type 0} (n : ℕ) (new old : List A) where
   untouched h = rw (lt-leb n (length old) h)
 
 -- ---- the model beside a verdict
+
+-- an answer is what f gives for what an area holds, where the code's outcome is f of what it read
+pub answered : {A : Type 0} (f : A → Outcome Model) {o : Outcome Model} {read : A} {held : A} {answer : OperationAnswer} (out : List ℤ)
+    → answer ≡ outcomeIn o out → o ≡ f read → read ≡ held → answer ≡ outcomeIn (f held) out
+answered f out a o r = a ∙ ap (λ x. outcomeIn x out) (o ∙ ap f r)
 
 pub outcome-storable : (r : ModelOutcome) {o : Outcome Model} → outcomeOf r ≡ o → Storable (payload o) → Storable (r .model)
 outcome-storable r e h = subst Storable (ap payload (sym e) ∙ payload-judged (r .verdict) (r .model)) h

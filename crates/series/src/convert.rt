@@ -1,4 +1,4 @@
-// A model from a power series: the powers expanded in T_0 to T_32 by the table, and the sums rounded.
+// A model from a power series: its terms expanded in T_0 to T_32 by the table, and the sums rounded.
 ghost use mathlib.Core.Path.{_≡_};
 ghost use mathlib.Core.Bool.{true};
 ghost use Rattle.integer.specs.definitions.Integer.{ℤ-ring};
@@ -32,15 +32,15 @@ fn add_multiple(sums: &mut [i64], p: i64, row: &[i64])
     }
 }
 
-// The powers expanded by the table, added to the sums. Row k ends at place k.
-fn add_powers(sums: &mut [i64], powers: &[i32], table: &[i64])
-    requires { ⌜ Expandable (now sums) (now powers) (now table) ⌝ }
-    ensures { λ _. ⌜ now (sums .exit) ≡ addLists ℤ-ring (now (sums .entry)) (expandedFrom 0 (now (powers .entry))) ⌝ }
+// The terms p_k·x^k expanded by the table, added to the sums. Row k ends at place k.
+fn add_expanded(sums: &mut [i64], terms: &[i32], table: &[i64])
+    requires { ⌜ Expandable (now sums) (now terms) (now table) ⌝ }
+    ensures { λ _. ⌜ now (sums .exit) ≡ addLists ℤ-ring (now (sums .entry)) (expandedFrom 0 (now (terms .entry))) ⌝ }
 {
     let mut k = 0;
-    while k < powers.len() {
+    while k < terms.len() {
         let start = COEFFICIENTS * k;
-        add_multiple(sums, powers[k] as i64, &table[start..start + k + 1]);
+        add_multiple(sums, terms[k] as i64, &table[start..start + k + 1]);
         k += 1;
     }
 }
@@ -52,9 +52,9 @@ fn convert_good(s: Series) -> ModelOutcome
 {
     let table = expansion_table();
     let mut sums = [0i64; COEFFICIENTS];
-    let powers = s.coefficients;
+    let all = s.coefficients;
     let count = s.degree as usize + 1;
-    add_powers(&mut sums, &powers[..count], &table);
+    add_expanded(&mut sums, &all[..count], &table);
     let rounded = round(&sums[..count], count, UNIT);
     let coefficients = rounded.coefficients;
     ModelOutcome::formed(

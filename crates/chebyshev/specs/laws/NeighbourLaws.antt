@@ -36,7 +36,7 @@ module _ (R : CommutativeRing) where
   unfolding value valueFrom firstKind neighbourSums
   value-neighbours x [] = solve R (x ∷ []) (search reify depth 20) (search reify depth 20) tt
   value-neighbours x (e ∷ es) =
-      valueFrom-add R x 0 (ι (pos 0) ∷ (ι (pos 2) ⊗ e) ∷ es) es
+      valueFrom-add R x 0 _ es
       ∙ solve R (x ∷ e ∷ valueFrom R x 2 es ∷ valueFrom R x 0 es ∷ []) (search reify depth 20) (search reify depth 20) tt
       ∙ ap (λ v. ι (pos 2) ⊗ x ⊗ e ⊕ v) (valueFrom-neighbours x 0 es)
       ∙ solve R (x ∷ e ∷ valueFrom R x 1 es ∷ []) (search reify depth 20) (search reify depth 20) tt

@@ -1,13 +1,14 @@
 -- Laws of the weight of a list of whole numbers, as natural numbers for `omega` in code proofs. The weight is the norm over ℤ,
 -- so its laws are those of the norm (NormLaws.antt). A loop over a list goes by `weight-step` and `weight-end`.
-use mathlib.Core.Path.{_≡_, refl, _∙_, ap}
+use mathlib.Core.Path.{_≡_, refl, _∙_, ap, ap₂}
 use mathlib.Core.List.{List, [], _∷_, _++_, map}
 use Prim.Native.Nat.{ℕ, _+_, _*_, _<_, _≤_}
+use native.Mathlib.Omega.{arith}
 use native.Mathlib.Numerals.{add-one}
 use lib.IntN.{ℤ, pos, negℤ, natAbs}
 use lib.ListN.{length, getD, take, drop, replicate, drop-of-length-le}
 use lib.Seq.{drop-cons}
-use Rattle.integer.specs.laws.Parts.{_⁺}
+use Rattle.integer.specs.laws.Parts.{_⁺, same, abs}
 use Rattle.integer.specs.definitions.Integer.{ℤ-ring}
 use Rattle.integer.specs.laws.Order.{ℤ-ordered, le-pos, ∣∣-is}
 use Rattle.chebyshev.specs.definitions.Coefficients.{weight, addLists, scaleList, subtractLists}
@@ -50,6 +51,12 @@ weight-zeros n = ap _⁺ (simp norm-weight at (norm-zeros ℤ-ordered n))
 
 pub weight-append-zeros : (a : List ℤ) (n : ℕ) → weight (a ++ replicate n (pos 0)) ≡ weight a
 weight-append-zeros a n = ap _⁺ (simp norm-weight at (norm-append-zeros ℤ-ordered a n))
+
+-- a list of weight 0 holds zeros alone
+pub weight-zero : (a : List ℤ) → weight a ≡ 0 → a ≡ replicate (length a) (pos 0)
+unfolding weight
+weight-zero [] e = refl
+weight-zero (c ∷ a) e = ap₂ _∷_ (same c (pos 0) (omega (arith, abs c))) (weight-zero a (omega arith))
 
 -- ---- elements
 

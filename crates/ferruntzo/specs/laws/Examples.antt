@@ -8,14 +8,18 @@ use lib.ListN.{length, drop, replicate}
 use Rattle.integer.specs.definitions.Lists.{zeros}
 use Rattle.integer.specs.definitions.Rounding.{floor, up, upℕ, near}
 use Rattle.chebyshev.specs.definitions.Coefficients.{weight, addLists, subtractLists, scaleList, coefficientSum}
+use Rattle.chebyshev.specs.definitions.Neighbours.{neighbourSums}
 use Rattle.chebyshev.specs.definitions.Product.{addAt, addPair, addTerm, addTerms, product}
 use Rattle.model.specs.definitions.Models.{good, tooLarge, zeroModel}
 use Rattle.model.specs.definitions.Outcomes.{passing}
 use Rattle.model.specs.definitions.Add.{sumModel, addition}
 use Rattle.model.specs.definitions.Multiply.{productList}
+use Rattle.model.specs.definitions.Round.{rounded, roundingLoss}
 use Rattle.model.specs.definitions.Evaluate.{pointTerm, pointSum, pointError, lowBound, highBound, evaluation}
 use Rattle.certificate.specs.definitions.Tests.{scratchAfter, displacement}
 use Rattle.certificate.specs.definitions.Root.{rootOutcome, rootPlaces, rootContraction, rootResidual, rootModel}
+use Rattle.series.specs.definitions.Convert.{goodSeries, expandedFrom, seriesModel, conversion}
+use Rattle.series.specs.definitions.Table.{expansionRow}
 use Rattle.job.specs.definitions.Bytes.{signedsAt}
 use Rattle.job.specs.definitions.Operations.{makerPlaces, operation}
 use Rattle.job.specs.definitions.Decode.{makerAt}
@@ -27,6 +31,7 @@ use Rattle.ferruntzo.specs.definitions.Areas.{areaOut}
 use Rattle.ferruntzo.specs.definitions.Operations.{operationAnswer, outcomeIn, binaryAnswer, evaluationAnswer, boundsIn, evaluateAnswer}
 use Rattle.ferruntzo.specs.definitions.Certificates.{testAnswer, testIn, rootAnswer}
 use Rattle.ferruntzo.specs.definitions.Jobs.{jobAnswer, checkAnswer}
+use Rattle.ferruntzo.specs.definitions.Conversions.{seriesAnswer}
 
 -- the numbers of a model, or of a candidate, from its degree, its first coefficients and how many numbers follow
 abbrev area : ℕ → List ℤ → ℕ → List ℤ
@@ -56,6 +61,16 @@ pub evaluations :
     × (evaluateAnswer one (pos 0) (nines 1) ≡ evaluationAnswer 1 (nines 1))
 unfolding boundsIn areaOut evaluation lowBound highBound pointTerm pointSum pointError passing good weight floor up near zeros
 evaluations = (refl, refl, refl, refl)
+
+-- 2·x² + 3·x³ with a number behind the areas; a negative degree; an area of 33 numbers for the series, and of 34 for the result
+pub conversions :
+    (seriesAnswer (area 3 (pos 0 ∷ pos 0 ∷ pos 2 ∷ pos 3 ∷ []) 34 ++ nines 1) (nines 36)
+    ≡ operationAnswer 0 (pos 3 ∷ pos 1 ∷ pos 2 ∷ pos 1 ∷ pos 1 ∷ (zeros 29 ++ (pos 1 ∷ nines 1))))
+    × (seriesAnswer (negsuc 0 ∷ zeros 33) (nines 36) ≡ operationAnswer 14 (zeros 35 ++ nines 1))
+    × (seriesAnswer (zeros 33) (nines 36) ≡ operationAnswer 1 (zeros 35 ++ nines 1))
+    × (seriesAnswer (zeros 34) (nines 34) ≡ operationAnswer 1 (nines 34))
+unfolding outcomeIn areaOut conversion goodSeries seriesModel expandedFrom expansionRow neighbourSums addLists scaleList rounded roundingLoss near floor upℕ passing tooLarge weight zeroModel zeros
+conversions = (refl, refl, refl, refl)
 
 -- the root whose discriminant is 0: m, N and b; the root of 1 with the same candidates, refused with 8; an area of 34 numbers for the
 -- result; a scratch of 64

@@ -8,12 +8,11 @@ use native.Mathlib.Omega.{arith}
 use native.Mathlib.Nat.{mul-le-mul}
 use lib.IntN.{ℤ, pos}
 use lib.ListN.{length, getD, replicate, length-take, take-append-drop}
-use Rattle.integer.specs.laws.Parts.{abs, same}
 use Rattle.integer.specs.definitions.Integer.{ℤ-ring}
 use Rattle.integer.specs.definitions.Fraction.{ℚ, whole, _*ℚ_}
 use Rattle.integer.specs.definitions.FractionRing.{ℚ-ring}
 use Rattle.chebyshev.specs.definitions.Coefficients.{weight}
-use Rattle.chebyshev.specs.laws.Weight.{weight-take}
+use Rattle.chebyshev.specs.laws.Weight.{weight-take, weight-zero}
 use Rattle.chebyshev.specs.definitions.Product.{product}
 use Rattle.chebyshev.specs.laws.ProductSums.{product-zeros-left, product-zeros-right}
 use Rattle.chebyshev.specs.laws.ProductLaws.{value-product-whole}
@@ -23,12 +22,6 @@ use Rattle.model.specs.laws.ModelLaws.{good-is}
 use Rattle.model.specs.laws.ValueLaws.{valueAt, valueAt-append-zeros}
 use Rattle.model.specs.definitions.Multiply.{productList}
 use Rattle.model.specs.declared.types.Model.{Model}
-
--- a list of weight 0 holds zeros alone
-weight-zero : (a : List ℤ) → weight a ≡ 0 → a ≡ replicate (length a) (pos 0)
-unfolding weight
-weight-zero [] e = refl
-weight-zero (c ∷ a) e = ap₂ _∷_ (same c (pos 0) (omega (arith, abs c))) (weight-zero a (omega arith))
 
 pub getD-append-zeros : (a : List ℤ) (n i : ℕ) → getD (a ++ replicate n (pos 0)) i (pos 0) ≡ getD a i (pos 0)
 getD-append-zeros [] zero i = refl

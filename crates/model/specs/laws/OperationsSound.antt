@@ -7,21 +7,20 @@ use native.Mathlib.Omega.{arith}
 use lib.IntN.{ℤ, pos}
 use lib.ListN.{take, drop}
 use Rattle.integer.specs.laws.Embedding.{ι-abs}
-use Rattle.integer.specs.definitions.Integer.{ℤ-ring}
 use Rattle.integer.specs.laws.OrderedRingLaws.{le-of-eq, abs-mul-le, abs-add-le, abs-neg-le}
 use Rattle.integer.specs.definitions.Fraction.{ℚ, whole, _+ℚ_, _-ℚ_, -ℚ_, _*ℚ_, _≤ℚ_, ∣_∣ℚ}
 use Rattle.integer.specs.laws.FractionSolver.{reifyℚ, solveℚ}
 use Rattle.integer.specs.laws.FractionOrder.{ℚ-ordered}
 use Rattle.integer.specs.laws.FractionRounding.{natural-add, natural-mul, up-bound}
-use Rattle.chebyshev.specs.definitions.Coefficients.{weight, scaleList}
+use Rattle.chebyshev.specs.definitions.Coefficients.{weight}
 use Rattle.chebyshev.specs.definitions.Allows.{allows}
 use Rattle.model.specs.definitions.Models.{scale, coefficientCount, good}
 use Rattle.model.specs.definitions.Add.{sumModel, differenceModel, addition, subtraction}
 use Rattle.model.specs.definitions.Multiply.{productModel, productList, productDegree, productLoss, multiplication}
 use Rattle.model.specs.definitions.Allowed.{position, AllowsAt, Allows, OnInterval}
 use Rattle.model.specs.definitions.Round.{rounded, roundingLoss}
-use Rattle.model.specs.laws.RoundingPassLaws.{rounding-weight}
-use Rattle.model.specs.laws.ValueLaws.{valueAt, valueAt-add, valueAt-subtract, valueAt-scale, valueAt-append-zeros, valueAt-weight, valueAt-difference}
+use Rattle.model.specs.laws.RoundingPassLaws.{rounding-value}
+use Rattle.model.specs.laws.ValueLaws.{valueAt, valueAt-add, valueAt-subtract, valueAt-append-zeros, valueAt-weight}
 use Rattle.model.specs.laws.GoodLaws.{value-productList}
 use Rattle.model.specs.definitions.Outcomes.{accepted}
 use Rattle.model.specs.laws.PlaceLaws.{addition-accepted, subtraction-accepted, multiplication-accepted}
@@ -94,9 +93,7 @@ multiply-sound d a b ga gb x v w on h k =
     loss-natural l A B e f = simp (natural-add, natural-mul)
 
     rounding : ∣ whole (pos 2) *ℚ valueAt x (a .coefficients) *ℚ valueAt x (b .coefficients) -ℚ whole (pos 2) *ℚ whole (pos scale) *ℚ valueAt x kept ∣ℚ ≤ℚ whole (pos lost)
-    rounding =
-        rw (value-productList a b ga gb x, ← natural-mul 2 scale, ← valueAt-scale x (pos (2 * scale)) kept, ← rounding-weight (2 * scale) (suc n) (productList a b))
-        (valueAt-difference on (productList a b) (scaleList ℤ-ring (pos (2 * scale)) kept))
+    rounding = rw (value-productList a b ga gb x, ← natural-mul 2 scale) (rounding-value (2 * scale) (suc n) on (productList a b))
 
 -- ---- the same of the outcomes
 

@@ -9,14 +9,17 @@ use lib.ListN.{length, getD, take, drop, length-map, drop-of-length-le, List·ge
 use lib.Seq.{drop-cons, take-take}
 use Rattle.integer.specs.laws.Parts.{same, abs, apart, difference, abs-neg}
 use Rattle.integer.specs.laws.Difference.{all3, differences}
+use Rattle.integer.specs.definitions.Fraction.{ℚ, whole, _-ℚ_, _*ℚ_, _≤ℚ_, ∣_∣ℚ}
 use Rattle.integer.specs.definitions.Integer.{ℤ-ring}
 use Rattle.integer.specs.definitions.Rounding.{near}
 use Rattle.integer.specs.laws.RoundingLaws.{near-closer}
 use Rattle.integer.specs.laws.RoundingSize.{near-size}
 use Rattle.chebyshev.specs.definitions.Coefficients.{weight, addLists, scaleList, subtractLists}
 use Rattle.chebyshev.specs.laws.Weight.{weight-split}
+use Rattle.model.specs.definitions.Allowed.{OnInterval}
 use Rattle.model.specs.definitions.InnerContracts.{RoundedFrom}
 use Rattle.model.specs.definitions.Round.{rounded, roundingLoss}
+use Rattle.model.specs.laws.ValueLaws.{valueAt, valueAt-scale, valueAt-difference}
 use Rattle.model.specs.declared.round.Rounded.{Rounded}
 
 -- one number: c = near(C/d), and |C − d·c|
@@ -82,13 +85,20 @@ loss-weight d h [] = omega arith
 loss-weight d h (c ∷ cs) = omega (arith, loss-small d h c, loss-weight d h cs)
 
 -- the weight of C − d·c, where c is the rounded first k places of C: what rounding and dropping lose
-pub rounding-weight : (d k : ℕ) (cs : List ℤ)
+rounding-weight : (d k : ℕ) (cs : List ℤ)
     → weight (subtractLists ℤ-ring cs (scaleList ℤ-ring (pos d) (rounded d (take k cs)))) ≡ roundingLoss d (take k cs) + weight (drop k cs)
 unfolding weight subtractLists addLists scaleList rounded roundingLoss
 rounding-weight d zero [] = refl
 rounding-weight d zero (c ∷ cs) = omega arith
 rounding-weight d (suc k) [] = refl
 rounding-weight d (suc k) (c ∷ cs) = omega (arith, rounding-weight d k cs)
+
+-- what rounding and dropping lose at every fraction
+pub rounding-value : (d k : ℕ) {x : ℚ} → OnInterval x → (cs : List ℤ)
+    → ∣ valueAt x cs -ℚ whole (pos d) *ℚ valueAt x (rounded d (take k cs)) ∣ℚ ≤ℚ whole (pos (roundingLoss d (take k cs) + weight (drop k cs)))
+rounding-value d k {x} on cs =
+    rw (← valueAt-scale x (pos d) (rounded d (take k cs)), ← rounding-weight d k cs)
+    (valueAt-difference on cs (scaleList ℤ-ring (pos d) (rounded d (take k cs))))
 
 -- ---- the result of the pass
 

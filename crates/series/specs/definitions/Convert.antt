@@ -17,17 +17,17 @@ use Rattle.series.specs.definitions.Table.{expansionUnit, expansionRow}
 use Rattle.series.specs.declared.types.Series.{Series}
 
 -- the coefficients up to the degree, and those beyond it
-abbrev pub powers : Series → List ℤ
-powers s = take (suc (s .degree)) (s .coefficients)
+abbrev pub seriesTerms : Series → List ℤ
+seriesTerms s = take (suc (s .degree)) (s .coefficients)
 
-abbrev pub powersBeyond : Series → List ℤ
-powersBeyond s = drop (suc (s .degree)) (s .coefficients)
+abbrev pub seriesBeyond : Series → List ℤ
+seriesBeyond s = drop (suc (s .degree)) (s .coefficients)
 
 -- Refusal 14 is for a series that is not within its limits: "degree or weight of the series outside its limit, or a nonzero
 -- beyond its degree".
 unfoldable pub goodSeries : Series → Bool
 goodSeries s =
-    leb (s .degree) maxDegree && (leb (weight (s .coefficients)) maxWeight && eqb (weight (powersBeyond s)) 0)
+    leb (s .degree) maxDegree && (leb (weight (s .coefficients)) maxWeight && eqb (weight (seriesBeyond s)) 0)
 
 -- Σ p_k·(row k), from row k on
 unfoldable pub expandedFrom : ℕ → List ℤ → List ℤ
@@ -36,7 +36,7 @@ expandedFrom k (p ∷ ps) = addLists ℤ-ring (scaleList ℤ-ring p (expansionRo
 
 -- the coefficients of T_0..T_n in the series, times 2^32
 abbrev pub expanded : Series → List ℤ
-expanded s = expandedFrom 0 (powers s)
+expanded s = expandedFrom 0 (seriesTerms s)
 
 -- "The degree stays, coefficients are rounded near, and the radius is the total absolute rounding difference, rounded up."
 unfoldable pub seriesModel : Series → Model

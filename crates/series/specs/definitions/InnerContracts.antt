@@ -8,7 +8,7 @@ use Rattle.chebyshev.specs.definitions.Coefficients.{weight}
 use Rattle.model.specs.definitions.Models.{coefficientCount}
 use Rattle.series.specs.definitions.Table.{expansionUnit, expansionTable}
 
--- no more powers than rows, a place in the sums for each, and the table
+-- no more terms than rows, a place in the sums for each, and the table
 pub record Expandable (sums ps table : List ℤ) : Type 0 where
   pub few : length ps ≤ coefficientCount
   pub room : length ps ≤ length sums

@@ -25,7 +25,7 @@ use Rattle.model.specs.laws.ModelLaws.{Good, good-is}
 use Rattle.model.specs.laws.ResultLaws.{stored}
 use Rattle.model.specs.declared.round.Rounded.{Rounded}
 use Rattle.series.specs.definitions.Table.{expansionUnit, expansionRow, rowsFrom, expansionTable}
-use Rattle.series.specs.definitions.Convert.{powers, goodSeries, expandedFrom, expanded, seriesModel, conversion}
+use Rattle.series.specs.definitions.Convert.{seriesTerms, goodSeries, expandedFrom, expanded, seriesModel, conversion}
 use Rattle.series.specs.declared.types.Series.{Series}
 use Rattle.series.specs.laws.RowLaws.{length-row, weight-row}
 
@@ -126,18 +126,18 @@ limits s h = good-is (makeModel (s .degree) (s .coefficients) 0) (series-good s 
 
 -- ---- the result from the rounded sums
 
-pub series-formed : (s : Series) (r : Rounded) → length (powers s) ≡ suc (s .degree) → RoundedFrom expansionUnit (expanded s) (suc (s .degree)) r
+pub series-formed : (s : Series) (r : Rounded) → length (seriesTerms s) ≡ suc (s .degree) → RoundedFrom expansionUnit (expanded s) (suc (s .degree)) r
     → formedOutcome (s .degree) (r .coefficients) (r .weight) (upℕ (r .loss) expansionUnit) ≡ unlessLarge (seriesModel s)
 unfolding seriesModel
 series-formed s r l f =
     let m = seriesModel s in
     let n = suc (s .degree) in
-    let all : take n (expanded s) ≡ expanded s = take-all n (expanded s) (omega (arith, l, length-expanded (powers s))) in
+    let all : take n (expanded s) ≡ expanded s = take-all n (expanded s) (omega (arith, l, length-expanded (seriesTerms s))) in
     let w : r .weight ≡ weight (m .coefficients) =
     f .weight-is ∙ ap (λ c. weight (rounded expansionUnit c)) all
     ∙ sym (weight-append-zeros (rounded expansionUnit (expanded s)) (coefficientCount - n)) in
     let loss : r .loss ≡ roundingLoss expansionUnit (expanded s) =
-    f .loss-is ∙ omega (arith, ap (roundingLoss expansionUnit) all, weight-end (expanded s) n (omega (arith, l, length-expanded (powers s)))) in
+    f .loss-is ∙ omega (arith, ap (roundingLoss expansionUnit) all, weight-end (expanded s) n (omega (arith, l, length-expanded (seriesTerms s)))) in
     let e : upℕ (r .loss) expansionUnit ≡ m .radius = ap (λ z. upℕ z expansionUnit) loss in
     (λ t. formedOutcome (s .degree) (r .coefficients) (w t) (e t))
     ∙ formed-is m (r .coefficients) (λ h. f .coefficients-are (omega arith) ∙ ap (λ c. rounded expansionUnit c ++ replicate (coefficientCount - n) (pos 0)) all)

@@ -4,29 +4,28 @@ use mathlib.Core.Bool.{true}
 use mathlib.Core.List.{List, [], _∷_}
 use Prim.Native.Nat.{ℕ, zero, suc, _+_, _-_, _≤_}
 use native.Mathlib.Omega.{arith}
-use lib.IntN.{ℤ, pos, natAbs}
-use lib.ListN.{length, take, drop, length-take}
+use lib.IntN.{ℤ, pos}
+use lib.ListN.{length, take, drop, replicate, length-take}
 use lib.Seq.{take-all}
 use borrow.Author.Tests.{not-false}
 use Rattle.integer.specs.definitions.Integer.{ℤ-ring}
 use Rattle.integer.specs.definitions.Fraction.{ℚ, whole, _+ℚ_, _-ℚ_, _*ℚ_, _/ℚ_, _≤ℚ_, ∣_∣ℚ}
-use Rattle.integer.specs.laws.Parts.{same, abs}
 use Rattle.integer.specs.laws.FractionInverse.{quotient-mul}
 use Rattle.integer.specs.laws.FractionRounding.{up-bound}
 use Rattle.integer.specs.laws.FractionSolver.{solveℚ, reifyℚ}
 use Rattle.chebyshev.specs.definitions.Allows.{allows}
-use Rattle.chebyshev.specs.definitions.Coefficients.{value, valueFrom, weight, scaleList, subtractLists}
-use Rattle.chebyshev.specs.laws.Weight.{weight-end}
+use Rattle.chebyshev.specs.definitions.Coefficients.{value, valueFrom, weight, scaleList}
+use Rattle.chebyshev.specs.laws.Weight.{weight-end, weight-zero}
 use Rattle.model.specs.definitions.Models.{scale, coefficientCount, zeroModel}
 use Rattle.model.specs.definitions.Outcomes.{accepted}
 use Rattle.model.specs.definitions.Round.{rounded, roundingLoss}
 use Rattle.model.specs.definitions.Allowed.{position, AllowsAt, Allows, OnInterval}
 use Rattle.model.specs.laws.PlaceLaws.{outcome-accepted}
-use Rattle.model.specs.laws.RoundingPassLaws.{rounding-weight}
-use Rattle.model.specs.laws.ValueLaws.{valueAt, valueAt-add, valueAt-scale, valueAt-append-zeros, valueAt-difference, scale-nonzero}
+use Rattle.model.specs.laws.RoundingPassLaws.{rounding-value}
+use Rattle.model.specs.laws.ValueLaws.{valueAt, valueAt-add, valueAt-scale, valueAt-append-zeros, scale-nonzero}
 use Rattle.model.specs.declared.types.Model.{Model}
 use Rattle.series.specs.definitions.Table.{expansionUnit, expansionRow}
-use Rattle.series.specs.definitions.Convert.{powers, goodSeries, expandedFrom, expanded, seriesModel, conversionPlaces, conversion}
+use Rattle.series.specs.definitions.Convert.{seriesTerms, goodSeries, expandedFrom, expanded, seriesModel, conversionPlaces, conversion}
 use Rattle.series.specs.definitions.SeriesValue.{power, seriesFrom, seriesValue}
 use Rattle.series.specs.declared.types.Series.{Series}
 use Rattle.series.specs.laws.RowLaws.{expansion-value}
@@ -50,19 +49,16 @@ value-expanded x k (p ∷ ps) h =
 
 -- ---- zeros beyond the degree do not count
 
-zero-is : (p : ℤ) → natAbs p ≡ 0 → p ≡ pos 0
-zero-is p h = same p (pos 0) (omega (arith, abs p))
-
-series-zeros : (x : ℚ) (k : ℕ) (ps : List ℤ) → weight ps ≡ 0 → seriesFrom x k ps ≡ whole (pos 0)
-unfolding seriesFrom weight
-series-zeros x k [] h = refl
-series-zeros x k (p ∷ ps) h =
-    ap₂ (λ c v. whole c *ℚ power x k +ℚ v) (zero-is p (omega arith)) (series-zeros x (suc k) ps (omega arith))
+series-zeros : (x : ℚ) (k n : ℕ) → seriesFrom x k (replicate n (pos 0)) ≡ whole (pos 0)
+unfolding seriesFrom
+series-zeros x k zero = refl
+series-zeros x k (suc n) =
+    ap (λ v. whole (pos 0) *ℚ power x k +ℚ v) (series-zeros x (suc k) n)
     ∙ solveℚ (power x k ∷ []) (search reifyℚ depth 20) (search reifyℚ depth 20) tt
 
 series-take : (x : ℚ) (k n : ℕ) (ps : List ℤ) → weight (drop n ps) ≡ 0 → seriesFrom x k ps ≡ seriesFrom x k (take n ps)
 unfolding seriesFrom
-series-take x k zero ps h = series-zeros x k ps h
+series-take x k zero ps h = ap (seriesFrom x k) (weight-zero ps h) ∙ series-zeros x k (length ps)
 series-take x k (suc n) [] h = refl
 series-take x k (suc n) (p ∷ ps) h = ap (λ v. whole p *ℚ power x k +ℚ v) (series-take x (suc k) n ps h)
 
@@ -71,19 +67,16 @@ series-take x k (suc n) (p ∷ ps) h = ap (λ v. whole p *ℚ power x k +ℚ v) 
 -- d·(v − c) within the weight of the rounding differences, where d·v is the value of e, and c that of e rounded over d
 rounded-sound : (d : ℕ) (e : List ℤ) {x : ℚ} (v : ℚ) → OnInterval x → valueAt x e ≡ whole (pos d) *ℚ v
     → ∣ whole (pos d) *ℚ (v -ℚ valueAt x (rounded d e)) ∣ℚ ≤ℚ whole (pos (roundingLoss d e))
-rounded-sound d e {x} v on h = rw (split, ← lost) (valueAt-difference on e (scaleList ℤ-ring (pos d) (rounded d e)))
+rounded-sound d e {x} v on h =
+    let all : take (length e) e ≡ e = take-all (length e) e (omega arith) in
+    let none : roundingLoss d e + weight (drop (length e) e) ≡ roundingLoss d e = omega (arith, weight-end e (length e) (omega arith)) in
+    rw (split, ← none) (rw all at (rounding-value d (length e) on e))
   where
-    lost : weight (subtractLists ℤ-ring e (scaleList ℤ-ring (pos d) (rounded d e))) ≡ roundingLoss d e
-    lost =
-        let all : take (length e) e ≡ e = take-all (length e) e (omega arith) in
-        let r = rw all at (rounding-weight d (length e) e) in
-        r ∙ omega (arith, weight-end e (length e) (omega arith))
-
     spread : (d v c : ℚ) → d *ℚ (v -ℚ c) ≡ d *ℚ v -ℚ d *ℚ c
     spread d v c = solveℚ (d ∷ v ∷ c ∷ []) (search reifyℚ depth 20) (search reifyℚ depth 20) tt
 
-    split : whole (pos d) *ℚ (v -ℚ valueAt x (rounded d e)) ≡ valueAt x e -ℚ valueAt x (scaleList ℤ-ring (pos d) (rounded d e))
-    split = spread (whole (pos d)) v (valueAt x (rounded d e)) ∙ ap₂ _-ℚ_ (sym h) (sym (valueAt-scale x (pos d) (rounded d e)))
+    split : whole (pos d) *ℚ (v -ℚ valueAt x (rounded d e)) ≡ valueAt x e -ℚ whole (pos d) *ℚ valueAt x (rounded d e)
+    split = spread (whole (pos d)) v (valueAt x (rounded d e)) ∙ ap (λ z. z -ℚ whole (pos d) *ℚ valueAt x (rounded d e)) (sym h)
 
 series-sound : (s : Series) → goodSeries s ≡ true → (x : ℚ) → OnInterval x → AllowsAt (seriesModel s) x (seriesValue (s .coefficients) x /ℚ whole (pos scale))
 unfolding AllowsAt allows seriesModel
@@ -95,7 +88,7 @@ series-sound s g x on =
     value-is : valueAt x (expanded s) ≡ whole (pos expansionUnit) *ℚ seriesValue (s .coefficients) x
     value-is =
         let l = limits s g in
-        value-expanded x 0 (powers s) (omega (arith, length-take (suc (s .degree)) (s .coefficients), l .degree-fits))
+        value-expanded x 0 (seriesTerms s) (omega (arith, length-take (suc (s .degree)) (s .coefficients), l .degree-fits))
         ∙ ap (λ v. whole (pos expansionUnit) *ℚ v) (sym (series-take x 0 (suc (s .degree)) (s .coefficients) (l .beyond-zero)))
 
 pub conversion-sound : (s : Series) {m : Model} → conversion s ≡ accepted m

@@ -1,15 +1,11 @@
 -- `ferruntzo_from_series` meets its contract.
 use borrow.Author.Needs.{needs}
-use mathlib.Core.Path.{ap, _∙_}
 use denote.Ref.{now}
-use Rattle.model.specs.definitions.Outcomes.{Outcome}
-use Rattle.model.specs.declared.types.Model.{Model}
 use Rattle.model.specs.definitions.Area.{modelSize}
 use Rattle.series.specs.definitions.Convert.{conversion}
 use Rattle.series.specs.laws.ConversionLaws.{conversion-storable}
-use Rattle.ferruntzo.specs.definitions.Operations.{outcomeIn}
 use Rattle.ferruntzo.specs.definitions.Conversions.{seriesSize}
-use Rattle.ferruntzo.proofs.Answering.{two-fit, outcome-storable}
+use Rattle.ferruntzo.proofs.Answering.{two-fit, answered, outcome-storable}
 use Rattle.ferruntzo.proofs.conversions.ferruntzo_from_series.Statement.{statement}
 use Rattle.ferruntzo.proofs.conversions.ferruntzo_from_series.Tie as tie
 
@@ -25,9 +21,7 @@ returns : tie.Need-returns
 returns c =
     let i = c .before .before .before in
     let d = i .before .before in
-    rw (d .if1 .taken)
-    (c .before .answer-operation .ensures
-    ∙ ap (λ (x : Outcome Model). outcomeIn x (now (d .before .args .out))) (i .from-series .ensures ∙ ap conversion (i .before .series-in .ensures)))
+    rw (d .if1 .taken) (answered conversion (now (d .before .args .out)) (c .before .answer-operation .ensures) (i .from-series .ensures) (i .before .series-in .ensures))
 
 returns-2 : tie.Need-returns-2
 returns-2 c = rw (c .before .before .before .if1 .left) (c .before .refuse-operation .ensures)

@@ -1,14 +1,10 @@
 -- `ferruntzo_integrate` meets its contract.
 use borrow.Author.Needs.{needs}
-use mathlib.Core.Path.{ap, _∙_}
 use denote.Ref.{now}
-use Rattle.model.specs.definitions.Outcomes.{Outcome}
-use Rattle.model.specs.declared.types.Model.{Model}
 use Rattle.model.specs.definitions.Area.{modelSize}
 use Rattle.model.specs.definitions.Integrate.{integration}
 use Rattle.model.specs.laws.ResultLaws.{integration-storable}
-use Rattle.ferruntzo.specs.definitions.Operations.{outcomeIn}
-use Rattle.ferruntzo.proofs.Answering.{two-fit, outcome-storable}
+use Rattle.ferruntzo.proofs.Answering.{two-fit, answered, outcome-storable}
 use Rattle.ferruntzo.proofs.operations.ferruntzo_integrate.Statement.{statement}
 use Rattle.ferruntzo.proofs.operations.ferruntzo_integrate.Tie as tie
 
@@ -24,9 +20,7 @@ returns : tie.Need-returns
 returns c =
     let i = c .before .before .before in
     let d = i .before .before in
-    rw (d .if1 .taken)
-    (c .before .answer-operation .ensures
-    ∙ ap (λ (x : Outcome Model). outcomeIn x (now (d .before .args .out))) (i .integrate .ensures ∙ ap integration (i .before .model-in .ensures)))
+    rw (d .if1 .taken) (answered integration (now (d .before .args .out)) (c .before .answer-operation .ensures) (i .integrate .ensures) (i .before .model-in .ensures))
 
 returns-2 : tie.Need-returns-2
 returns-2 c = rw (c .before .before .before .if1 .left) (c .before .refuse-operation .ensures)

@@ -14,7 +14,7 @@ use Rattle.chebyshev.specs.laws.Weight.{weight-take, weight-zeros}
 use Rattle.model.specs.definitions.InnerContracts.{formedOutcome}
 use Rattle.model.specs.definitions.Models.{makeModel}
 use Rattle.model.specs.laws.ModelLaws.{Good}
-use Rattle.series.specs.definitions.Convert.{powers, expandedFrom}
+use Rattle.series.specs.definitions.Convert.{seriesTerms, expandedFrom}
 use Rattle.series.specs.laws.ConversionLaws.{limits, length-expanded, weight-expanded, from-zeros, series-formed}
 use Rattle.series.specs.declared.types.Series.{Series}
 use Rattle.series.proofs.convert.convert_good.Statement.{statement}
@@ -39,11 +39,11 @@ module _ (s : tie.Start) where
   weight-ps : weight ps ≤ 2 ^ 28
   weight-ps = omega (arith, within, weight-take (series .degree + 1) (series .coefficients))
 
-array-share-prefix-powers : tie.Need-array-share-prefix-powers
-array-share-prefix-powers c = let s = c .before .before .before .before in omega (arith, within s, length-all s)
+array-share-prefix-all : tie.Need-array-share-prefix-all
+array-share-prefix-all c = let s = c .before .before .before .before in omega (arith, within s, length-all s)
 
-add-powers-requires : tie.Need-add-powers-requires
-add-powers-requires c κs =
+add-expanded-requires : tie.Need-add-expanded-requires
+add-expanded-requires c κs =
     let s = c .before .before .before .before .before .before in record {
       few = omega (arith, within s, length-ps s);
       room = omega (arith, within s, length-ps s);
@@ -52,21 +52,21 @@ add-powers-requires c κs =
     }
 
 -- the sums
-module _ (c : tie.After-add-powers) where
+module _ (c : tie.After-add-expanded) where
   abbrev start : tie.Start
   start = c .before .before .before .before .before .before .before
 
   abbrev sums : List ℤ
-  sums = c .add-powers .last .0
+  sums = c .add-expanded .last .0
 
   length-sums : length sums ≡ 33
-  length-sums = c .add-powers .kept .0
+  length-sums = c .add-expanded .kept .0
 
   -- the first of them are the expanded series
   sums-are : take (series start .degree + 1) sums ≡ expandedFrom 0 (ps start)
   sums-are =
       let n : length (expandedFrom 0 (ps start)) ≡ series start .degree + 1 = length-expanded (ps start) ∙ length-ps start in
-      ap (take (series start .degree + 1)) (c .add-powers .ensures)
+      ap (take (series start .degree + 1)) (c .add-expanded .ensures)
       ∙ (rw n at (from-zeros 33 (expandedFrom 0 (ps start)) (omega (arith, within start))))
 
   light : weight (expandedFrom 0 (ps start)) < 2 ^ 62
@@ -75,7 +75,7 @@ module _ (c : tie.After-add-powers) where
 array-share-prefix-sums : tie.Need-array-share-prefix-sums
 array-share-prefix-sums c = let d = c .before in omega (arith, within (start d), length-sums d)
 
-first-sums : (d : tie.After-add-powers) → length (take (series (start d) .degree + 1) (sums d)) ≡ series (start d) .degree + 1
+first-sums : (d : tie.After-add-expanded) → length (take (series (start d) .degree + 1) (sums d)) ≡ series (start d) .degree + 1
 first-sums d = length-take-le (series (start d) .degree + 1) (sums d) (omega (arith, within (start d), length-sums d))
 
 round-requires : tie.Need-round-requires
@@ -92,7 +92,7 @@ returns c =
     let r = c .before .before .before in
     let d = r .before .before .before in
     let s = series (start d) in
-    let n : length (powers s) ≡ suc (s .degree) = rw add-one at (length-ps (start d)) in
+    let n : length (seriesTerms s) ≡ suc (s .degree) = rw add-one at (length-ps (start d)) in
     c .formed .ensures
     ∙ ap (formedOutcome (s .degree) (r .round .result .coefficients) (r .round .result .weight)) (c .before .up-unsigned .ensures)
     ∙ series-formed s (r .round .result) n (simp add-one at (rw (sums-are d) at (r .round .ensures)))
@@ -100,6 +100,6 @@ returns c =
 pub convert-good-spec : {M : Type 1} → statement M
 convert-good-spec =
     tie.close (tie.spec
-    (λ c κs. search needs) (λ c. search needs) (λ c. search needs) (λ c. search needs) array-share-prefix-powers
-    (λ c. sym (length-ps (c .before .before .before .before .before))) (λ c. search needs) add-powers-requires array-share-prefix-sums
+    (λ c κs. search needs) (λ c. search needs) (λ c. search needs) (λ c. search needs) array-share-prefix-all
+    (λ c. sym (length-ps (c .before .before .before .before .before))) (λ c. search needs) add-expanded-requires array-share-prefix-sums
     (λ c. sym (first-sums (c .before .before))) round-requires (λ c. search needs) (λ c κs. search needs) (λ c κs. search needs) returns)

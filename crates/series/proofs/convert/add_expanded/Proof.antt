@@ -1,4 +1,4 @@
--- `convert::add_powers` meets its contract: after k turns the first k powers are expanded.
+-- `convert::add_expanded` meets its contract: after k turns the first k terms are expanded.
 use mathlib.Core.Path.{_≡_, refl, sym, _∙_, ap}
 use mathlib.Core.List.{List}
 use Prim.Native.Nat.{ℕ, suc, _+_, _-_, _*_, _<_, _≤_}
@@ -19,8 +19,8 @@ use Rattle.series.specs.definitions.Convert.{expandedFrom}
 use Rattle.series.specs.definitions.InnerContracts.{Expandable}
 use Rattle.series.specs.laws.RowLaws.{length-row, row-alternate}
 use Rattle.series.specs.laws.ConversionLaws.{row-in-table, length-table, expanded-step, expanded-end, multiple-weight}
-use Rattle.series.proofs.convert.add_powers.Statement.{statement}
-use Rattle.series.proofs.convert.add_powers.Tie as tie
+use Rattle.series.proofs.convert.add_expanded.Statement.{statement}
+use Rattle.series.proofs.convert.add_expanded.Tie as tie
 
 record Walked (sums₀ ps sums : List ℤ) (k : ℕ) : Type 0 where
   within : k ≤ length ps
@@ -43,10 +43,10 @@ walk {sums₀} {ps} {sums} {table} {k} e w h =
     }
 
 abbrev Inv-loop : tie.InvT-loop
-Inv-loop sums₀ powers table k₀ sums k = Walked sums₀ powers sums k
+Inv-loop sums₀ terms table k₀ sums k = Walked sums₀ terms sums k
 
 abbrev μ-loop : tie.MeasureT-loop
-μ-loop sums₀ powers table k₀ sums k = length powers - k
+μ-loop sums₀ terms table k₀ sums k = length terms - k
 
 loop-holds : tie.Need-loop-holds Inv-loop μ-loop
 loop-holds c = record { within = omega arith; size = refl; rest = refl; bound = omega arith }
@@ -67,7 +67,7 @@ module _ (l : tie.At-loop Inv-loop μ-loop) where
   k = l .loop .k
 
   abbrev ps : List ℤ
-  ps = l .before .args .powers .now
+  ps = l .before .args .terms .now
 
   abbrev p : ℤ
   p = getD ps k (pos 0)
@@ -103,11 +103,11 @@ returns : tie.Need-returns Inv-loop μ-loop
 returns c =
     let l = c .before in
     sym (add-nil ℤ-ring (l .loop .sums))
-    ∙ ap (addLists ℤ-ring (l .loop .sums)) (sym (expanded-end (l .before .args .powers .now) (l .loop .k) (omega arith)))
+    ∙ ap (addLists ℤ-ring (l .loop .sums)) (sym (expanded-end (l .before .args .terms .now) (l .loop .k) (omega arith)))
     ∙ l .loop .inv .rest
 
-pub add-powers-spec : {M : Type 1} → statement M
-add-powers-spec =
+pub add-expanded-spec : {M : Type 1} → statement M
+add-expanded-spec =
     tie.close (tie.spec
     Inv-loop μ-loop loop-holds (λ c. search signed-needs) (λ c. search signed-needs) (λ c. search signed-needs)
     (λ c. search signed-needs) (λ c. search signed-needs) (λ c. search signed-needs) (λ c. search signed-needs)
