@@ -16,3 +16,4 @@ pub mod HomogeneousLaws
 pub mod AllowsLaws
 pub mod Midpoint
 pub mod Sign
+pub mod Examples

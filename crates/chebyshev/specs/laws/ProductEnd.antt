@@ -10,7 +10,7 @@ use Rattle.integer.specs.definitions.Ring.{CommutativeRing}
 use Rattle.integer.specs.definitions.Integer.{ℤ-ring}
 use Rattle.chebyshev.specs.definitions.Coefficients.{weight}
 use Rattle.chebyshev.specs.laws.Weight.{weight-drop, weight-zeros}
-use Rattle.chebyshev.specs.definitions.Product.{distance, addAt, addPair, Walk, visit, addTerm, addTerms, productWalk, product}
+use Rattle.chebyshev.specs.definitions.Product.{distance, addAt, addPair, Walk, visit, addTerm, addTerms, product}
 
 module _ (R : CommutativeRing) where
   open CommutativeRing R using (A, mul as _⊗_, ι)

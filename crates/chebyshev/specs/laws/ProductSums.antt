@@ -12,9 +12,8 @@ use lib.ListN.{length, getD, replicate, length-replicate, getD-replicate}
 use lib.Seq.{ext-getD}
 use Rattle.integer.specs.definitions.Ring.{CommutativeRing}
 use Rattle.integer.specs.laws.Solver.{reify, solve}
-use Rattle.integer.specs.definitions.Integer.{ℤ-ring}
 use Rattle.chebyshev.specs.laws.CoefficientLaws.{add-zero}
-use Rattle.chebyshev.specs.definitions.Product.{distance, addAt, addPair, Walk, visit, addTerm, addTerms, productWalk, product}
+use Rattle.chebyshev.specs.definitions.Product.{distance, addAt, addPair, Walk, visit, addTerm, addTerms, product}
 use Rattle.chebyshev.specs.definitions.TwoSums.{sum, sumWhere, twoSums}
 use Rattle.chebyshev.specs.laws.ProductLaws.{getD-addAt-same, getD-addAt-other, length-addAt, length-addPair, length-addTerm, length-product}
 
@@ -157,17 +156,3 @@ module _ (R : CommutativeRing) where
 
   pub product-zeros-right : (width : ℕ) (a b : List A) (n : ℕ) → product R width a (b ++ replicate n (ι (pos 0))) ≡ product R width a b
   product-zeros-right width a b n = product-symmetric width a (b ++ replicate n (ι (pos 0))) ∙ product-zeros-left width b n a ∙ product-symmetric width b a
-
--- the pair (0, 0) counts twice, in one visit: 2·3·5 at place 0
-both-conditions : productWalk ℤ-ring 1 (pos 3 ∷ []) (pos 5 ∷ []) ≡ (pos 30 ∷ [], 1)
-unfolding addTerms addTerm addPair addAt
-both-conditions = refl
-
--- three coefficients and two: six visits
-six-visits : productWalk ℤ-ring 4 (pos 1 ∷ pos 2 ∷ pos 3 ∷ []) (pos 4 ∷ pos 5 ∷ []) ≡ (pos 18 ∷ pos 41 ∷ pos 34 ∷ pos 15 ∷ [], 6)
-unfolding addTerms addTerm addPair addAt
-six-visits = refl
-
-both-conditions-sums : twoSums ℤ-ring 0 (pos 3 ∷ []) (pos 5 ∷ []) ≡ pos 30
-unfolding twoSums sumWhere sum
-both-conditions-sums = refl

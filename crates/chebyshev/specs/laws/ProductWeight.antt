@@ -14,7 +14,7 @@ use Rattle.chebyshev.specs.definitions.Coefficients.{weight}
 use Rattle.chebyshev.specs.definitions.Norms.{norm}
 use Rattle.chebyshev.specs.laws.NormLaws.{norm-zeros}
 use Rattle.chebyshev.specs.laws.Weight.{norm-weight}
-use Rattle.chebyshev.specs.definitions.Product.{distance, addAt, addPair, Walk, visit, addTerm, addTerms, productWalk, product}
+use Rattle.chebyshev.specs.definitions.Product.{distance, addAt, addPair, Walk, visit, addTerm, addTerms, product}
 
 module _ (O : OrderedRing) where
   open OrderedRing O using (ring, le as _≼_, abs, abs-nonneg)
