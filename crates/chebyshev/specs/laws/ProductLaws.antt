@@ -91,7 +91,7 @@ module _ (R : CommutativeRing) where
   term-visits w y i j [] = omega arith
   term-visits w y i j (z ∷ b) = omega (arith, term-visits (visit R w i j (y ⊗ z)) y i (suc j) b)
 
-  pub terms-visits : (w : Walk R) (i : ℕ) (a b : List A) → addTerms R w i a b .1 ≡ w .1 + length a * length b
+  terms-visits : (w : Walk R) (i : ℕ) (a b : List A) → addTerms R w i a b .1 ≡ w .1 + length a * length b
   unfolding addTerms
   terms-visits w i [] b = omega arith
   terms-visits w i (y ∷ a) b = omega (arith, terms-visits (addTerm R w y i 0 b) (suc i) a b, term-visits w y i 0 b)
@@ -163,7 +163,7 @@ module _ (R : CommutativeRing) where
   term-end w y i j b k h = rw drop-of-length-le
 
   -- a term cut at place k
-  pub term-cut : (w : Walk R) (y : A) (i j k : ℕ) (b : List A) → k ≤ length b
+  term-cut : (w : Walk R) (y : A) (i j k : ℕ) (b : List A) → k ≤ length b
       → addTerm R (addTerm R w y i j (take k b)) y i (j + k) (drop k b) ≡ addTerm R w y i j b
   unfolding addTerm
   term-cut w y i j zero b h = let e : j + 0 ≡ j = omega arith in rw e

@@ -69,8 +69,9 @@ add-pairs-requires-2 c κs =
 
 -- both parts are done
 joined : (c : tie.After-add-pairs2)
-    → (c .add-pairs2 .last .0, c .before .before .before .before .add-pairs .result + c .add-pairs2 .result)
-    ≡ addTerm ℤ-ring (s (t (c .before .before .before .before)) .args .c .now, 0) (x (t (c .before .before .before .before))) (i (t (c .before .before .before .before))) 0 (b (t (c .before .before .before .before)))
+    → let f = c .before .before .before .before in
+    let h = t f in
+    (c .add-pairs2 .last .0, f .add-pairs .result + c .add-pairs2 .result) ≡ addTerm ℤ-ring (s h .args .c .now, 0) (x h) (i h) 0 (b h)
 joined c =
     let f = c .before .before .before .before in
     let h = t f in
