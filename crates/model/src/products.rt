@@ -31,8 +31,7 @@ fn add_pair(c: &mut [i64], i: usize, j: usize, v: i64)
     add_at(c, distance(i, j), v);
 }
 
-// The pairs of x, at place i, with each element of b, the first of which stands at place j. The loop's counter is the count of
-// visits.
+// The pairs of x, at place i, with each element of b, the first at place j. The loop's counter is the count of visits.
 fn add_pairs(c: &mut [i64], x: i64, i: usize, j: usize, b: &[i32]) -> usize
     requires { ⌜ (i + j + length (now b) ≤ length (now c)) × (weight (now c) + 2 * natAbs x * weight (now b) < 2 ^ 63) ⌝ }
     ensures { λ r. ⌜ (now (c .exit), r) ≡ addTerm ℤ-ring (now (c .entry), 0) x i j (now (b .entry)) ⌝ }

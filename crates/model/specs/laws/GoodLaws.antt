@@ -1,5 +1,5 @@
 -- Of a good model the coefficients beyond the degree are zero, so that its elements, its value and its products may be taken of
--- its terms or of all its coefficients; how large its products are, and how many pairs they visit.
+-- its terms or of all its coefficients; how large its products are, and how many pairs their walk visits.
 use mathlib.Core.Path.{_≡_, refl, sym, _∙_, ap, ap₂}
 use mathlib.Core.Bool.{true}
 use mathlib.Core.List.{List, [], _∷_, _++_}
@@ -39,8 +39,8 @@ module _ (m : Model) (h : good m ≡ true) where
   pub length-terms : length (terms m) ≤ coefficientCount
   length-terms = omega (arith, length-take (suc (m .degree)) (m .coefficients), good-is m h .degree-fits)
 
-  length-terms-all : length (m .coefficients) ≡ coefficientCount → length (terms m) ≡ m .degree + 1
-  length-terms-all l = omega (arith, length-take (suc (m .degree)) (m .coefficients), good-is m h .degree-fits, l)
+  length-terms-is : length (m .coefficients) ≡ coefficientCount → length (terms m) ≡ m .degree + 1
+  length-terms-is l = omega (arith, length-take (suc (m .degree)) (m .coefficients), good-is m h .degree-fits, l)
 
   pub weight-terms : weight (terms m) ≤ maxWeight
   weight-terms = omega (arith, weight-take (suc (m .degree)) (m .coefficients), good-is m h .weight-fits)
@@ -64,7 +64,7 @@ module _ (a b : Model) (ha : good a ≡ true) (hb : good b ≡ true) where
   pub productVisits-is : length (a .coefficients) ≡ coefficientCount → length (b .coefficients) ≡ coefficientCount
       → productVisits a b ≡ (a .degree + 1) * (b .degree + 1)
   unfolding productVisits
-  productVisits-is la lb = product-visits ℤ-ring productSize (terms a) (terms b) ∙ ap₂ (λ (n m : ℕ). n * m) (length-terms-all a ha la) (length-terms-all b hb lb)
+  productVisits-is la lb = product-visits ℤ-ring productSize (terms a) (terms b) ∙ ap₂ (λ (n m : ℕ). n * m) (length-terms-is a ha la) (length-terms-is b hb lb)
 
   pub weight-productList : weight (productList a b) ≤ 2 ^ 57
   unfolding productList

@@ -1,5 +1,5 @@
 -- `products::add_products` meets its contract. The loop's invariant in rest form, as for a term: the terms that are left,
--- added to the list as it is, give all terms added to the list as it came.
+-- visited after the i · length b pairs that were, give all terms added to the list as it came.
 use mathlib.Core.Path.{_≡_, refl, sym, _∙_, ap}
 use mathlib.Core.List.{List}
 use Prim.Native.Nat.{ℕ, _+_, _-_, _*_, _<_, _≤_}
