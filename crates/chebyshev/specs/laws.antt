@@ -4,6 +4,7 @@ pub mod CoefficientLaws
 pub mod NormLaws
 pub mod Weight
 pub mod Lipschitz
+pub mod PairVisits
 pub mod ProductLaws
 pub mod NeighbourLaws
 pub mod ProductWeight

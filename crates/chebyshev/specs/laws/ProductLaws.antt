@@ -1,8 +1,8 @@
--- Laws of the walk over all pairs (Product.antt): its visits, its lengths, its steps, and its value, 2·value a·value b.
+-- Laws of the walk over all pairs (Product.antt): its lengths, its steps, and its value, 2·value a·value b.
 use mathlib.Core.Path.{_≡_, refl, sym, _∙_, ap}
 use mathlib.Core.Logic.{_≢_}
 use mathlib.Core.List.{List, [], _∷_, map}
-use Prim.Native.Nat.{ℕ, zero, suc, _+_, _*_, _<_, _≤_}
+use Prim.Native.Nat.{ℕ, zero, suc, _+_, _<_, _≤_}
 use native.Mathlib.Omega.{arith}
 use native.Mathlib.Numerals.{add-one}
 use lib.IntN.{ℤ, pos, _*ℤ_}
@@ -15,7 +15,7 @@ use Rattle.chebyshev.specs.definitions.Recurrences.{firstKind}
 use Rattle.chebyshev.specs.laws.RecurrenceLaws.{first-product}
 use Rattle.chebyshev.specs.definitions.Coefficients.{valueFrom, value}
 use Rattle.chebyshev.specs.laws.CoefficientLaws.{valueFrom-zeros, map-ι-zeros}
-use Rattle.chebyshev.specs.definitions.Product.{distance, addAt, addPair, Walk, visit, addTerm, addTerms, productWalk, product}
+use Rattle.chebyshev.specs.definitions.Product.{distance, addAt, addPair, Walk, visit, addTerm, addTerms, product}
 
 module _ (R : CommutativeRing) where
   open CommutativeRing R using (A, add as _⊕_, mul as _⊗_, ι, add-assoc, ι-add, ι-mul)
@@ -84,31 +84,6 @@ module _ (R : CommutativeRing) where
       ∙ ap (λ w. value R x c ⊕ v ⊗ w) (sym (first-product R x i j))
       ∙ solve R (v ∷ value R x c ∷ firstKind R x i ∷ firstKind R x j ∷ []) (search reify depth 20) (search reify depth 20) tt
 
-  -- ---- visits
-
-  pub term-visits : (w : Walk R) (y : A) (i j : ℕ) (b : List A) → addTerm R w y i j b .1 ≡ w .1 + length b
-  unfolding addTerm
-  term-visits w y i j [] = omega arith
-  term-visits w y i j (z ∷ b) = omega (arith, term-visits (visit R w i j (y ⊗ z)) y i (suc j) b)
-
-  terms-visits : (w : Walk R) (i : ℕ) (a b : List A) → addTerms R w i a b .1 ≡ w .1 + length a * length b
-  unfolding addTerms
-  terms-visits w i [] b = omega arith
-  terms-visits w i (y ∷ a) b = omega (arith, terms-visits (addTerm R w y i 0 b) (suc i) a b, term-visits w y i 0 b)
-
-  -- S-5: "exactly (n+1)·(m+1)"
-  pub product-visits : (width : ℕ) (a b : List A) → productWalk R width a b .1 ≡ length a * length b
-  product-visits width a b = omega (arith, terms-visits (replicate width (ι (pos 0)), 0) 0 a b)
-
-  -- visits made before a term are added to its own
-  term-after : (n : ℕ) (w : Walk R) (y : A) (i j : ℕ) (b : List A)
-      → addTerm R (w .0, n + w .1) y i j b ≡ (addTerm R w y i j b .0, n + addTerm R w y i j b .1)
-  unfolding addTerm
-  term-after n w y i j [] = refl
-  term-after n w y i j (z ∷ b) =
-      let e : n + w .1 + 1 ≡ n + (w .1 + 1) = omega arith in
-      rw e (term-after n (visit R w i j (y ⊗ z)) y i (suc j) b)
-
   -- ---- terms
 
   pub length-addTerm : (w : Walk R) (y : A) (i j : ℕ) (b : List A) → length (addTerm R w y i j b .0) ≡ length (w .0)
@@ -171,6 +146,15 @@ module _ (R : CommutativeRing) where
   term-cut w y i j (suc k) (z ∷ b) h =
       let e : j + suc k ≡ suc j + k = omega arith in
       rw e (term-cut (visit R w i j (y ⊗ z)) y i (suc j) k b (omega arith))
+
+  -- visits made before a term are added to its own
+  term-after : (n : ℕ) (w : Walk R) (y : A) (i j : ℕ) (b : List A)
+      → addTerm R (w .0, n + w .1) y i j b ≡ (addTerm R w y i j b .0, n + addTerm R w y i j b .1)
+  unfolding addTerm
+  term-after n w y i j [] = refl
+  term-after n w y i j (z ∷ b) =
+      let e : n + w .1 + 1 ≡ n + (w .1 + 1) = omega arith in
+      rw e (term-after n (visit R w i j (y ⊗ z)) y i (suc j) b)
 
   -- a term whose visits are counted from 0, behind n others
   pub term-counted : (n : ℕ) (c : List A) (y : A) (i j : ℕ) (b d : List A) (m : ℕ) → (d, m) ≡ addTerm R (c, 0) y i j b → (d, n + m) ≡ addTerm R (c, n) y i j b

@@ -15,7 +15,8 @@ use Rattle.chebyshev.specs.definitions.Coefficients.{weight}
 use Rattle.chebyshev.specs.laws.Weight.{weight-take, weight-zero}
 use Rattle.chebyshev.specs.definitions.Product.{product}
 use Rattle.chebyshev.specs.laws.ProductSums.{product-zeros-left, product-zeros-right}
-use Rattle.chebyshev.specs.laws.ProductLaws.{product-visits, value-product-whole}
+use Rattle.chebyshev.specs.laws.PairVisits.{product-visits}
+use Rattle.chebyshev.specs.laws.ProductLaws.{value-product-whole}
 use Rattle.chebyshev.specs.laws.ProductWeight.{weight-product}
 use Rattle.model.specs.definitions.Models.{coefficientCount, productSize, maxWeight, terms, beyond, good}
 use Rattle.model.specs.laws.ModelLaws.{good-is}

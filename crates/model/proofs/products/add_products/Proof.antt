@@ -15,7 +15,8 @@ use Rattle.integer.specs.laws.Machine.{signed-needs, fits-widens}
 use Rattle.chebyshev.specs.definitions.Coefficients.{weight}
 use Rattle.chebyshev.specs.laws.Weight.{weight-step}
 use Rattle.chebyshev.specs.definitions.Product.{addTerm, addTerms}
-use Rattle.chebyshev.specs.laws.ProductLaws.{term-visits, length-addTerm, term-counted, terms-step, terms-end}
+use Rattle.chebyshev.specs.laws.PairVisits.{term-visits}
+use Rattle.chebyshev.specs.laws.ProductLaws.{length-addTerm, term-counted, terms-step, terms-end}
 use Rattle.chebyshev.specs.laws.ProductWeight.{weight-addTerm}
 use Rattle.model.proofs.products.add_products.Statement.{statement}
 use Rattle.model.proofs.products.add_products.Tie as tie

@@ -12,7 +12,8 @@ use Rattle.integer.specs.definitions.Integer.{ℤ-ring}
 use Rattle.chebyshev.specs.definitions.Coefficients.{weight}
 use Rattle.chebyshev.specs.laws.Weight.{weight-split}
 use Rattle.chebyshev.specs.definitions.Product.{addTerm}
-use Rattle.chebyshev.specs.laws.ProductLaws.{term-visits, length-addTerm, term-joined}
+use Rattle.chebyshev.specs.laws.PairVisits.{term-visits}
+use Rattle.chebyshev.specs.laws.ProductLaws.{length-addTerm, term-joined}
 use Rattle.chebyshev.specs.laws.ProductWeight.{weight-addTerm}
 use Rattle.model.proofs.products.add_term.Statement.{statement}
 use Rattle.model.proofs.products.add_term.Tie as tie
