@@ -79,8 +79,8 @@ extern "C" {
 
 #define FERRUNTZO_VERSION_MAJOR 1
 #define FERRUNTZO_VERSION_MINOR 1
-#define FERRUNTZO_VERSION_PATCH 0
-#define FERRUNTZO_VERSION "1.1.0"
+#define FERRUNTZO_VERSION_PATCH 1
+#define FERRUNTZO_VERSION "1.1.1"
 
 /* ---- Limits ---- */
 

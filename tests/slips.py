@@ -15,6 +15,7 @@ TESTS = 'quotient,root'
 M_LINE = 'int64_t m = up(weight(c, PRODUCT_SIZE) + 2 * m_weight'
 N_LINE = 'int64_t n = up(weight(c, PRODUCT_SIZE) + 2 * (int64_t)UNIT * f[RADIUS],'
 B_LINE = '    if (b > (UNIT - m) * (UNIT - m) / (8 * m_weight))'
+P_LINE = 'int64_t p = (int64_t)a[1 + i] * b[1 + j];'
 
 # Name, entries that must show it, old text (its first place), new text.
 SLIPS = [
@@ -151,6 +152,13 @@ SLIPS = [
      '    if (out != work && work + 10 * MODEL_SIZE < out) {\n        memcpy(out, h, sizeof h);\n'
      '        return 0;\n    }\n    if (byte == 0x20)\n'),
 ]
+
+# One walk over the pairs serves multiply and both tests: a wrong visit must show in each.
+SLIPS += [(f'walk: {name}, {entry}', entry, P_LINE, new)
+          for name, new in (('diagonal skipped', 'if (i == j)\n                continue;\n            ' + P_LINE),
+                            ('last pair twice', P_LINE[:-1] + ' * (i == a[0] && j == b[0] ? 2 : 1);'),
+                            ('last pair left out', P_LINE[:-1] + ' * !(i == a[0] && j == b[0]);'))
+          for entry in ('multiply', 'quotient', 'root')]
 
 
 def found(slip, folder):

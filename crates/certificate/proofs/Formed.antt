@@ -26,9 +26,9 @@ module _ {part : List ℤ} (l : Lent part) where
   weight-lent = ap weight (l .clear) ∙ weight-zeros (length part)
 
   -- the walk starts from zeros
-  pub from-lent : (a b : List ℤ) → addTerms ℤ-ring part 0 a b ≡ product ℤ-ring productSize a b
+  pub from-lent : (a b : List ℤ) → addTerms ℤ-ring (part, 0) 0 a b .0 ≡ product ℤ-ring productSize a b
   unfolding product zeros
-  from-lent a b = ap (λ p. addTerms ℤ-ring p 0 a b) (l .clear ∙ ap zeros (l .long))
+  from-lent a b = ap (λ p. addTerms ℤ-ring (p, 0) 0 a b .0) (l .clear ∙ ap zeros (l .long))
 
 pub record Formed (c : List ℤ) : Type 0 where
   pub width : length c ≡ productSize

@@ -4,6 +4,7 @@ pub mod CoefficientLaws
 pub mod NormLaws
 pub mod Weight
 pub mod Lipschitz
+pub mod PairVisits
 pub mod ProductLaws
 pub mod NeighbourLaws
 pub mod ProductWeight
@@ -16,3 +17,4 @@ pub mod HomogeneousLaws
 pub mod AllowsLaws
 pub mod Midpoint
 pub mod Sign
+pub mod Examples

@@ -1,4 +1,5 @@
--- The list C(a, b) of 01: 2·a·b in the basis T_0, T_1, …, as one walk over all pairs of coefficients.
+-- The list C(a, b) of 01: 2·a·b in the basis T_0, T_1, …, as one walk over all pairs of coefficients, which counts its visits.
+-- 02, S-5: "let a single walk over the pairs serve the sums and the differences of their places, counting its visits".
 use mathlib.Core.List.{List, [], _∷_}
 use Prim.Native.Nat.{ℕ, zero, suc, _+_, _-_}
 use lib.ListN.{replicate}
@@ -24,16 +25,28 @@ module _ (R : CommutativeRing) where
   unfoldable pub addPair : List A → ℕ → ℕ → A → List A
   addPair c i j v = addAt (addAt c (i + j) v) (distance i j) v
 
+  -- what a walk has: the list that it adds to, and how many pairs it has visited
+  abbrev pub Walk : Type 0
+  Walk = List A × ℕ
+
+  -- one visit of the pair (i, j) with the product v serves the place of the sum and the place of the difference
+  abbrev pub visit : Walk → ℕ → ℕ → A → Walk
+  visit w i j v = (addPair (w .0) i j v, w .1 + 1)
+
   -- the term of x = a_i: the pairs (i, j), (i, j+1), … with the elements of b
-  unfoldable pub addTerm : List A → A → ℕ → ℕ → List A → List A
-  addTerm c x i j [] = c
-  addTerm c x i j (y ∷ b) = addTerm (addPair c i j (x ⊗ y)) x i (suc j) b
+  unfoldable pub addTerm : Walk → A → ℕ → ℕ → List A → Walk
+  addTerm w x i j [] = w
+  addTerm w x i j (y ∷ b) = addTerm (visit w i j (x ⊗ y)) x i (suc j) b
 
   -- the terms i, i+1, …
-  unfoldable pub addTerms : List A → ℕ → List A → List A → List A
-  addTerms c i [] b = c
-  addTerms c i (x ∷ a) b = addTerms (addTerm c x i 0 b) (suc i) a b
+  unfoldable pub addTerms : Walk → ℕ → List A → List A → Walk
+  addTerms w i [] b = w
+  addTerms w i (x ∷ a) b = addTerms (addTerm w x i 0 b) (suc i) a b
 
-  -- C(a, b) in a list of the given width, which holds all of it where the width is at least the sum of the lengths less one
+  -- the walk from zeros, in a list of the given width
+  abbrev pub productWalk : ℕ → List A → List A → Walk
+  productWalk width a b = addTerms (replicate width (ι (pos 0)), 0) 0 a b
+
+  -- C(a, b), all of it where the width is at least the sum of the lengths less one
   unfoldable pub product : ℕ → List A → List A → List A
-  product width a b = addTerms (replicate width (ι (pos 0))) 0 a b
+  product width a b = productWalk width a b .0

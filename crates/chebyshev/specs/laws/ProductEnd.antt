@@ -10,7 +10,7 @@ use Rattle.integer.specs.definitions.Ring.{CommutativeRing}
 use Rattle.integer.specs.definitions.Integer.{ℤ-ring}
 use Rattle.chebyshev.specs.definitions.Coefficients.{weight}
 use Rattle.chebyshev.specs.laws.Weight.{weight-drop, weight-zeros}
-use Rattle.chebyshev.specs.definitions.Product.{distance, addAt, addPair, addTerm, addTerms, product}
+use Rattle.chebyshev.specs.definitions.Product.{distance, addAt, addPair, Walk, visit, addTerm, addTerms, product}
 
 module _ (R : CommutativeRing) where
   open CommutativeRing R using (A, mul as _⊗_, ι)
@@ -27,18 +27,18 @@ module _ (R : CommutativeRing) where
   unfolding addPair
   drop-addPair n c i j v h = drop-addAt n (addAt R c (i + j) v) (distance i j) v (omega arith) ∙ drop-addAt n c (i + j) v h
 
-  drop-addTerm : (n : ℕ) (c : List A) (x : A) (i j : ℕ) (b : List A) → i + j + length b ≤ n → drop n (addTerm R c x i j b) ≡ drop n c
+  drop-addTerm : (n : ℕ) (w : Walk R) (x : A) (i j : ℕ) (b : List A) → i + j + length b ≤ n → drop n (addTerm R w x i j b .0) ≡ drop n (w .0)
   unfolding addTerm
-  drop-addTerm n c x i j [] h = refl
-  drop-addTerm n c x i j (y ∷ b) h = drop-addTerm n (addPair R c i j (x ⊗ y)) x i (suc j) b (omega arith) ∙ drop-addPair n c i j (x ⊗ y) (omega arith)
+  drop-addTerm n w x i j [] h = refl
+  drop-addTerm n w x i j (y ∷ b) h = drop-addTerm n (visit R w i j (x ⊗ y)) x i (suc j) b (omega arith) ∙ drop-addPair n (w .0) i j (x ⊗ y) (omega arith)
 
-  drop-addTerms : (n : ℕ) (c : List A) (i : ℕ) (a b : List A) → i + length a + length b ≤ suc n → drop n (addTerms R c i a b) ≡ drop n c
+  drop-addTerms : (n : ℕ) (w : Walk R) (i : ℕ) (a b : List A) → i + length a + length b ≤ suc n → drop n (addTerms R w i a b .0) ≡ drop n (w .0)
   unfolding addTerms
-  drop-addTerms n c i [] b h = refl
-  drop-addTerms n c i (x ∷ a) b h = drop-addTerms n (addTerm R c x i 0 b) (suc i) a b (omega arith) ∙ drop-addTerm n c x i 0 b (omega arith)
+  drop-addTerms n w i [] b h = refl
+  drop-addTerms n w i (x ∷ a) b h = drop-addTerms n (addTerm R w x i 0 b) (suc i) a b (omega arith) ∙ drop-addTerm n w x i 0 b (omega arith)
 
 pub product-end : (width n : ℕ) (a b : List ℤ) → length a + length b ≤ suc n → weight (drop n (product ℤ-ring width a b)) ≡ 0
 unfolding product
 product-end width n a b h =
     let zeros = replicate width (pos 0) in
-    omega (arith, ap weight (drop-addTerms ℤ-ring n zeros 0 a b (omega arith)), weight-drop n zeros, weight-zeros width)
+    omega (arith, ap weight (drop-addTerms ℤ-ring n (zeros, 0) 0 a b (omega arith)), weight-drop n zeros, weight-zeros width)

@@ -15,7 +15,7 @@ use Rattle.chebyshev.specs.definitions.Recurrences.{firstKind}
 use Rattle.chebyshev.specs.laws.RecurrenceLaws.{first-product}
 use Rattle.chebyshev.specs.definitions.Coefficients.{valueFrom, value}
 use Rattle.chebyshev.specs.laws.CoefficientLaws.{valueFrom-zeros, map-ι-zeros}
-use Rattle.chebyshev.specs.definitions.Product.{distance, addAt, addPair, addTerm, addTerms, product}
+use Rattle.chebyshev.specs.definitions.Product.{distance, addAt, addPair, Walk, visit, addTerm, addTerms, product}
 
 module _ (R : CommutativeRing) where
   open CommutativeRing R using (A, add as _⊕_, mul as _⊗_, ι, add-assoc, ι-add, ι-mul)
@@ -86,75 +86,98 @@ module _ (R : CommutativeRing) where
 
   -- ---- terms
 
-  pub length-addTerm : (c : List A) (y : A) (i j : ℕ) (b : List A) → length (addTerm R c y i j b) ≡ length c
+  pub length-addTerm : (w : Walk R) (y : A) (i j : ℕ) (b : List A) → length (addTerm R w y i j b .0) ≡ length (w .0)
   unfolding addTerm
-  length-addTerm c y i j [] = refl
-  length-addTerm c y i j (z ∷ b) = length-addTerm (addPair R c i j (y ⊗ z)) y i (suc j) b ∙ length-addPair c i j (y ⊗ z)
+  length-addTerm w y i j [] = refl
+  length-addTerm w y i j (z ∷ b) = length-addTerm (visit R w i j (y ⊗ z)) y i (suc j) b ∙ length-addPair (w .0) i j (y ⊗ z)
 
-  length-addTerms : (c : List A) (i : ℕ) (a b : List A) → length (addTerms R c i a b) ≡ length c
+  length-addTerms : (w : Walk R) (i : ℕ) (a b : List A) → length (addTerms R w i a b .0) ≡ length (w .0)
   unfolding addTerms
-  length-addTerms c i [] b = refl
-  length-addTerms c i (y ∷ a) b = length-addTerms (addTerm R c y i 0 b) (suc i) a b ∙ length-addTerm c y i 0 b
+  length-addTerms w i [] b = refl
+  length-addTerms w i (y ∷ a) b = length-addTerms (addTerm R w y i 0 b) (suc i) a b ∙ length-addTerm w y i 0 b
 
   pub length-product : (width : ℕ) (a b : List A) → length (product R width a b) ≡ width
   unfolding product
-  length-product width a b = length-addTerms (replicate width (ι (pos 0))) 0 a b ∙ length-replicate width (ι (pos 0))
+  length-product width a b = length-addTerms (replicate width (ι (pos 0)), 0) 0 a b ∙ length-replicate width (ι (pos 0))
 
-  value-addTerm : (x : A) (c : List A) (y : A) (i j : ℕ) (b : List A) → i + j + length b ≤ length c
-      → value R x (addTerm R c y i j b) ≡ value R x c ⊕ ι (pos 2) ⊗ (y ⊗ firstKind R x i ⊗ valueFrom R x j b)
+  value-addTerm : (x : A) (w : Walk R) (y : A) (i j : ℕ) (b : List A) → i + j + length b ≤ length (w .0)
+      → value R x (addTerm R w y i j b .0) ≡ value R x (w .0) ⊕ ι (pos 2) ⊗ (y ⊗ firstKind R x i ⊗ valueFrom R x j b)
   unfolding addTerm valueFrom
-  value-addTerm x c y i j [] h = solve R (y ∷ value R x c ∷ firstKind R x i ∷ []) (search reify depth 20) (search reify depth 20) tt
-  value-addTerm x c y i j (z ∷ b) h =
-      value-addTerm x (addPair R c i j (y ⊗ z)) y i (suc j) b (rw length-addPair (omega arith))
-      ∙ ap (λ w. w ⊕ ι (pos 2) ⊗ (y ⊗ firstKind R x i ⊗ valueFrom R x (suc j) b)) (value-addPair x c i j (y ⊗ z) (omega arith))
-      ∙ solve R (y ∷ z ∷ value R x c ∷ firstKind R x i ∷ firstKind R x j ∷ valueFrom R x (suc j) b ∷ []) (search reify depth 20) (search reify depth 20) tt
+  value-addTerm x w y i j [] h = solve R (y ∷ value R x (w .0) ∷ firstKind R x i ∷ []) (search reify depth 20) (search reify depth 20) tt
+  value-addTerm x w y i j (z ∷ b) h =
+      value-addTerm x (visit R w i j (y ⊗ z)) y i (suc j) b (rw length-addPair (omega arith))
+      ∙ ap (λ v. v ⊕ ι (pos 2) ⊗ (y ⊗ firstKind R x i ⊗ valueFrom R x (suc j) b)) (value-addPair x (w .0) i j (y ⊗ z) (omega arith))
+      ∙ solve R (y ∷ z ∷ value R x (w .0) ∷ firstKind R x i ∷ firstKind R x j ∷ valueFrom R x (suc j) b ∷ []) (search reify depth 20) (search reify depth 20) tt
 
-  value-addTerms : (x : A) (c : List A) (i : ℕ) (a b : List A) → i + length a + length b ≤ suc (length c)
-      → value R x (addTerms R c i a b) ≡ value R x c ⊕ ι (pos 2) ⊗ (valueFrom R x i a ⊗ value R x b)
+  value-addTerms : (x : A) (w : Walk R) (i : ℕ) (a b : List A) → i + length a + length b ≤ suc (length (w .0))
+      → value R x (addTerms R w i a b .0) ≡ value R x (w .0) ⊕ ι (pos 2) ⊗ (valueFrom R x i a ⊗ value R x b)
   unfolding addTerms valueFrom value
-  value-addTerms x c i [] b h = solve R (value R x c ∷ value R x b ∷ []) (search reify depth 20) (search reify depth 20) tt
-  value-addTerms x c i (y ∷ a) b h =
-      value-addTerms x (addTerm R c y i 0 b) (suc i) a b (rw length-addTerm (omega arith))
-      ∙ ap (λ w. w ⊕ ι (pos 2) ⊗ (valueFrom R x (suc i) a ⊗ value R x b)) (value-addTerm x c y i 0 b (omega arith))
-      ∙ solve R (y ∷ value R x c ∷ firstKind R x i ∷ valueFrom R x (suc i) a ∷ value R x b ∷ []) (search reify depth 20) (search reify depth 20) tt
+  value-addTerms x w i [] b h = solve R (value R x (w .0) ∷ value R x b ∷ []) (search reify depth 20) (search reify depth 20) tt
+  value-addTerms x w i (y ∷ a) b h =
+      value-addTerms x (addTerm R w y i 0 b) (suc i) a b (rw length-addTerm (omega arith))
+      ∙ ap (λ v. v ⊕ ι (pos 2) ⊗ (valueFrom R x (suc i) a ⊗ value R x b)) (value-addTerm x w y i 0 b (omega arith))
+      ∙ solve R (y ∷ value R x (w .0) ∷ firstKind R x i ∷ valueFrom R x (suc i) a ∷ value R x b ∷ []) (search reify depth 20) (search reify depth 20) tt
 
   -- 2·value a·value b = value C(a, b), where the width holds all of C
   pub value-product : (x : A) (width : ℕ) (a b : List A) → length a + length b ≤ suc width → ι (pos 2) ⊗ value R x a ⊗ value R x b ≡ value R x (product R width a b)
   unfolding product value
   value-product x width a b h =
       solve R (value R x a ∷ value R x b ∷ []) (search reify depth 20) (search reify depth 20) tt
-      ∙ ap (λ w. w ⊕ ι (pos 2) ⊗ (value R x a ⊗ value R x b)) (sym (valueFrom-zeros R x 0 width))
-      ∙ sym (value-addTerms x (replicate width (ι (pos 0))) 0 a b (rw length-replicate (omega arith)))
+      ∙ ap (λ v. v ⊕ ι (pos 2) ⊗ (value R x a ⊗ value R x b)) (sym (valueFrom-zeros R x 0 width))
+      ∙ sym (value-addTerms x (replicate width (ι (pos 0)), 0) 0 a b (rw length-replicate (omega arith)))
 
   -- ---- the walk's steps, for loops
 
-  pub term-step : (c : List A) (y : A) (i j : ℕ) (b : List A) (k : ℕ) → k < length b
-      → addTerm R c y i j (drop k b) ≡ addTerm R (addPair R c i j (y ⊗ getD b k (ι (pos 0)))) y i (j + 1) (drop (k + 1) b)
+  pub term-step : (w : Walk R) (y : A) (i j : ℕ) (b : List A) (k : ℕ) → k < length b
+      → addTerm R w y i j (drop k b) ≡ addTerm R (visit R w i j (y ⊗ getD b k (ι (pos 0)))) y i (j + 1) (drop (k + 1) b)
   unfolding addTerm
-  term-step c y i j b k h = rw (drop-cons b k (ι (pos 0)) h, add-one j, add-one k)
+  term-step w y i j b k h = rw (drop-cons b k (ι (pos 0)) h, add-one j, add-one k)
 
-  pub term-end : (c : List A) (y : A) (i j : ℕ) (b : List A) (k : ℕ) → length b ≤ k → addTerm R c y i j (drop k b) ≡ c
+  pub term-end : (w : Walk R) (y : A) (i j : ℕ) (b : List A) (k : ℕ) → length b ≤ k → addTerm R w y i j (drop k b) ≡ w
   unfolding addTerm
-  term-end c y i j b k h = rw drop-of-length-le
+  term-end w y i j b k h = rw drop-of-length-le
 
   -- a term cut at place k
-  pub term-cut : (c : List A) (y : A) (i j k : ℕ) (b : List A) → k ≤ length b
-      → addTerm R (addTerm R c y i j (take k b)) y i (j + k) (drop k b) ≡ addTerm R c y i j b
+  term-cut : (w : Walk R) (y : A) (i j k : ℕ) (b : List A) → k ≤ length b
+      → addTerm R (addTerm R w y i j (take k b)) y i (j + k) (drop k b) ≡ addTerm R w y i j b
   unfolding addTerm
-  term-cut c y i j zero b h = let e : j + 0 ≡ j = omega arith in rw e
-  term-cut c y i j (suc k) [] h = absurd (omega arith)
-  term-cut c y i j (suc k) (z ∷ b) h =
+  term-cut w y i j zero b h = let e : j + 0 ≡ j = omega arith in rw e
+  term-cut w y i j (suc k) [] h = absurd (omega arith)
+  term-cut w y i j (suc k) (z ∷ b) h =
       let e : j + suc k ≡ suc j + k = omega arith in
-      rw e (term-cut (addPair R c i j (y ⊗ z)) y i (suc j) k b (omega arith))
+      rw e (term-cut (visit R w i j (y ⊗ z)) y i (suc j) k b (omega arith))
 
-  pub terms-step : (c : List A) (i : ℕ) (a b : List A) → i < length a
-      → addTerms R c i (drop i a) b ≡ addTerms R (addTerm R c (getD a i (ι (pos 0))) i 0 b) (i + 1) (drop (i + 1) a) b
-  unfolding addTerms
-  terms-step c i a b h = rw (drop-cons a i (ι (pos 0)) h, add-one)
+  -- visits made before a term are added to its own
+  term-after : (n : ℕ) (w : Walk R) (y : A) (i j : ℕ) (b : List A)
+      → addTerm R (w .0, n + w .1) y i j b ≡ (addTerm R w y i j b .0, n + addTerm R w y i j b .1)
+  unfolding addTerm
+  term-after n w y i j [] = refl
+  term-after n w y i j (z ∷ b) =
+      let e : n + w .1 + 1 ≡ n + (w .1 + 1) = omega arith in
+      rw e (term-after n (visit R w i j (y ⊗ z)) y i (suc j) b)
 
-  pub terms-end : (c : List A) (i : ℕ) (a b : List A) → length a ≤ i → addTerms R c i (drop i a) b ≡ c
+  -- a term whose visits are counted from 0, behind n others
+  pub term-counted : (n : ℕ) (c : List A) (y : A) (i j : ℕ) (b d : List A) (m : ℕ) → (d, m) ≡ addTerm R (c, 0) y i j b → (d, n + m) ≡ addTerm R (c, n) y i j b
+  term-counted n c y i j b d m h =
+      let e : n + 0 ≡ n = omega arith in
+      ap (λ w. (w .0, n + w .1)) h ∙ sym (term-after n (c, 0) y i j b) ∙ ap (λ (k : ℕ). addTerm R (c, k) y i j b) e
+
+  -- the two parts of a cut term, each counted from 0
+  pub term-joined : (c : List A) (y : A) (i j k : ℕ) (b d e : List A) (m n : ℕ) → k ≤ length b
+      → (d, m) ≡ addTerm R (c, 0) y i j (take k b) → (e, n) ≡ addTerm R (d, 0) y i (j + k) (drop k b) → (e, m + n) ≡ addTerm R (c, 0) y i j b
+  term-joined c y i j k b d e m n h first second =
+      term-counted m d y i (j + k) (drop k b) e n second
+      ∙ ap (λ w. addTerm R w y i (j + k) (drop k b)) first
+      ∙ term-cut (c, 0) y i j k b h
+
+  pub terms-step : (w : Walk R) (i : ℕ) (a b : List A) → i < length a
+      → addTerms R w i (drop i a) b ≡ addTerms R (addTerm R w (getD a i (ι (pos 0))) i 0 b) (i + 1) (drop (i + 1) a) b
   unfolding addTerms
-  terms-end c i a b h = rw drop-of-length-le
+  terms-step w i a b h = rw (drop-cons a i (ι (pos 0)) h, add-one)
+
+  pub terms-end : (w : Walk R) (i : ℕ) (a b : List A) → length a ≤ i → addTerms R w i (drop i a) b ≡ w
+  unfolding addTerms
+  terms-end w i a b h = rw drop-of-length-le
 
   -- ---- whole numbers in the ring
 
@@ -168,21 +191,25 @@ module _ (R : CommutativeRing) where
   unfolding addPair
   map-ι-addPair c i j v = map-ι-addAt (addAt ℤ-ring c (i + j) v) (distance i j) v ∙ ap (λ l. addAt R l (distance i j) (ι v)) (map-ι-addAt c (i + j) v)
 
-  map-ι-addTerm : (c : List ℤ) (x : ℤ) (i j : ℕ) (b : List ℤ) → map ι (addTerm ℤ-ring c x i j b) ≡ addTerm R (map ι c) (ι x) i j (map ι b)
-  unfolding addTerm
-  map-ι-addTerm c x i j [] = refl
-  map-ι-addTerm c x i j (y ∷ b) =
-      map-ι-addTerm (addPair ℤ-ring c i j (x *ℤ y)) x i (suc j) b
-      ∙ ap (λ l. addTerm R l (ι x) i (suc j) (map ι b)) (map-ι-addPair c i j (x *ℤ y) ∙ ap (addPair R (map ι c) i j) (ι-mul x y))
+  -- a walk over whole numbers, in the ring
+  abbrev inRing : Walk ℤ-ring → Walk R
+  inRing w = (map ι (w .0), w .1)
 
-  map-ι-addTerms : (c : List ℤ) (i : ℕ) (a b : List ℤ) → map ι (addTerms ℤ-ring c i a b) ≡ addTerms R (map ι c) i (map ι a) (map ι b)
+  map-ι-addTerm : (w : Walk ℤ-ring) (x : ℤ) (i j : ℕ) (b : List ℤ) → inRing (addTerm ℤ-ring w x i j b) ≡ addTerm R (inRing w) (ι x) i j (map ι b)
+  unfolding addTerm
+  map-ι-addTerm w x i j [] = refl
+  map-ι-addTerm w x i j (y ∷ b) =
+      map-ι-addTerm (visit ℤ-ring w i j (x *ℤ y)) x i (suc j) b
+      ∙ ap (λ l. addTerm R (l, w .1 + 1) (ι x) i (suc j) (map ι b)) (map-ι-addPair (w .0) i j (x *ℤ y) ∙ ap (addPair R (map ι (w .0)) i j) (ι-mul x y))
+
+  map-ι-addTerms : (w : Walk ℤ-ring) (i : ℕ) (a b : List ℤ) → inRing (addTerms ℤ-ring w i a b) ≡ addTerms R (inRing w) i (map ι a) (map ι b)
   unfolding addTerms
-  map-ι-addTerms c i [] b = refl
-  map-ι-addTerms c i (x ∷ a) b = map-ι-addTerms (addTerm ℤ-ring c x i 0 b) (suc i) a b ∙ ap (λ l. addTerms R l (suc i) (map ι a) (map ι b)) (map-ι-addTerm c x i 0 b)
+  map-ι-addTerms w i [] b = refl
+  map-ι-addTerms w i (x ∷ a) b = map-ι-addTerms (addTerm ℤ-ring w x i 0 b) (suc i) a b ∙ ap (λ v. addTerms R v (suc i) (map ι a) (map ι b)) (map-ι-addTerm w x i 0 b)
 
   map-ι-product : (width : ℕ) (a b : List ℤ) → map ι (product ℤ-ring width a b) ≡ product R width (map ι a) (map ι b)
   unfolding product
-  map-ι-product width a b = map-ι-addTerms (replicate width (pos 0)) 0 a b ∙ ap (λ l. addTerms R l 0 (map ι a) (map ι b)) (map-ι-zeros R width)
+  map-ι-product width a b = ap (λ v. v .0) (map-ι-addTerms (replicate width (pos 0), 0) 0 a b) ∙ ap (λ l. addTerms R (l, 0) 0 (map ι a) (map ι b) .0) (map-ι-zeros R width)
 
   pub value-product-whole : (x : A) (width : ℕ) (a b : List ℤ) → length a + length b ≤ suc width
       → ι (pos 2) ⊗ value R x (map ι a) ⊗ value R x (map ι b) ≡ value R x (map ι (product ℤ-ring width a b))

@@ -12,9 +12,8 @@ use lib.ListN.{length, getD, replicate, length-replicate, getD-replicate}
 use lib.Seq.{ext-getD}
 use Rattle.integer.specs.definitions.Ring.{CommutativeRing}
 use Rattle.integer.specs.laws.Solver.{reify, solve}
-use Rattle.integer.specs.definitions.Integer.{ℤ-ring}
 use Rattle.chebyshev.specs.laws.CoefficientLaws.{add-zero}
-use Rattle.chebyshev.specs.definitions.Product.{distance, addAt, addPair, addTerm, addTerms, product}
+use Rattle.chebyshev.specs.definitions.Product.{distance, addAt, addPair, Walk, visit, addTerm, addTerms, product}
 use Rattle.chebyshev.specs.definitions.TwoSums.{sum, sumWhere, twoSums}
 use Rattle.chebyshev.specs.laws.ProductLaws.{getD-addAt-same, getD-addAt-other, length-addAt, length-addPair, length-addTerm, length-product}
 
@@ -77,25 +76,25 @@ module _ (R : CommutativeRing) where
       ∙ ap (λ w. w ⊕ cond (eqb (distance i j) k) v (ι (pos 0))) (getD-addAt c (i + j) k v h)
       ∙ add-assoc (getD c k (ι (pos 0))) (cond (eqb (i + j) k) v (ι (pos 0))) (cond (eqb (distance i j) k) v (ι (pos 0)))
 
-  getD-addTerm : (c : List A) (x : A) (i j : ℕ) (b : List A) (k : ℕ) → k < length c
-      → getD (addTerm R c x i j b) k (ι (pos 0)) ≡ getD c k (ι (pos 0)) ⊕ sum R (length b) (λ n. contribution k i (j + n) (x ⊗ getD b n (ι (pos 0))))
+  getD-addTerm : (w : Walk R) (x : A) (i j : ℕ) (b : List A) (k : ℕ) → k < length (w .0)
+      → getD (addTerm R w x i j b .0) k (ι (pos 0)) ≡ getD (w .0) k (ι (pos 0)) ⊕ sum R (length b) (λ n. contribution k i (j + n) (x ⊗ getD b n (ι (pos 0))))
   unfolding addTerm sum
-  getD-addTerm c x i j [] k h = sym (add-zero R (getD c k (ι (pos 0))))
-  getD-addTerm c x i j (y ∷ b) k h =
-      getD-addTerm (addPair R c i j (x ⊗ y)) x i (suc j) b k (rw length-addPair h)
-      ∙ ap (λ v. v ⊕ sum R (length b) (λ n. contribution k i (suc j + n) (x ⊗ getD b n (ι (pos 0))))) (getD-addPair c i j k (x ⊗ y) h)
-      ∙ add-assoc (getD c k (ι (pos 0))) (contribution k i j (x ⊗ y)) (sum R (length b) (λ n. contribution k i (suc j + n) (x ⊗ getD b n (ι (pos 0)))))
-      ∙ ap (λ v. getD c k (ι (pos 0)) ⊕ v) (sum-shift (length b) j (λ m n. contribution k i m (x ⊗ getD (y ∷ b) n (ι (pos 0)))))
+  getD-addTerm w x i j [] k h = sym (add-zero R (getD (w .0) k (ι (pos 0))))
+  getD-addTerm w x i j (y ∷ b) k h =
+      getD-addTerm (visit R w i j (x ⊗ y)) x i (suc j) b k (rw length-addPair h)
+      ∙ ap (λ v. v ⊕ sum R (length b) (λ n. contribution k i (suc j + n) (x ⊗ getD b n (ι (pos 0))))) (getD-addPair (w .0) i j k (x ⊗ y) h)
+      ∙ add-assoc (getD (w .0) k (ι (pos 0))) (contribution k i j (x ⊗ y)) (sum R (length b) (λ n. contribution k i (suc j + n) (x ⊗ getD b n (ι (pos 0)))))
+      ∙ ap (λ v. getD (w .0) k (ι (pos 0)) ⊕ v) (sum-shift (length b) j (λ m n. contribution k i m (x ⊗ getD (y ∷ b) n (ι (pos 0)))))
 
-  getD-addTerms : (c : List A) (i : ℕ) (a b : List A) (k : ℕ) → k < length c
-      → getD (addTerms R c i a b) k (ι (pos 0)) ≡ getD c k (ι (pos 0)) ⊕ sum R (length a) (λ m. sum R (length b) (λ n. contribution k (i + m) n (getD a m (ι (pos 0)) ⊗ getD b n (ι (pos 0)))))
+  getD-addTerms : (w : Walk R) (i : ℕ) (a b : List A) (k : ℕ) → k < length (w .0)
+      → getD (addTerms R w i a b .0) k (ι (pos 0)) ≡ getD (w .0) k (ι (pos 0)) ⊕ sum R (length a) (λ m. sum R (length b) (λ n. contribution k (i + m) n (getD a m (ι (pos 0)) ⊗ getD b n (ι (pos 0)))))
   unfolding addTerms sum
-  getD-addTerms c i [] b k h = sym (add-zero R (getD c k (ι (pos 0))))
-  getD-addTerms c i (x ∷ a) b k h =
-      getD-addTerms (addTerm R c x i 0 b) (suc i) a b k (rw length-addTerm h)
-      ∙ ap (λ v. v ⊕ rest) (simp zero-add-ℕ at (getD-addTerm c x i 0 b k h))
-      ∙ add-assoc (getD c k (ι (pos 0))) (sum R (length b) (λ n. contribution k i n (x ⊗ getD b n (ι (pos 0))))) rest
-      ∙ ap (λ v. getD c k (ι (pos 0)) ⊕ v) (sum-shift (length a) i (λ m n. sum R (length b) (λ j. contribution k m j (getD (x ∷ a) n (ι (pos 0)) ⊗ getD b j (ι (pos 0))))))
+  getD-addTerms w i [] b k h = sym (add-zero R (getD (w .0) k (ι (pos 0))))
+  getD-addTerms w i (x ∷ a) b k h =
+      getD-addTerms (addTerm R w x i 0 b) (suc i) a b k (rw length-addTerm h)
+      ∙ ap (λ v. v ⊕ rest) (simp zero-add-ℕ at (getD-addTerm w x i 0 b k h))
+      ∙ add-assoc (getD (w .0) k (ι (pos 0))) (sum R (length b) (λ n. contribution k i n (x ⊗ getD b n (ι (pos 0))))) rest
+      ∙ ap (λ v. getD (w .0) k (ι (pos 0)) ⊕ v) (sum-shift (length a) i (λ m n. sum R (length b) (λ j. contribution k m j (getD (x ∷ a) n (ι (pos 0)) ⊗ getD b j (ι (pos 0))))))
     where
       rest : A
       rest = sum R (length a) (λ m. sum R (length b) (λ n. contribution k (suc i + m) n (getD a m (ι (pos 0)) ⊗ getD b n (ι (pos 0)))))
@@ -104,7 +103,7 @@ module _ (R : CommutativeRing) where
   pub product-two-sums : (width : ℕ) (a b : List A) (k : ℕ) → k < width → getD (product R width a b) k (ι (pos 0)) ≡ twoSums R k a b
   unfolding product twoSums sumWhere
   product-two-sums width a b k h =
-      simp (zero-add-ℕ, getD-replicate) at (getD-addTerms (replicate width (ι (pos 0))) 0 a b k (rw length-replicate h))
+      simp (zero-add-ℕ, getD-replicate) at (getD-addTerms (replicate width (ι (pos 0)), 0) 0 a b k (rw length-replicate h))
       ∙ zero-add (sum R (length a) (λ i. sum R (length b) (λ j. by-sum i j ⊕ by-distance i j)))
       ∙ sum-cong (length a) _ _ (λ i. sum-add (length b) (by-sum i) (by-distance i))
       ∙ sum-add (length a) (λ i. sum R (length b) (by-sum i)) (λ i. sum R (length b) (by-distance i))
@@ -140,29 +139,20 @@ module _ (R : CommutativeRing) where
   addAt-zero (x ∷ c) zero = ap (λ v. v ∷ c) (add-zero R x)
   addAt-zero (x ∷ c) (suc k) = ap (λ l. x ∷ l) (addAt-zero c k)
 
-  addTerm-zero : (c : List A) (i j : ℕ) (b : List A) → addTerm R c (ι (pos 0)) i j b ≡ c
+  addTerm-zero : (w : Walk R) (i j : ℕ) (b : List A) → addTerm R w (ι (pos 0)) i j b .0 ≡ w .0
   unfolding addTerm addPair
-  addTerm-zero c i j [] = refl
-  addTerm-zero c i j (y ∷ b) = simp (zero-mul, addAt-zero) (addTerm-zero c i (suc j) b)
+  addTerm-zero w i j [] = refl
+  addTerm-zero w i j (y ∷ b) = addTerm-zero (visit R w i j (ι (pos 0) ⊗ y)) i (suc j) b ∙ simp (zero-mul, addAt-zero) refl
 
-  addTerms-zeros : (c : List A) (i : ℕ) (a : List A) (n : ℕ) (b : List A) → addTerms R c i (a ++ replicate n (ι (pos 0))) b ≡ addTerms R c i a b
+  addTerms-zeros : (w : Walk R) (i : ℕ) (a : List A) (n : ℕ) (b : List A) → addTerms R w i (a ++ replicate n (ι (pos 0))) b .0 ≡ addTerms R w i a b .0
   unfolding addTerms
-  addTerms-zeros c i [] zero b = refl
-  addTerms-zeros c i [] (suc n) b = ap (λ d. addTerms R d (suc i) (replicate n (ι (pos 0))) b) (addTerm-zero c i 0 b) ∙ addTerms-zeros c (suc i) [] n b
-  addTerms-zeros c i (x ∷ a) n b = addTerms-zeros (addTerm R c x i 0 b) (suc i) a n b
+  addTerms-zeros w i [] zero b = refl
+  addTerms-zeros w i [] (suc n) b = addTerms-zeros (addTerm R w (ι (pos 0)) i 0 b) (suc i) [] n b ∙ addTerm-zero w i 0 b
+  addTerms-zeros w i (x ∷ a) n b = addTerms-zeros (addTerm R w x i 0 b) (suc i) a n b
 
   pub product-zeros-left : (width : ℕ) (a : List A) (n : ℕ) (b : List A) → product R width (a ++ replicate n (ι (pos 0))) b ≡ product R width a b
   unfolding product
-  product-zeros-left width a n b = addTerms-zeros (replicate width (ι (pos 0))) 0 a n b
+  product-zeros-left width a n b = addTerms-zeros (replicate width (ι (pos 0)), 0) 0 a n b
 
   pub product-zeros-right : (width : ℕ) (a b : List A) (n : ℕ) → product R width a (b ++ replicate n (ι (pos 0))) ≡ product R width a b
   product-zeros-right width a b n = product-symmetric width a (b ++ replicate n (ι (pos 0))) ∙ product-zeros-left width b n a ∙ product-symmetric width b a
-
--- the pair (0, 0) counts twice: 2·3·5 at place 0
-both-conditions : product ℤ-ring 1 (pos 3 ∷ []) (pos 5 ∷ []) ≡ pos 30 ∷ []
-unfolding product addTerms addTerm addPair addAt
-both-conditions = refl
-
-both-conditions-sums : twoSums ℤ-ring 0 (pos 3 ∷ []) (pos 5 ∷ []) ≡ pos 30
-unfolding twoSums sumWhere sum
-both-conditions-sums = refl

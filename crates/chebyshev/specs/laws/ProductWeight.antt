@@ -14,7 +14,7 @@ use Rattle.chebyshev.specs.definitions.Coefficients.{weight}
 use Rattle.chebyshev.specs.definitions.Norms.{norm}
 use Rattle.chebyshev.specs.laws.NormLaws.{norm-zeros}
 use Rattle.chebyshev.specs.laws.Weight.{norm-weight}
-use Rattle.chebyshev.specs.definitions.Product.{distance, addAt, addPair, addTerm, addTerms, product}
+use Rattle.chebyshev.specs.definitions.Product.{distance, addAt, addPair, Walk, visit, addTerm, addTerms, product}
 
 module _ (O : OrderedRing) where
   open OrderedRing O using (ring, le as _≼_, abs, abs-nonneg)
@@ -39,27 +39,27 @@ module _ (O : OrderedRing) where
       by-certificate O (_⊞_ O (gap O (norm-addAt (addAt ring c (i + j) v) (distance i j) v)) (gap O (norm-addAt c (i + j) v)))
       (solve ring (norm O (addAt ring (addAt ring c (i + j) v) (distance i j) v) ∷ norm O (addAt ring c (i + j) v) ∷ norm O c ∷ abs v ∷ []) (search reify depth 20) (search reify depth 20) tt)
 
-  norm-addTerm : (c : List A) (x : A) (i j : ℕ) (b : List A) → norm O (addTerm ring c x i j b) ≼ norm O c ⊕ ι (pos 2) ⊗ abs x ⊗ norm O b
+  norm-addTerm : (w : Walk ring) (x : A) (i j : ℕ) (b : List A) → norm O (addTerm ring w x i j b .0) ≼ norm O (w .0) ⊕ ι (pos 2) ⊗ abs x ⊗ norm O b
   unfolding norm addTerm
-  norm-addTerm c x i j [] = le-of-eq O (solve ring (norm O c ∷ abs x ∷ []) (search reify depth 20) (search reify depth 20) tt)
-  norm-addTerm c x i j (y ∷ b) =
-      _⟨≼⟩_ O (norm-addTerm (addPair ring c i j (x ⊗ y)) x i (suc j) b)
-      (_⟨≼⟩_ O (_⟨+⟩_ O (norm-addPair c i j (x ⊗ y)) (le-refl O (ι (pos 2) ⊗ abs x ⊗ norm O b)))
-      (le-of-eq O (ap (λ p. norm O c ⊕ ι (pos 2) ⊗ p ⊕ ι (pos 2) ⊗ abs x ⊗ norm O b) (abs-mul O x y)
-      ∙ solve ring (norm O c ∷ abs x ∷ abs y ∷ norm O b ∷ []) (search reify depth 20) (search reify depth 20) tt)))
+  norm-addTerm w x i j [] = le-of-eq O (solve ring (norm O (w .0) ∷ abs x ∷ []) (search reify depth 20) (search reify depth 20) tt)
+  norm-addTerm w x i j (y ∷ b) =
+      _⟨≼⟩_ O (norm-addTerm (visit ring w i j (x ⊗ y)) x i (suc j) b)
+      (_⟨≼⟩_ O (_⟨+⟩_ O (norm-addPair (w .0) i j (x ⊗ y)) (le-refl O (ι (pos 2) ⊗ abs x ⊗ norm O b)))
+      (le-of-eq O (ap (λ p. norm O (w .0) ⊕ ι (pos 2) ⊗ p ⊕ ι (pos 2) ⊗ abs x ⊗ norm O b) (abs-mul O x y)
+      ∙ solve ring (norm O (w .0) ∷ abs x ∷ abs y ∷ norm O b ∷ []) (search reify depth 20) (search reify depth 20) tt)))
 
-  norm-addTerms : (c : List A) (i : ℕ) (a b : List A) → norm O (addTerms ring c i a b) ≼ norm O c ⊕ ι (pos 2) ⊗ norm O a ⊗ norm O b
+  norm-addTerms : (w : Walk ring) (i : ℕ) (a b : List A) → norm O (addTerms ring w i a b .0) ≼ norm O (w .0) ⊕ ι (pos 2) ⊗ norm O a ⊗ norm O b
   unfolding norm addTerms
-  norm-addTerms c i [] b = le-of-eq O (solve ring (norm O c ∷ norm O b ∷ []) (search reify depth 20) (search reify depth 20) tt)
-  norm-addTerms c i (x ∷ a) b =
-      _⟨≼⟩_ O (norm-addTerms (addTerm ring c x i 0 b) (suc i) a b)
-      (_⟨≼⟩_ O (_⟨+⟩_ O (norm-addTerm c x i 0 b) (le-refl O (ι (pos 2) ⊗ norm O a ⊗ norm O b)))
-      (le-of-eq O (solve ring (norm O c ∷ abs x ∷ norm O a ∷ norm O b ∷ []) (search reify depth 20) (search reify depth 20) tt)))
+  norm-addTerms w i [] b = le-of-eq O (solve ring (norm O (w .0) ∷ norm O b ∷ []) (search reify depth 20) (search reify depth 20) tt)
+  norm-addTerms w i (x ∷ a) b =
+      _⟨≼⟩_ O (norm-addTerms (addTerm ring w x i 0 b) (suc i) a b)
+      (_⟨≼⟩_ O (_⟨+⟩_ O (norm-addTerm w x i 0 b) (le-refl O (ι (pos 2) ⊗ norm O a ⊗ norm O b)))
+      (le-of-eq O (solve ring (norm O (w .0) ∷ abs x ∷ norm O a ∷ norm O b ∷ []) (search reify depth 20) (search reify depth 20) tt)))
 
   norm-product : (width : ℕ) (a b : List A) → norm O (product ring width a b) ≼ ι (pos 2) ⊗ norm O a ⊗ norm O b
   unfolding product
   norm-product width a b =
-      _⟨≼⟩_ O (norm-addTerms (replicate width (ι (pos 0))) 0 a b)
+      _⟨≼⟩_ O (norm-addTerms (replicate width (ι (pos 0)), 0) 0 a b)
       (le-of-eq O (ap (λ n. n ⊕ ι (pos 2) ⊗ norm O a ⊗ norm O b) (norm-zeros O width) ∙ zero-add (ι (pos 2) ⊗ norm O a ⊗ norm O b)))
 
 -- ---- the same as natural numbers, for code over ℤ
@@ -70,11 +70,11 @@ weight-addAt c k v = le-pos _ _ (simp (norm-weight, ∣∣-is) at (norm-addAt �
 pub weight-addPair : (c : List ℤ) (i j : ℕ) (v : ℤ) → weight (addPair ℤ-ring c i j v) ≤ weight c + 2 * natAbs v
 weight-addPair c i j v = le-pos _ _ (simp (norm-weight, ∣∣-is) at (norm-addPair ℤ-ordered c i j v))
 
-pub weight-addTerm : (c : List ℤ) (x : ℤ) (i j : ℕ) (b : List ℤ) → weight (addTerm ℤ-ring c x i j b) ≤ weight c + 2 * natAbs x * weight b
-weight-addTerm c x i j b = le-pos _ _ (simp (norm-weight, ∣∣-is) at (norm-addTerm ℤ-ordered c x i j b))
+pub weight-addTerm : (w : Walk ℤ-ring) (x : ℤ) (i j : ℕ) (b : List ℤ) → weight (addTerm ℤ-ring w x i j b .0) ≤ weight (w .0) + 2 * natAbs x * weight b
+weight-addTerm w x i j b = le-pos _ _ (simp (norm-weight, ∣∣-is) at (norm-addTerm ℤ-ordered w x i j b))
 
-pub weight-addTerms : (c : List ℤ) (i : ℕ) (a b : List ℤ) → weight (addTerms ℤ-ring c i a b) ≤ weight c + 2 * weight a * weight b
-weight-addTerms c i a b = le-pos _ _ (simp norm-weight at (norm-addTerms ℤ-ordered c i a b))
+pub weight-addTerms : (w : Walk ℤ-ring) (i : ℕ) (a b : List ℤ) → weight (addTerms ℤ-ring w i a b .0) ≤ weight (w .0) + 2 * weight a * weight b
+weight-addTerms w i a b = le-pos _ _ (simp norm-weight at (norm-addTerms ℤ-ordered w i a b))
 
 pub weight-product : (width : ℕ) (a b : List ℤ) → weight (product ℤ-ring width a b) ≤ 2 * weight a * weight b
 weight-product width a b = le-pos _ _ (simp norm-weight at (norm-product ℤ-ordered width a b))

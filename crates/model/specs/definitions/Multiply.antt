@@ -8,7 +8,7 @@ use lib.ListN.{replicate, take, drop}
 use Rattle.integer.specs.definitions.Integer.{ℤ-ring}
 use Rattle.integer.specs.definitions.Rounding.{upℕ}
 use Rattle.chebyshev.specs.definitions.Coefficients.{weight}
-use Rattle.chebyshev.specs.definitions.Product.{product}
+use Rattle.chebyshev.specs.definitions.Product.{product, productWalk}
 use Rattle.model.specs.definitions.Models.{scale, maxDegree, coefficientCount, productSize, terms, makeModel, zeroModel}
 use Rattle.model.specs.definitions.Models.{badPlace, largePlace}
 use Rattle.model.specs.definitions.Outcomes.{Outcome, outcome}
@@ -22,6 +22,10 @@ keptDegree d = cond (eqb d 255) maxDegree d
 -- the list C of two models
 unfoldable pub productList : Model → Model → List ℤ
 productList a b = product ℤ-ring productSize (terms a) (terms b)
+
+-- how many pairs the walk that forms it visits (02, S-5)
+unfoldable pub productVisits : Model → Model → ℕ
+productVisits a b = productWalk ℤ-ring productSize (terms a) (terms b) .1
 
 abbrev pub productDegree : ℕ → Model → Model → ℕ
 productDegree d a b = min (keptDegree d) (a .degree + b .degree)

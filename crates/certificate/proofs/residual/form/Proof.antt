@@ -1,6 +1,6 @@
 -- `residual::form` meets its contract.
 use borrow.Author.Needs.{needs}
-use mathlib.Core.Path.{_≡_, sym, _∙_, ap₂}
+use mathlib.Core.Path.{_≡_, sym, _∙_, ap, ap₂}
 use mathlib.Core.List.{List}
 use Prim.Native.Nat.{ℕ, _+_, _*_, _≤_}
 use native.Mathlib.Omega.{arith}
@@ -13,7 +13,7 @@ use Rattle.integer.specs.definitions.Integer.{ℤ-ring}
 use Rattle.chebyshev.specs.definitions.Coefficients.{weight}
 use Rattle.chebyshev.specs.laws.Weight.{weight-take}
 use Rattle.chebyshev.specs.definitions.Product.{product}
-use Rattle.model.specs.definitions.Models.{productSize}
+use Rattle.model.specs.definitions.Models.{coefficientCount, productSize}
 use Rattle.certificate.proofs.Formed.{weight-lent, from-lent}
 use Rattle.certificate.proofs.residual.form.Statement.{statement}
 use Rattle.certificate.proofs.residual.form.Tie as tie
@@ -34,15 +34,21 @@ module _ (s : tie.Start) where
   weights : weight a * weight b ≤ weight (s .args .a .now) * weight (s .args .b .now)
   weights = mul-le-mul (weight-take (s .args .n + 1) (s .args .a .now)) (weight-take (s .args .k + 1) (s .args .b .now))
 
+  lengths : length a * length b ≤ coefficientCount * coefficientCount
+  lengths =
+      let short-a : length a ≤ coefficientCount = omega (arith, length-a, s .pre .1) in
+      let short-b : length b ≤ coefficientCount = omega (arith, length-b, s .pre .1) in
+      mul-le-mul short-a short-b
+
 add-products-requires : tie.Need-add-products-requires
 add-products-requires c κs =
     let s = c .before .before .before .before .before in
-    omega (arith, weight-lent (s .pre .0), length-a s, length-b s, weights s, s .pre .0, s .pre .1)
+    omega (arith, weight-lent (s .pre .0), length-a s, length-b s, lengths s, weights s, s .pre .0, s .pre .1)
 
 returns : tie.Need-returns
 returns c =
     let s = c .before .before .before .before .before .before .before in
-    c .before .add-products .ensures
+    ap (λ w. w .0) (c .before .add-products .ensures .0)
     ∙ from-lent (s .pre .0) (a s) (b s)
     ∙ ap₂ (λ (i j : ℕ). product ℤ-ring productSize (take i (s .args .a .now)) (take j (s .args .b .now))) (add-one (s .args .n)) (add-one (s .args .k))
 

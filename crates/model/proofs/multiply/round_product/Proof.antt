@@ -1,6 +1,6 @@
 -- `multiply::round_product` meets its contract: C ends where it is cut off.
 use borrow.Author.Needs.{needs}
-use mathlib.Core.Path.{_≡_, sym}
+use mathlib.Core.Path.{_≡_, sym, ap}
 use mathlib.Core.List.{List}
 use Prim.Native.Nat.{ℕ, _+_, _-_, _*_, _^_, _≤_}
 use native.Mathlib.Omega.{arith}
@@ -16,7 +16,7 @@ use Rattle.chebyshev.specs.definitions.Product.{product}
 use Rattle.chebyshev.specs.laws.ProductLaws.{length-product}
 use Rattle.chebyshev.specs.laws.ProductWeight.{weight-product}
 use Rattle.chebyshev.specs.laws.ProductEnd.{product-end}
-use Rattle.model.specs.definitions.Models.{scale, productSize}
+use Rattle.model.specs.definitions.Models.{scale, coefficientCount, productSize}
 use Rattle.model.specs.laws.RoundingPassLaws.{rounded-prefix}
 use Rattle.model.proofs.multiply.round_product.Statement.{statement}
 use Rattle.model.proofs.multiply.round_product.Tie as tie
@@ -37,13 +37,16 @@ module _ (s : tie.Start) where
   weights : weight a * weight b ≤ 2 ^ 56
   weights = mul-le-mul (s .pre .0 .first-light) (s .pre .0 .second-light)
 
+  lengths : length a * length b ≤ coefficientCount * coefficientCount
+  lengths = mul-le-mul (s .pre .0 .first-short) (s .pre .0 .second-short)
+
   prefix-length : length (take end C) ≡ end
   prefix-length = length-take-le end C (omega (arith, length-product ℤ-ring productSize a b, s .pre))
 
 -- the list that was formed
 formed : (c : tie.After-add-products) → c .add-products .last .0 ≡ C (c .before .before)
 unfolding product
-formed c = c .add-products .ensures
+formed c = ap (λ w. w .0) (c .add-products .ensures .0)
 
 slice-aggregate-round : tie.Need-slice-aggregate-round
 slice-aggregate-round c = let s = c .before .before .before .before in rw (formed (c .before .before)) (sym (prefix-length s))
@@ -67,5 +70,5 @@ returns c =
 pub round-product-spec : {M : Type 1} → statement M
 round-product-spec =
     tie.close (tie.spec
-    (λ c. search needs) (λ c κs. omega (arith, weight-zeros 65, weights (c .before), c .before .pre)) (λ c. search needs)
+    (λ c. search needs) (λ c κs. omega (arith, weight-zeros 65, weights (c .before), lengths (c .before), c .before .pre)) (λ c. search needs)
     (λ c. search needs) (λ c. search needs) slice-aggregate-round round-requires returns)

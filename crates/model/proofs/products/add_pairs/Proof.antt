@@ -1,5 +1,5 @@
--- `products::add_pairs` meets its contract. The loop's invariant in rest form: the pairs that are left, added to the list as
--- it is, give the whole term added to the list as it came, and no weight is above what the whole term may bring.
+-- `products::add_pairs` meets its contract. The loop's invariant in rest form: the pairs that are left, visited after the k
+-- that were, give the whole term added to the list as it came, and no weight is above what the whole term may bring.
 use mathlib.Core.Path.{_≡_, refl, sym, _∙_, ap}
 use mathlib.Core.List.{List}
 use Prim.Native.Nat.{ℕ, _+_, _-_, _*_, _<_, _≤_}
@@ -23,7 +23,7 @@ use Rattle.model.proofs.products.add_pairs.Tie as tie
 record Walked (c₀ : List ℤ) (x : ℤ) (i j : ℕ) (b c : List ℤ) (k : ℕ) : Type 0 where
   within : k ≤ length b
   size : length c ≡ length c₀
-  rest : addTerm ℤ-ring c x i (j + k) (drop k b) ≡ addTerm ℤ-ring c₀ x i j b
+  rest : addTerm ℤ-ring (c, k) x i (j + k) (drop k b) ≡ addTerm ℤ-ring (c₀, 0) x i j b
   bound : weight c + 2 * natAbs x * weight (drop k b) ≤ weight c₀ + 2 * natAbs x * weight b
 
 -- |x|·|b_k| is a part of |x|·(the weight that is left of b)
@@ -36,7 +36,7 @@ walk c₀ x i j b c k w h =
     let e : j + (k + 1) ≡ j + k + 1 = omega arith in record {
       within = omega arith;
       size = length-addPair ℤ-ring c i (j + k) v ∙ w .size;
-      rest = rw e (sym (term-step ℤ-ring c x i (j + k) b k h)) ∙ w .rest;
+      rest = rw e (sym (term-step ℤ-ring (c, k) x i (j + k) b k h)) ∙ w .rest;
       bound = omega (arith, w .bound, weight-addPair c i (j + k) v, part x b k h);
     }
 
@@ -105,7 +105,7 @@ loop-again m =
 returns : tie.Need-returns Inv-loop μ-loop
 returns c =
     let h = c .before in
-    sym (term-end ℤ-ring (h .loop .c) (x h) (s h .args .i) (s h .args .j + k h) (b h) (k h) (omega arith)) ∙ inv h .rest
+    sym (term-end ℤ-ring (h .loop .c, k h) (x h) (s h .args .i) (s h .args .j + k h) (b h) (k h) (omega arith)) ∙ inv h .rest
 
 pub add-pairs-spec : {M : Type 1} → statement M
 add-pairs-spec =

@@ -1,6 +1,6 @@
 -- `products::add_term` meets its contract: the two parts, one after the other, are the term cut at place i.
 use borrow.Author.Needs.{needs}
-use mathlib.Core.Path.{_≡_, sym, _∙_, ap}
+use mathlib.Core.Path.{_≡_, sym, ap}
 use mathlib.Core.List.{List}
 use Prim.Native.Nat.{ℕ, _+_, _-_, _*_}
 use native.Mathlib.Omega.{arith}
@@ -12,7 +12,8 @@ use Rattle.integer.specs.definitions.Integer.{ℤ-ring}
 use Rattle.chebyshev.specs.definitions.Coefficients.{weight}
 use Rattle.chebyshev.specs.laws.Weight.{weight-split}
 use Rattle.chebyshev.specs.definitions.Product.{addTerm}
-use Rattle.chebyshev.specs.laws.ProductLaws.{length-addTerm, term-cut}
+use Rattle.chebyshev.specs.laws.PairVisits.{term-visits}
+use Rattle.chebyshev.specs.laws.ProductLaws.{length-addTerm, term-joined}
 use Rattle.chebyshev.specs.laws.ProductWeight.{weight-addTerm}
 use Rattle.model.proofs.products.add_term.Statement.{statement}
 use Rattle.model.proofs.products.add_term.Tie as tie
@@ -33,7 +34,7 @@ module _ (t : tie.Then1) where
 
   -- what the first part leaves
   abbrev first : List ℤ
-  first = addTerm ℤ-ring (s .args .c .now) x i 0 (take i b)
+  first = addTerm ℤ-ring (s .args .c .now, 0) x i 0 (take i b) .0
 
   parts : natAbs x * weight b ≡ natAbs x * weight (take i b) + natAbs x * weight (drop i b)
   parts = omega (arith, ap (λ (n : ℕ). natAbs x * n) (weight-split i b))
@@ -51,8 +52,11 @@ module _ (c : tie.After-add-pairs) where
   abbrev t : tie.Then1
   t = c .before .before .before
 
+  walked : (c .add-pairs .last .0, c .add-pairs .result) ≡ addTerm ℤ-ring (s t .args .c .now, 0) (x t) (i t) 0 (take (i t) (b t))
+  walked = rw (toZ-ofZ (s t .fits .x)) at (c .add-pairs .ensures)
+
   first-is : c .add-pairs .last .0 ≡ first t
-  first-is = rw (toZ-ofZ (s t .fits .x)) at (c .add-pairs .ensures)
+  first-is = ap (λ w. w .0) walked
 
   rest-is : take (length (b t) - i t) (drop (i t) (b t)) ≡ drop (i t) (b t)
   rest-is = take-all (length (b t) - i t) (drop (i t) (b t)) (omega (arith, length-drop (i t) (b t)))
@@ -62,15 +66,27 @@ add-pairs-requires-2 c κs =
     let f = c .before .before .before in
     let h = t f in
     simp (toZ-ofZ (s h .fits .x), first-is f, rest-is f)
-    (omega (arith, length-addTerm ℤ-ring (s h .args .c .now) (x h) (i h) 0 (take (i h) (b h)), weight-addTerm (s h .args .c .now) (x h) (i h) 0 (take (i h) (b h)), length-drop (i h) (b h), parts h, s h .pre))
+    (omega (arith, length-addTerm ℤ-ring (s h .args .c .now, 0) (x h) (i h) 0 (take (i h) (b h)), weight-addTerm (s h .args .c .now, 0) (x h) (i h) 0 (take (i h) (b h)), length-drop (i h) (b h), parts h, s h .pre))
 
-returns : tie.Need-returns
-returns c =
-    let f = c .before .before .before .before .before in
+-- both parts are done
+joined : (c : tie.After-add-pairs2)
+    → let f = c .before .before .before .before in
+    let h = t f in
+    (c .add-pairs2 .last .0, f .add-pairs .result + c .add-pairs2 .result) ≡ addTerm ℤ-ring (s h .args .c .now, 0) (x h) (i h) 0 (b h)
+joined c =
+    let f = c .before .before .before .before in
     let h = t f in
     let e : 0 + i h ≡ i h = omega arith in
-    (rw (toZ-ofZ (s h .fits .x), first-is f, rest-is f) at (c .before .add-pairs2 .ensures))
-    ∙ (rw e at (term-cut ℤ-ring (s h .args .c .now) (x h) (i h) 0 (i h) (b h) (omega arith)))
+    (rw e at (term-joined ℤ-ring (s h .args .c .now) (x h) (i h) 0 (i h) (b h) (f .add-pairs .last .0) (c .add-pairs2 .last .0) (f .add-pairs .result) (c .add-pairs2 .result) (omega arith) (walked f)))
+    (rw (toZ-ofZ (s h .fits .x), rest-is f) at (c .add-pairs2 .ensures))
+
+add-result : tie.Need-add-result
+add-result c =
+    let h = t (c .before .before .before .before .before) in
+    omega (arith, ap (λ w. w .1) (joined (c .before)), term-visits ℤ-ring (s h .args .c .now, 0) (x h) (i h) 0 (b h))
+
+returns : tie.Need-returns
+returns c = joined (c .before)
 
 returns-2 : tie.Need-returns-2
 returns-2 c = let d = c .before .before .before .before in rw (toZ-ofZ (d .fits .x)) at (c .before .add-pairs3 .ensures)
@@ -79,4 +95,5 @@ pub add-term-spec : {M : Type 1} → statement M
 add-term-spec =
     tie.close (tie.spec
     slice-aggregate-add-pairs add-pairs-requires (λ c. search needs) (λ c. search needs) (λ c. search needs)
-    (λ c. search needs) add-pairs-requires-2 (λ c κs. search needs) (λ c. search needs) returns (λ c. search needs) returns-2)
+    (λ c. search needs) add-pairs-requires-2 add-result (λ c κs. search needs) (λ c. search needs) returns (λ c. search needs)
+    returns-2)
