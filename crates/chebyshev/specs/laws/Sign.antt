@@ -12,7 +12,7 @@ use lib.Signed.{_<ℤ_}
 use Rattle.integer.specs.laws.Archimedean.{archimedean-power}
 use Rattle.integer.specs.laws.Embedding.{ι-abs, ι-nonneg}
 use Rattle.integer.specs.laws.OrderedRingLaws.{by-certificate, gap, _⊞_, _⊠_, _⟨≼⟩_, lt-le, le-refl, le-of-eq, mul-left, abs-upper, abs-neg, abs-mul-le, abs-of-nonneg}
-use Rattle.integer.specs.laws.Order.{lt→not-le, pos-le}
+use Rattle.integer.specs.laws.Order.{lt→not-le}
 use Rattle.integer.specs.definitions.Fraction.{ℚ, whole, _+ℚ_, _-ℚ_, -ℚ_, _*ℚ_, _≤ℚ_, _<ℚ_, ∣_∣ℚ}
 use Rattle.integer.specs.laws.FractionLaws.{*ℚ-comm, *ℚ-assoc, one-*ℚ, whole-add, whole-mul}
 use Rattle.integer.specs.definitions.FractionRing.{ℚ-ring}

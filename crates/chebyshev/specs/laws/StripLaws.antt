@@ -21,7 +21,7 @@ use Rattle.chebyshev.specs.definitions.Derivative.{sumFrom, remainder}
 use Rattle.chebyshev.specs.definitions.Primitive.{primitive}
 use Rattle.chebyshev.specs.laws.PrimitiveLaws.{primitive-increment}
 use Rattle.chebyshev.specs.laws.Midpoint.{midpoint, midpoint-double, midpoint-range}
-use Rattle.chebyshev.specs.laws.RemainderBound.{Bounded, sum-bounded}
+use Rattle.chebyshev.specs.laws.RemainderBound.{sum-bounded}
 use Rattle.chebyshev.specs.definitions.Strips.{leftSum}
 
 abbrev In : ℚ → Type 0

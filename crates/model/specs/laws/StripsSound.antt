@@ -1,6 +1,6 @@
 -- Document 02, request S-8: "For every k ≥ 1 the sum differs from the integral's polynomial at x by at most the radius plus 2·L/k
 -- units". The sum over strips lies within 2·e + 2·L/k of the primitive of the integrand's own list; its integral within n + 1 of that.
-use mathlib.Core.Path.{_≡_, sym, _∙_, ap, ap₂}
+use mathlib.Core.Path.{_≡_, _∙_, ap, ap₂}
 use mathlib.Core.Bool.{true}
 use mathlib.Core.List.{List, [], _∷_, map}
 use Prim.Native.Nat.{ℕ, _+_, _*_, _<_}
@@ -23,7 +23,7 @@ use Rattle.chebyshev.specs.laws.StripLaws.{leftSum-scale, left-sum-bound}
 use Rattle.chebyshev.specs.definitions.Allows.{allows}
 use Rattle.model.specs.definitions.Models.{scale, good}
 use Rattle.model.specs.definitions.Outcomes.{accepted}
-use Rattle.model.specs.definitions.Allowed.{position, AllowsAt, Allows, OnInterval}
+use Rattle.model.specs.definitions.Allowed.{position, AllowsAt, OnInterval}
 use Rattle.model.specs.definitions.Integrate.{integralModel, integration}
 use Rattle.model.specs.definitions.Strips.{Chooses, stripSum, lipschitz, StripsWithin}
 use Rattle.model.specs.laws.ValueLaws.{valueAt, within}
