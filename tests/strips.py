@@ -1,6 +1,7 @@
-"""Sums over strips (request S-8): the example that attains the bound, and wrong
-rules, each of which the checks of soundness.py must find.  No library is run:
-compare.py compares the integrals with the library's, that of S T_1 among them.
+"""Sums over strips (request S-8): the example that attains the bound, a closed L
+and the bound itself; and wrong rules, each of which one of the three must find.
+No library is run: compare.py compares the integrals with the library's, that of
+S T_1 among them.
 """
 
 from fractions import Fraction
@@ -25,13 +26,13 @@ def attained():
         assert far == -Fraction(2 * soundness.lipschitz(a), k), f'not attained with {k} strips'
 
 
-def covered(shrink=0):
-    """The bound at fixed integrands, and the radius less `shrink` units."""
+def covered(lost=lambda a: 0):
+    """The bound at fixed integrands; `lost` is what a wrong radius lacks."""
     rng = Random(1)
     for a in (constant(S, 1000), term(2, 7 * S), model([3, -5, 7]), term(31, -S, 12345)):
         number, result = o.integrate(a)
         assert number == 0
-        result = result._replace(radius=result.radius - shrink)
+        result = result._replace(radius=result.radius - lost(a))
         for k in (1, 2, 3, 5):
             for choice in soundness.choices(rng, a):
                 for x in (Fraction(1), Fraction(-1), Fraction(1, 3)):
@@ -72,12 +73,12 @@ WRONG = [
 ]
 
 
-def found(shrink=0):
+def found(lost=lambda a: 0):
     """Whether a check fails."""
     try:
         attained()
         three_coefficients()
-        covered(shrink)
+        covered(lost)
     except AssertionError:
         return True
     return False
@@ -90,7 +91,7 @@ def main():
         setattr(soundness, what, rule)
         assert found(), f'not found: {name}'
         setattr(soundness, what, right)
-    assert found(1000), 'not found: radius e + n + 1'
+    assert found(lambda a: a.radius), 'not found: radius e + n + 1'
     print(f'strips: the bound is attained with {COUNTS} strips; {len(WRONG) + 1} wrong rules found')
 
 

@@ -1,4 +1,4 @@
--- The remainder of Taylor's formula is bounded on [−1, 1]. By what does not matter: the strips only ask that there is a bound.
+-- The remainder of Taylor's formula is bounded on [−1, 1]. What bounds it does not matter: the strips only ask that something does.
 use mathlib.Core.List.{List, [], _∷_}
 use Prim.Native.Nat.{ℕ, zero, suc}
 use lib.IntN.{pos}
@@ -17,31 +17,31 @@ module _ (O : OrderedRing) where
   infixl 7 _⊗_
   infix 8 ⊖_
   infix 4 _≼_
-  -- |f(x, h)| ≤ size where x and x + h are in [−1, 1]
+  -- |f(x, h)| ≤ most where x and x + h are in [−1, 1]
   pub record Bounded (f : A → A → A) : Type 0 where
-    pub size : A
-    pub bound : (x h : A) → abs x ≼ ι (pos 1) → abs (x ⊕ h) ≼ ι (pos 1) → abs (f x h) ≼ size
+    pub most : A
+    pub holds : (x h : A) → abs x ≼ ι (pos 1) → abs (x ⊕ h) ≼ ι (pos 1) → abs (f x h) ≼ most
 
   constant : (c : A) → Bounded (λ x h. c)
-  constant c = record { size = abs c; bound = λ x h p q. le-refl O (abs c) }
+  constant c = record { most = abs c; holds = λ x h p q. le-refl O (abs c) }
 
   opposite : {f : A → A → A} → Bounded f → Bounded (λ x h. ⊖ f x h)
-  opposite {f} b = record { size = b .size; bound = λ x h p q. abs-neg-le O (f x h) (b .bound x h p q) }
+  opposite {f} b = record { most = b .most; holds = λ x h p q. abs-neg-le O (f x h) (b .holds x h p q) }
 
   plus : {f g : A → A → A} → Bounded f → Bounded g → Bounded (λ x h. f x h ⊕ g x h)
-  plus {f} {g} b d = record { size = b .size ⊕ d .size; bound = λ x h p q. abs-add-le O (f x h) (g x h) (b .bound x h p q) (d .bound x h p q) }
+  plus {f} {g} b d = record { most = b .most ⊕ d .most; holds = λ x h p q. abs-add-le O (f x h) (g x h) (b .holds x h p q) (d .holds x h p q) }
 
   times : {f g : A → A → A} → Bounded f → Bounded g → Bounded (λ x h. f x h ⊗ g x h)
-  times {f} {g} b d = record { size = b .size ⊗ d .size; bound = λ x h p q. abs-mul-le O (f x h) (g x h) (b .bound x h p q) (d .bound x h p q) }
+  times {f} {g} b d = record { most = b .most ⊗ d .most; holds = λ x h p q. abs-mul-le O (f x h) (g x h) (b .holds x h p q) (d .holds x h p q) }
 
   start : Bounded (λ x h. x)
-  start = record { size = ι (pos 1); bound = λ x h p q. p }
+  start = record { most = ι (pos 1); holds = λ x h p q. p }
 
   end : Bounded (λ x h. x ⊕ h)
-  end = record { size = ι (pos 1); bound = λ x h p q. q }
+  end = record { most = ι (pos 1); holds = λ x h p q. q }
 
   first-bounded : (k : ℕ) → Bounded (λ x h. firstKind ring x k)
-  first-bounded k = record { size = ι (pos 1); bound = λ x h p q. first-bound O x k p }
+  first-bounded k = record { most = ι (pos 1); holds = λ x h p q. first-bound O x k p }
 
   derivative-bounded : (k : ℕ) → Bounded (λ x h. derivative ring x k)
   unfolding derivative

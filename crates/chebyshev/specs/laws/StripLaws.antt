@@ -1,6 +1,6 @@
 -- How far sums over strips lie from the primitive P of a list a: one strip from x to y in [−1, 1] is off by at most L·(y − x)²/2 with
--- L = Σ|a_k|·k². No limits: Taylor's formula bounds a strip by some multiple of its width's square, and cutting strips in two,
--- where the Lipschitz bound of a applies at the cut, brings that multiple as near to L/2 as one likes.
+-- L = Σ|a_k|·k². Over fractions alone: Taylor's formula bounds a strip by some multiple of its width's square, and cutting strips
+-- in two, where the Lipschitz bound of a applies at the cut, brings that multiple below every number above L/2.
 use mathlib.Core.Path.{_≡_, sym, _∙_, ap, subst}
 use mathlib.Core.List.{List, [], _∷_}
 use Prim.Native.Nat.{ℕ, zero, suc, _^_}
@@ -50,13 +50,13 @@ module _ (a : List ℚ) where
   strip x h = P (x +ℚ h) -ℚ P x -ℚ h *ℚ p x
 
   K : ℚ
-  K = sum-bounded ℚ-ordered 0 (primitive a) .size
+  K = sum-bounded ℚ-ordered 0 (primitive a) .most
 
   crude : (x h : ℚ) → In x → In (x +ℚ h) → ∣ strip x h ∣ℚ ≤ℚ ((h *ℚ h) *ℚ K)
   unfolding K
   crude x h hx hy =
       rw is
-      (abs-mul-le ℚ-ordered (h *ℚ h) R (le-of-eq ℚ-ordered (abs-of-nonneg ℚ-ordered (sq-nonneg ℚ-ordered h))) (sum-bounded ℚ-ordered 0 (primitive a) .bound x h hx hy))
+      (abs-mul-le ℚ-ordered (h *ℚ h) R (le-of-eq ℚ-ordered (abs-of-nonneg ℚ-ordered (sq-nonneg ℚ-ordered h))) (sum-bounded ℚ-ordered 0 (primitive a) .holds x h hx hy))
     where
       R : ℚ
       R = sumFrom ℚ-ring (remainder ℚ-ring x h) 0 (primitive a)
@@ -70,15 +70,15 @@ module _ (a : List ℚ) where
   abbrev Within : ℚ → Type 0
   Within t = (x h : ℚ) → In x → In (x +ℚ h) → (t *ℚ (whole (pos 2) *ℚ ∣ strip x h ∣ℚ)) ≤ℚ ((t *ℚ L +ℚ whole (pos 2) *ℚ K) *ℚ (h *ℚ h))
 
-  whole-strip : Within (whole (pos 1))
-  whole-strip x h hx hy =
+  within-one : Within (whole (pos 1))
+  within-one x h hx hy =
       by-certificate ℚ-ordered
       (_⊞_ ℚ-ordered (_⊠_ ℚ-ordered (ι-nonneg ℚ-ordered 2) (gap ℚ-ordered (crude x h hx hy))) (_⊠_ ℚ-ordered (lipschitz-nonneg ℚ-ordered 0 a) (sq-nonneg ℚ-ordered h)))
       (solveℚ (h ∷ L ∷ K ∷ ∣ strip x h ∣ℚ ∷ []) (search reifyℚ depth 20) (search reifyℚ depth 20) tt)
 
-  -- a strip of two halves of width d, whose second one begins with the value at x + d in place of that at x
-  two-halves : (x d : ℚ) → In x → In (x +ℚ d) → ∣ strip x (d +ℚ d) ∣ℚ ≤ℚ (∣ strip x d ∣ℚ +ℚ ∣ strip (x +ℚ d) d ∣ℚ +ℚ L *ℚ (d *ℚ d))
-  two-halves x d hx hz =
+  -- a strip of two within-doubles of width d, whose second one begins with the value at x + d in place of that at x
+  two-within-doubles : (x d : ℚ) → In x → In (x +ℚ d) → ∣ strip x (d +ℚ d) ∣ℚ ≤ℚ (∣ strip x d ∣ℚ +ℚ ∣ strip (x +ℚ d) d ∣ℚ +ℚ L *ℚ (d *ℚ d))
+  two-within-doubles x d hx hz =
       rw cut
       (abs-add-le ℚ-ordered (strip x d +ℚ strip (x +ℚ d) d) (d *ℚ (p (x +ℚ d) -ℚ p x)) (triangle ℚ-ordered (strip x d) (strip (x +ℚ d) d))
       (_⟨≼⟩_ ℚ-ordered (abs-mul-le ℚ-ordered d (p (x +ℚ d) -ℚ p x) (le-refl ℚ-ordered ∣ d ∣ℚ) (value-lipschitz ℚ-ordered (x +ℚ d) x hz hx a)) (le-of-eq ℚ-ordered square)))
@@ -97,8 +97,8 @@ module _ (a : List ℚ) where
           ∙ solveℚ (∣ d ∣ℚ ∷ L ∷ []) (search reifyℚ depth 9) (search reifyℚ depth 9) tt
           ∙ ap (λ u. L *ℚ u) (sym (abs-mul ℚ-ordered d d) ∙ abs-of-nonneg ℚ-ordered (sq-nonneg ℚ-ordered d))
 
-  halve : (t : ℚ) → whole (pos 0) ≤ℚ t → Within t → Within (whole (pos 2) *ℚ t)
-  halve t nonneg w x h hx hy = subst Goal twice (from-halves (midpoint x (x +ℚ h) -ℚ x) (rw middle (midpoint-range x (x +ℚ h) hx hy)) (rw twice hy))
+  within-double : (t : ℚ) → whole (pos 0) ≤ℚ t → Within t → Within (whole (pos 2) *ℚ t)
+  within-double t nonneg w x h hx hy = subst Goal twice (from-within-doubles (midpoint x (x +ℚ h) -ℚ x) (rw middle (midpoint-range x (x +ℚ h) hx hy)) (rw twice hy))
     where
       Goal : ℚ → Type 0
       Goal h = (whole (pos 2) *ℚ t *ℚ (whole (pos 2) *ℚ ∣ strip x h ∣ℚ)) ≤ℚ ((whole (pos 2) *ℚ t *ℚ L +ℚ whole (pos 2) *ℚ K) *ℚ (h *ℚ h))
@@ -112,25 +112,25 @@ module _ (a : List ℚ) where
           ∙ ap (λ s. s -ℚ x -ℚ x) (midpoint-double x (x +ℚ h))
           ∙ solveℚ (x ∷ h ∷ []) (search reifyℚ depth 12) (search reifyℚ depth 12) tt
 
-      from-halves : (d : ℚ) → In (x +ℚ d) → In (x +ℚ (d +ℚ d)) → Goal (d +ℚ d)
-      from-halves d hz hy =
+      from-within-doubles : (d : ℚ) → In (x +ℚ d) → In (x +ℚ (d +ℚ d)) → Goal (d +ℚ d)
+      from-within-doubles d hz hy =
           by-certificate ℚ-ordered
           (_⊞_ ℚ-ordered (_⊠_ ℚ-ordered (ι-nonneg ℚ-ordered 2) (_⊞_ ℚ-ordered (gap ℚ-ordered (w x d hx hz)) (gap ℚ-ordered (w (x +ℚ d) d hz (rw (+ℚ-assoc x d d) hy)))))
-          (_⊠_ ℚ-ordered (_⊠_ ℚ-ordered (ι-nonneg ℚ-ordered 4) nonneg) (gap ℚ-ordered (two-halves x d hx hz))))
+          (_⊠_ ℚ-ordered (_⊠_ ℚ-ordered (ι-nonneg ℚ-ordered 4) nonneg) (gap ℚ-ordered (two-within-doubles x d hx hz))))
           (solveℚ (t ∷ d ∷ L ∷ K ∷ ∣ strip x d ∣ℚ ∷ ∣ strip (x +ℚ d) d ∣ℚ ∷ ∣ strip x (d +ℚ d) ∣ℚ ∷ []) (search reifyℚ depth 24 fits 9000) (search reifyℚ depth 24 fits 9000) tt)
 
-  halvings : (n : ℕ) → Within (whole (pos (2 ^ n)))
-  halvings zero = whole-strip
-  halvings (suc n) = rw power (halve (whole (pos (2 ^ n))) (ι-nonneg ℚ-ordered (2 ^ n)) (halvings n))
+  within-power : (n : ℕ) → Within (whole (pos (2 ^ n)))
+  within-power zero = within-one
+  within-power (suc n) = rw power (within-double (whole (pos (2 ^ n))) (ι-nonneg ℚ-ordered (2 ^ n)) (within-power n))
     where
       power : whole (pos (2 ^ suc n)) ≡ whole (pos 2) *ℚ whole (pos (2 ^ n))
       power = ap (λ (n : ℕ). whole (pos n)) (omega arith) ∙ whole-mul (pos 2) (pos (2 ^ n))
 
   -- 2·|P(x + h) − P(x) − h·a(x)| ≤ L·h²
-  step-bound : (x h : ℚ) → In x → In (x +ℚ h) → (whole (pos 2) *ℚ ∣ strip x h ∣ℚ) ≤ℚ (L *ℚ (h *ℚ h))
-  step-bound x h hx hy =
+  increment-bound : (x h : ℚ) → In x → In (x +ℚ h) → (whole (pos 2) *ℚ ∣ strip x h ∣ℚ) ≤ℚ (L *ℚ (h *ℚ h))
+  increment-bound x h hx hy =
       limit-le (whole (pos 2) *ℚ ∣ strip x h ∣ℚ) (L *ℚ (h *ℚ h)) (whole (pos 2) *ℚ K *ℚ (h *ℚ h))
-      (λ n. _⟨≼⟩_ ℚ-ordered (halvings n x h hx hy) (le-of-eq ℚ-ordered (regroup (whole (pos (2 ^ n))))))
+      (λ n. _⟨≼⟩_ ℚ-ordered (within-power n x h hx hy) (le-of-eq ℚ-ordered (regroup (whole (pos (2 ^ n))))))
     where
       regroup : (t : ℚ) → (t *ℚ L +ℚ whole (pos 2) *ℚ K) *ℚ (h *ℚ h) ≡ t *ℚ (L *ℚ (h *ℚ h)) +ℚ whole (pos 2) *ℚ K *ℚ (h *ℚ h)
       regroup t = solveℚ (t ∷ h ∷ L ∷ K ∷ []) (search reifyℚ depth 20) (search reifyℚ depth 20) tt
@@ -138,21 +138,21 @@ module _ (a : List ℚ) where
   -- 2·|P(y) − P(x) − (y − x)·a(x)| ≤ L·(y − x)²
   pub strip-bound : (x y : ℚ) → In x → In y → (whole (pos 2) *ℚ ∣ P y -ℚ P x -ℚ (y -ℚ x) *ℚ p x ∣ℚ) ≤ℚ (L *ℚ ((y -ℚ x) *ℚ (y -ℚ x)))
   strip-bound x y hx hy =
-      subst (λ z. (whole (pos 2) *ℚ ∣ P z -ℚ P x -ℚ (y -ℚ x) *ℚ p x ∣ℚ) ≤ℚ (L *ℚ ((y -ℚ x) *ℚ (y -ℚ x)))) back (step-bound x (y -ℚ x) hx (rw back hy))
+      subst (λ z. (whole (pos 2) *ℚ ∣ P z -ℚ P x -ℚ (y -ℚ x) *ℚ p x ∣ℚ) ≤ℚ (L *ℚ ((y -ℚ x) *ℚ (y -ℚ x)))) back (increment-bound x (y -ℚ x) hx (rw back hy))
     where
       back : x +ℚ (y -ℚ x) ≡ y
       back = solveℚ (x ∷ y ∷ []) (search reifyℚ depth 9) (search reifyℚ depth 9) tt
 
   -- ---- k strips of width h from y on, of any function f that is within e of a on [−1, 1]
 
-  module _ (f : ℚ → ℚ) (e : ℚ) (near : (x : ℚ) → In x → ∣ f x -ℚ p x ∣ℚ ≤ℚ e) where
+  module _ (f : ℚ → ℚ) (e : ℚ) (close : (x : ℚ) → In x → ∣ f x -ℚ p x ∣ℚ ≤ℚ e) where
     -- one strip more on the left, from y to y + h
     one-more : (y h s : ℚ) → whole (pos 0) ≤ℚ h → In y → In (y +ℚ h) → (z : ℚ)
         → ∣ P z -ℚ P y -ℚ (f y *ℚ h +ℚ s) ∣ℚ ≤ℚ (∣ P z -ℚ P (y +ℚ h) -ℚ s ∣ℚ +ℚ ∣ strip y h ∣ℚ +ℚ e *ℚ h)
     one-more y h s nonneg hy hz z =
         rw split
         (abs-add-le ℚ-ordered (P z -ℚ P (y +ℚ h) -ℚ s +ℚ strip y h) (-ℚ ((f y -ℚ p y) *ℚ h)) (triangle ℚ-ordered (P z -ℚ P (y +ℚ h) -ℚ s) (strip y h))
-        (abs-neg-le ℚ-ordered ((f y -ℚ p y) *ℚ h) (abs-mul-le ℚ-ordered (f y -ℚ p y) h (near y hy) (le-of-eq ℚ-ordered (abs-of-nonneg ℚ-ordered nonneg)))))
+        (abs-neg-le ℚ-ordered ((f y -ℚ p y) *ℚ h) (abs-mul-le ℚ-ordered (f y -ℚ p y) h (close y hy) (le-of-eq ℚ-ordered (abs-of-nonneg ℚ-ordered nonneg)))))
       where
         split : P z -ℚ P y -ℚ (f y *ℚ h +ℚ s) ≡ P z -ℚ P (y +ℚ h) -ℚ s +ℚ strip y h +ℚ -ℚ ((f y -ℚ p y) *ℚ h)
         split = solveℚ (h ∷ s ∷ P z ∷ P y ∷ P (y +ℚ h) ∷ p y ∷ f y ∷ []) (search reifyℚ depth 20) (search reifyℚ depth 20) tt
@@ -174,7 +174,7 @@ module _ (a : List ℚ) where
         rw (ι-suc ℚ-ring k, next (whole (pos k)))
         (join (whole (pos k)) ∣ P (y +ℚ h +ℚ whole (pos k) *ℚ h) -ℚ P (y +ℚ h) -ℚ leftSum f (y +ℚ h) h k ∣ℚ ∣ strip y h ∣ℚ _
         (left-sum-bound k (y +ℚ h) h nonneg right-above end-below)
-        (step-bound y h in-y in-right)
+        (increment-bound y h in-y in-right)
         (one-more y h (leftSum f (y +ℚ h) h k) nonneg in-y in-right (y +ℚ h +ℚ whole (pos k) *ℚ h)))
       where
         next : (n : ℚ) → y +ℚ (whole (pos 1) +ℚ n) *ℚ h ≡ y +ℚ h +ℚ n *ℚ h

@@ -83,9 +83,9 @@ module _ (a : Model) (g : good a ≡ true) (choice : ℚ → ℚ) (chosen : Choo
   abbrev term : ℚ
   term = whole (pos (2 * lipschitz a)) /ℚ whole (pos k)
 
-  near : (y : ℚ) → ∣ y ∣ℚ ≤ℚ whole (pos 1) → ∣ units y -ℚ value ℚ-ring y α ∣ℚ ≤ℚ whole (pos (a .radius))
+  allowed : (y : ℚ) → ∣ y ∣ℚ ≤ℚ whole (pos 1) → ∣ units y -ℚ value ℚ-ring y α ∣ℚ ≤ℚ whole (pos (a .radius))
   unfolding position AllowsAt allows
-  near y h = chosen y (record { above = abs-lower ℚ-ordered h; below = abs-upper ℚ-ordered h })
+  allowed y h = chosen y (record { above = abs-lower ℚ-ordered h; below = abs-upper ℚ-ordered h })
 
   -- of the primitive of the integrand's own list
   strips-primitive : ∣ value ℚ-ring x (primitive α) -ℚ stripSum choice x k *ℚ whole (pos scale) ∣ℚ ≤ℚ (whole (pos 2) *ℚ whole (pos (a .radius)) +ℚ term)
@@ -123,7 +123,7 @@ module _ (a : Model) (g : good a ≡ true) (choice : ℚ → ℚ) (chosen : Choo
           ≤ℚ (n *ℚ width *ℚ (whole (pos 2) *ℚ whole (pos (a .radius)) +ℚ l *ℚ width))
       bound =
           rw (end, start, lipschitz-whole ℚ-ordered 0 (a .coefficients)) at
-          (left-sum-bound α units (whole (pos (a .radius))) near k (-ℚ whole (pos 1)) width
+          (left-sum-bound α units (whole (pos (a .radius))) allowed k (-ℚ whole (pos 1)) width
           (width-nonneg x n width term l on above equal twice) (le-refl ℚ-ordered (-ℚ whole (pos 1))) (rw end (on .below)))
 
   -- of the integral
