@@ -76,9 +76,9 @@ module _ (a : List ℚ) where
       (_⊞_ ℚ-ordered (_⊠_ ℚ-ordered (ι-nonneg ℚ-ordered 2) (gap ℚ-ordered (crude x h hx hy))) (_⊠_ ℚ-ordered (lipschitz-nonneg ℚ-ordered 0 a) (sq-nonneg ℚ-ordered h)))
       (solveℚ (h ∷ L ∷ K ∷ ∣ strip x h ∣ℚ ∷ []) (search reifyℚ depth 20) (search reifyℚ depth 20) tt)
 
-  -- a strip of two within-doubles of width d, whose second one begins with the value at x + d in place of that at x
-  two-within-doubles : (x d : ℚ) → In x → In (x +ℚ d) → ∣ strip x (d +ℚ d) ∣ℚ ≤ℚ (∣ strip x d ∣ℚ +ℚ ∣ strip (x +ℚ d) d ∣ℚ +ℚ L *ℚ (d *ℚ d))
-  two-within-doubles x d hx hz =
+  -- a strip of two halves of width d, whose second one begins with the value at x + d in place of that at x
+  two-halves : (x d : ℚ) → In x → In (x +ℚ d) → ∣ strip x (d +ℚ d) ∣ℚ ≤ℚ (∣ strip x d ∣ℚ +ℚ ∣ strip (x +ℚ d) d ∣ℚ +ℚ L *ℚ (d *ℚ d))
+  two-halves x d hx hz =
       rw cut
       (abs-add-le ℚ-ordered (strip x d +ℚ strip (x +ℚ d) d) (d *ℚ (p (x +ℚ d) -ℚ p x)) (triangle ℚ-ordered (strip x d) (strip (x +ℚ d) d))
       (_⟨≼⟩_ ℚ-ordered (abs-mul-le ℚ-ordered d (p (x +ℚ d) -ℚ p x) (le-refl ℚ-ordered ∣ d ∣ℚ) (value-lipschitz ℚ-ordered (x +ℚ d) x hz hx a)) (le-of-eq ℚ-ordered square)))
@@ -98,7 +98,7 @@ module _ (a : List ℚ) where
           ∙ ap (λ u. L *ℚ u) (sym (abs-mul ℚ-ordered d d) ∙ abs-of-nonneg ℚ-ordered (sq-nonneg ℚ-ordered d))
 
   within-double : (t : ℚ) → whole (pos 0) ≤ℚ t → Within t → Within (whole (pos 2) *ℚ t)
-  within-double t nonneg w x h hx hy = subst Goal twice (from-within-doubles (midpoint x (x +ℚ h) -ℚ x) (rw middle (midpoint-range x (x +ℚ h) hx hy)) (rw twice hy))
+  within-double t nonneg w x h hx hy = subst Goal twice (from-halves (midpoint x (x +ℚ h) -ℚ x) (rw middle (midpoint-range x (x +ℚ h) hx hy)) (rw twice hy))
     where
       Goal : ℚ → Type 0
       Goal h = (whole (pos 2) *ℚ t *ℚ (whole (pos 2) *ℚ ∣ strip x h ∣ℚ)) ≤ℚ ((whole (pos 2) *ℚ t *ℚ L +ℚ whole (pos 2) *ℚ K) *ℚ (h *ℚ h))
@@ -112,11 +112,11 @@ module _ (a : List ℚ) where
           ∙ ap (λ s. s -ℚ x -ℚ x) (midpoint-double x (x +ℚ h))
           ∙ solveℚ (x ∷ h ∷ []) (search reifyℚ depth 12) (search reifyℚ depth 12) tt
 
-      from-within-doubles : (d : ℚ) → In (x +ℚ d) → In (x +ℚ (d +ℚ d)) → Goal (d +ℚ d)
-      from-within-doubles d hz hy =
+      from-halves : (d : ℚ) → In (x +ℚ d) → In (x +ℚ (d +ℚ d)) → Goal (d +ℚ d)
+      from-halves d hz hy =
           by-certificate ℚ-ordered
           (_⊞_ ℚ-ordered (_⊠_ ℚ-ordered (ι-nonneg ℚ-ordered 2) (_⊞_ ℚ-ordered (gap ℚ-ordered (w x d hx hz)) (gap ℚ-ordered (w (x +ℚ d) d hz (rw (+ℚ-assoc x d d) hy)))))
-          (_⊠_ ℚ-ordered (_⊠_ ℚ-ordered (ι-nonneg ℚ-ordered 4) nonneg) (gap ℚ-ordered (two-within-doubles x d hx hz))))
+          (_⊠_ ℚ-ordered (_⊠_ ℚ-ordered (ι-nonneg ℚ-ordered 4) nonneg) (gap ℚ-ordered (two-halves x d hx hz))))
           (solveℚ (t ∷ d ∷ L ∷ K ∷ ∣ strip x d ∣ℚ ∷ ∣ strip (x +ℚ d) d ∣ℚ ∷ ∣ strip x (d +ℚ d) ∣ℚ ∷ []) (search reifyℚ depth 24 fits 9000) (search reifyℚ depth 24 fits 9000) tt)
 
   within-power : (n : ℕ) → Within (whole (pos (2 ^ n)))
@@ -183,23 +183,21 @@ module _ (a : List ℚ) where
         end-below : (y +ℚ h +ℚ whole (pos k) *ℚ h) ≤ℚ whole (pos 1)
         end-below = rw (ι-suc ℚ-ring k, next (whole (pos k))) at below
 
-        rest : whole (pos 0) ≤ℚ (whole (pos k) *ℚ h)
-        rest = _⊠_ ℚ-ordered (ι-nonneg ℚ-ordered k) nonneg
-
         right-above : (-ℚ whole (pos 1)) ≤ℚ (y +ℚ h)
         right-above = by-certificate ℚ-ordered (_⊞_ ℚ-ordered (gap ℚ-ordered above) nonneg) (solveℚ (y ∷ h ∷ []) (search reifyℚ depth 12) (search reifyℚ depth 12) tt)
 
-        right-below : (r : ℚ) → whole (pos 0) ≤ℚ r → (y +ℚ h +ℚ r) ≤ℚ whole (pos 1) → (y +ℚ h) ≤ℚ whole (pos 1)
-        right-below r l b = by-certificate ℚ-ordered (_⊞_ ℚ-ordered (gap ℚ-ordered b) l) (solveℚ (y ∷ h ∷ r ∷ []) (search reifyℚ depth 12) (search reifyℚ depth 12) tt)
+        -- what lies left of the end is below it
+        left-of : (u r : ℚ) → whole (pos 0) ≤ℚ r → (u +ℚ r) ≤ℚ whole (pos 1) → u ≤ℚ whole (pos 1)
+        left-of u r l b = by-certificate ℚ-ordered (_⊞_ ℚ-ordered (gap ℚ-ordered b) l) (solveℚ (u ∷ r ∷ []) (search reifyℚ depth 12) (search reifyℚ depth 12) tt)
+
+        right-below : (y +ℚ h) ≤ℚ whole (pos 1)
+        right-below = left-of (y +ℚ h) (whole (pos k) *ℚ h) (_⊠_ ℚ-ordered (ι-nonneg ℚ-ordered k) nonneg) end-below
 
         in-right : In (y +ℚ h)
-        in-right = abs-le ℚ-ordered (right-below (whole (pos k) *ℚ h) rest end-below) right-above
+        in-right = abs-le ℚ-ordered right-below right-above
 
         in-y : In y
-        in-y =
-            abs-le ℚ-ordered
-            (by-certificate ℚ-ordered (_⊞_ ℚ-ordered (gap ℚ-ordered (right-below (whole (pos k) *ℚ h) rest end-below)) nonneg) (solveℚ (y ∷ h ∷ []) (search reifyℚ depth 12) (search reifyℚ depth 12) tt))
-            above
+        in-y = abs-le ℚ-ordered (left-of y h nonneg right-below) above
 
         join : (n u v s : ℚ) → (whole (pos 2) *ℚ u) ≤ℚ (n *ℚ h *ℚ (whole (pos 2) *ℚ e +ℚ L *ℚ h)) → (whole (pos 2) *ℚ v) ≤ℚ (L *ℚ (h *ℚ h)) → s ≤ℚ (u +ℚ v +ℚ e *ℚ h)
             → (whole (pos 2) *ℚ s) ≤ℚ ((whole (pos 1) +ℚ n) *ℚ h *ℚ (whole (pos 2) *ℚ e +ℚ L *ℚ h))

@@ -30,9 +30,9 @@ use Rattle.model.specs.laws.ValueLaws.{valueAt, within}
 use Rattle.model.specs.laws.IntegralSound.{integral-radius, integral-rounding, integration-accepted}
 use Rattle.model.specs.declared.types.Model.{Model}
 
--- ---- numbers: n strips of width w from −1 to x, and q = 2·l/n
+-- ---- numbers: n strips of width w from −1 to x
 
-module _ (x n w q l : ℚ) (on : OnInterval x) (positive : whole (pos 0) <ℚ n) (width : w *ℚ n ≡ x -ℚ -ℚ whole (pos 1)) (term : q *ℚ n ≡ whole (pos 2) *ℚ l) where
+module _ (x n w : ℚ) (on : OnInterval x) (positive : whole (pos 0) <ℚ n) (width : w *ℚ n ≡ x -ℚ -ℚ whole (pos 1)) where
   reaches : -ℚ whole (pos 1) +ℚ n *ℚ w ≡ x
   reaches =
       solveℚ (n ∷ w ∷ []) (search reifyℚ depth 9) (search reifyℚ depth 9) tt
@@ -51,22 +51,23 @@ module _ (x n w q l : ℚ) (on : OnInterval x) (positive : whole (pos 0) <ℚ n)
       (solveℚ (n ∷ w ∷ []) (search reifyℚ depth 9) (search reifyℚ depth 9) tt ∙ ap (λ v. whole (pos 2) -ℚ v) width
       ∙ solveℚ (x ∷ []) (search reifyℚ depth 9) (search reifyℚ depth 9) tt)
 
-  -- l·w ≤ q
-  term-below : whole (pos 0) ≤ℚ l → (l *ℚ w) ≤ℚ q
-  term-below nonneg =
-      ≤ℚ-cancel n (l *ℚ w) q positive
-      (by-certificate ℚ-ordered (_⊠_ ℚ-ordered nonneg (gap ℚ-ordered length-below))
-      (solveℚ (n ∷ w ∷ q ∷ l ∷ []) (search reifyℚ depth 9) (search reifyℚ depth 9) tt ∙ ap (λ v. v -ℚ l *ℚ (n *ℚ w)) term
-      ∙ solveℚ (n ∷ w ∷ l ∷ []) (search reifyℚ depth 9) (search reifyℚ depth 9) tt))
+  -- with q = 2·l/n
+  module _ (q l : ℚ) (term : q *ℚ n ≡ whole (pos 2) *ℚ l) (nonneg : whole (pos 0) ≤ℚ l) where
+    term-below : (l *ℚ w) ≤ℚ q
+    term-below =
+        ≤ℚ-cancel n (l *ℚ w) q positive
+        (by-certificate ℚ-ordered (_⊠_ ℚ-ordered nonneg (gap ℚ-ordered length-below))
+        (solveℚ (n ∷ w ∷ q ∷ l ∷ []) (search reifyℚ depth 9) (search reifyℚ depth 9) tt ∙ ap (λ v. v -ℚ l *ℚ (n *ℚ w)) term
+        ∙ solveℚ (n ∷ w ∷ l ∷ []) (search reifyℚ depth 9) (search reifyℚ depth 9) tt))
 
-  -- n·w·(2·e + l·w) ≤ 2·(2·e + q)
-  strips-below : (e : ℚ) → whole (pos 0) ≤ℚ e → whole (pos 0) ≤ℚ l → (n *ℚ w *ℚ (whole (pos 2) *ℚ e +ℚ l *ℚ w)) ≤ℚ (whole (pos 2) *ℚ (whole (pos 2) *ℚ e +ℚ q))
-  strips-below e he hl =
-      by-certificate ℚ-ordered
-      (_⊞_ ℚ-ordered
-      (_⊠_ ℚ-ordered (gap ℚ-ordered length-below) (_⊞_ ℚ-ordered (_⊠_ ℚ-ordered (ι-nonneg ℚ-ordered 2) he) (_⊠_ ℚ-ordered hl width-nonneg)))
-      (_⊠_ ℚ-ordered (ι-nonneg ℚ-ordered 2) (gap ℚ-ordered (term-below hl))))
-      (solveℚ (n ∷ w ∷ q ∷ l ∷ e ∷ []) (search reifyℚ depth 20) (search reifyℚ depth 20) tt)
+    -- n·w·(2·e + l·w) ≤ 2·(2·e + q)
+    strips-below : (e : ℚ) → whole (pos 0) ≤ℚ e → (n *ℚ w *ℚ (whole (pos 2) *ℚ e +ℚ l *ℚ w)) ≤ℚ (whole (pos 2) *ℚ (whole (pos 2) *ℚ e +ℚ q))
+    strips-below e he =
+        by-certificate ℚ-ordered
+        (_⊞_ ℚ-ordered
+        (_⊠_ ℚ-ordered (gap ℚ-ordered length-below) (_⊞_ ℚ-ordered (_⊠_ ℚ-ordered (ι-nonneg ℚ-ordered 2) he) (_⊠_ ℚ-ordered nonneg width-nonneg)))
+        (_⊠_ ℚ-ordered (ι-nonneg ℚ-ordered 2) (gap ℚ-ordered term-below)))
+        (solveℚ (n ∷ w ∷ q ∷ l ∷ e ∷ []) (search reifyℚ depth 20) (search reifyℚ depth 20) tt)
 
 -- ---- the theorem
 
@@ -90,7 +91,10 @@ module _ (a : Model) (g : good a ≡ true) (choice : ℚ → ℚ) (chosen : Choo
   -- of the primitive of the integrand's own list
   strips-primitive : ∣ value ℚ-ring x (primitive α) -ℚ stripSum choice x k *ℚ whole (pos scale) ∣ℚ ≤ℚ (whole (pos 2) *ℚ whole (pos (a .radius)) +ℚ term)
   unfolding stripSum
-  strips-primitive = halve _ _ (_⟨≼⟩_ ℚ-ordered bound (strips-below x n width term l on above equal twice (whole (pos (a .radius))) (ι-nonneg ℚ-ordered (a .radius)) (ι-nonneg ℚ-ordered (lipschitz a))))
+  strips-primitive =
+      halve _ _
+      (_⟨≼⟩_ ℚ-ordered bound
+      (strips-below x n width on above equal term l twice (ι-nonneg ℚ-ordered (lipschitz a)) (whole (pos (a .radius))) (ι-nonneg ℚ-ordered (a .radius))))
     where
       n : ℚ
       n = whole (pos k)
@@ -108,7 +112,7 @@ module _ (a : Model) (g : good a ≡ true) (choice : ℚ → ℚ) (chosen : Choo
       twice = quotient-mul (whole (pos (2 * lipschitz a))) n (natural-nonzero positive) ∙ natural-mul 2 (lipschitz a)
 
       end : -ℚ whole (pos 1) +ℚ n *ℚ width ≡ x
-      end = reaches x n width term l on above equal twice
+      end = reaches x n width on above equal
 
       start : value ℚ-ring x (primitive α) -ℚ value ℚ-ring (-ℚ whole (pos 1)) (primitive α) -ℚ leftSum units (-ℚ whole (pos 1)) width k
           ≡ value ℚ-ring x (primitive α) -ℚ leftSum choice (-ℚ whole (pos 1)) width k *ℚ whole (pos scale)
@@ -124,7 +128,7 @@ module _ (a : Model) (g : good a ≡ true) (choice : ℚ → ℚ) (chosen : Choo
       bound =
           rw (end, start, lipschitz-whole ℚ-ordered 0 (a .coefficients)) at
           (left-sum-bound α units (whole (pos (a .radius))) allowed k (-ℚ whole (pos 1)) width
-          (width-nonneg x n width term l on above equal twice) (le-refl ℚ-ordered (-ℚ whole (pos 1))) (rw end (on .below)))
+          (width-nonneg x n width on above equal) (le-refl ℚ-ordered (-ℚ whole (pos 1))) (rw end (on .below)))
 
   -- of the integral
   integral-strips : ∣ stripSum choice x k *ℚ whole (pos scale) -ℚ valueAt x (integralModel a .coefficients) ∣ℚ ≤ℚ (whole (pos (integralModel a .radius)) +ℚ term)
