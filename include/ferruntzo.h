@@ -79,7 +79,7 @@ extern "C" {
 
 #define FERRUNTZO_VERSION_MAJOR 1
 #define FERRUNTZO_VERSION_MINOR 1
-#define FERRUNTZO_VERSION_PATCH 1
+#define FERRUNTZO_VERSION_PATCH 2
 #define FERRUNTZO_VERSION "1.1.2"
 
 /* ---- Limits ---- */
