@@ -79,8 +79,8 @@ extern "C" {
 
 #define FERRUNTZO_VERSION_MAJOR 1
 #define FERRUNTZO_VERSION_MINOR 1
-#define FERRUNTZO_VERSION_PATCH 1
-#define FERRUNTZO_VERSION "1.1.1"
+#define FERRUNTZO_VERSION_PATCH 2
+#define FERRUNTZO_VERSION "1.1.2"
 
 /* ---- Limits ---- */
 
@@ -175,9 +175,15 @@ uint32_t ferruntzo_multiply(const int32_t *a, size_t a_len,
                             uint32_t kept,
                             int32_t *out, size_t out_len);
 
-/* The integral from -1 to x: degree n + 1, radius 2e + n + 1.  It bounds the
-   exact primitive of every list of coefficients that differ from those of a by
-   at most e units in total (not of every function that a allows).
+/* The integral from -1 to x: degree n + 1, radius 2e + n + 1.  Two things hold of
+   it.  It bounds the exact primitive of every list of coefficients that differ
+   from those of a by at most e units in total.  And for a feed that no list
+   describes, such as a certified quotient: whatever value that a allows is taken
+   at each point, cut -1 to x into k equal strips and add left-end value times
+   width; the sum differs from the integral's polynomial at x by at most the
+   radius plus 2 L/k units, for every k >= 1, where L is the sum of |a_k| k^2.
+   docs/ENTRIES.md says which of the two to use when, and
+   examples/integrate_quotient.c uses the second.
    Refusals: 1 (a or out), 2, 3 (degree 32 always). */
 uint32_t ferruntzo_integrate(const int32_t *a, size_t a_len,
                              int32_t *out, size_t out_len);

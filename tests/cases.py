@@ -238,6 +238,7 @@ def random_multiply(rng):
 
 def fixed_integrate():
     yield Case('integrate', (constant(S),))                             # P5
+    yield Case('integrate', (term(1, S),))                              # strips.py
     for degree in range(MAX_DEGREE + 1):            # degree 31 fits, 32 gives 3
         yield Case('integrate', (model([S] * (degree + 1), degree),))
         yield Case('integrate', (model([], 0, degree),))

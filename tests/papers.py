@@ -1,7 +1,7 @@
 #!/usr/bin/env python3
 """The papers name files and edits that are there: every path in backquotes that begins with a folder of the repository, and every
 must-fail edit that docs/ENTRIES.md names; and ENTRIES names every edit. A definitions file bears the name of a src file of its crate
-or is in the list of docs/DECISIONS.md, "Names of files"."""
+or is in the list of docs/DECISIONS.md, "Names of files". ENTRIES prints what examples/integrate_quotient.c prints."""
 import pathlib
 import re
 import sys
@@ -27,6 +27,9 @@ for paper in PAPERS:
             if not there(path):
                 wrong.append(f'{paper.relative_to(ROOT)}: {path} is not there')
 entries = (ROOT / 'docs' / 'ENTRIES.md').read_text()
+printed = (ROOT / 'examples' / 'integrate_quotient.expected').read_text()
+if ''.join(f'    {line}\n' for line in printed.splitlines()) not in entries:
+    wrong.append('docs/ENTRIES.md: not what examples/integrate_quotient.c prints')
 named = set(re.findall(r'`([a-z0-9]+(?:_[a-z0-9]+)+)`', entries))
 for name in sorted(edits - named):
     wrong.append(f'docs/ENTRIES.md does not name the edit {name}')

@@ -78,6 +78,63 @@ def soundness_integrate(rng, a, result):
     assert far <= result.radius * unit, 'primitive not covered'
 
 
+# ---- Integrals by strips (request S-8) --------------------------------------------------
+
+def at(m, x):
+    """The model's middle value at the fraction x."""
+    return value(m, (x.numerator, x.denominator))
+
+
+def strip_sum(choice, x, k):
+    """From -1 to x, k equal strips: left-end value times width."""
+    width = (x + 1) / k
+    return sum((choice(-1 + i * width) * width for i in range(k)), Fraction(0))
+
+
+def lipschitz(a):
+    """L: the sum of |a_k| k^2."""
+    return sum(abs(c) * k * k for k, c in enumerate(a.coefficients))
+
+
+def check_strips(choice, a, result, x, k):
+    far = abs(strip_sum(choice, x, k) - at(result, x)) * S
+    assert far <= result.radius + Fraction(2 * lipschitz(a), k), 'sum over strips not covered'
+
+
+def random_strips(rng):
+    """An end x, often 1, and a number of strips."""
+    x = rng.choice((Fraction(1), Fraction(*random_point(rng))))
+    return x, rng.choice((1, 2, 3, rng.randint(4, 12)))
+
+
+def choices(rng, m):
+    """Functions that choose an allowed value at every fraction: the largest, the
+    smallest, and some value."""
+    drawn = {}
+
+    def some(x):
+        if x not in drawn:
+            drawn[x] = allowed_value(rng, m, (x.numerator, x.denominator))
+        return drawn[x]
+    return (lambda x: at(m, x) + radius(m)), (lambda x: at(m, x) - radius(m)), some
+
+
+def soundness_strips(rng, a, result):
+    for choice in choices(rng, a):
+        check_strips(choice, a, result, *random_strips(rng))
+
+
+def soundness_quotient_integral(rng, f, g, quotient):
+    """The quotient of values that f and g allow is what is summed."""
+    number, result = o.integrate(quotient)
+    if number:
+        return
+    u, v = rng.choice(choices(rng, f)), rng.choice(choices(rng, g))
+    check_strips(lambda x: u(x) / v(x), quotient, result, *random_strips(rng))
+
+
+# ---- Power series -----------------------------------------------------------------------
+
 def series_value(s, point):
     """The exact value of a power series at the point."""
     p, q = point
@@ -90,6 +147,8 @@ def soundness_from_series(rng, s, result):
     for x in (rng.choice(((1, 1), (-1, 1))), random_point(rng), random_point(rng)):
         assert allows(result, x, series_value(s, x)), 'series not covered'
 
+
+# ---- Quotients and roots ------------------------------------------------------------------
 
 def soundness_quotient(rng, f, g, result):
     x = random_point(rng)
@@ -198,10 +257,14 @@ def check(rng, case):
     elif entry == 'multiply':
         soundness_multiply(rng, *inputs, o.multiply(*inputs, case.scalar)[1])
     elif entry == 'integrate':
-        soundness_integrate(rng, *inputs, o.integrate(*inputs)[1])
+        result = o.integrate(*inputs)[1]
+        soundness_integrate(rng, *inputs, result)
+        soundness_strips(rng, *inputs, result)
     elif entry == 'quotient':
         f, g, h, w = inputs
-        soundness_quotient(rng, f, g, o.quotient(f, g, h, w)[1])
+        result = o.quotient(f, g, h, w)[1]
+        soundness_quotient(rng, f, g, result)
+        soundness_quotient_integral(rng, f, g, result)
     elif entry == 'root':
         f, h, w = inputs
         soundness_root(rng, f, o.root(f, h, w)[1])

@@ -244,7 +244,10 @@ impl Model {
         areas::multiply(&self.0, &other.0, kept, &mut out.0).map(|()| out)
     }
 
-    /// The integral from −1.
+    /// The integral from −1. Its radius bounds the exact primitive of every list of coefficients
+    /// within e units of this model's in total. Of any values that the model allows, left-end value
+    /// times width summed over k ≥ 1 equal strips from −1 to x differs from the integral's
+    /// polynomial at x by at most its radius plus 2·L/k units, where L is the sum of |a_k|·k².
     ///
     /// Refusals, in order: `BadModel`, `LargeResult` (degree 32 always).
     pub fn integrate(&self) -> Result<Model, Refusal> {

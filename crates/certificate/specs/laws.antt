@@ -8,6 +8,7 @@ pub mod QuotientAlgebra
 pub mod QuotientConditions
 pub mod QuotientSound
 pub mod QuotientTheorem
+pub mod QuotientIntegral
 pub mod RootAlgebra
 pub mod RootConditions
 pub mod RootRadius

@@ -6,5 +6,6 @@ pub mod Norms
 pub mod TwoSums
 pub mod Derivative
 pub mod Primitive
+pub mod Strips
 pub mod Homogeneous
 pub mod Allows

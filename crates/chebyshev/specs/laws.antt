@@ -17,4 +17,6 @@ pub mod HomogeneousLaws
 pub mod AllowsLaws
 pub mod Midpoint
 pub mod Sign
+pub mod RemainderBound
+pub mod StripLaws
 pub mod Examples

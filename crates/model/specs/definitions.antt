@@ -8,4 +8,5 @@ pub mod Load
 pub mod Add
 pub mod Multiply
 pub mod Integrate
+pub mod Strips
 pub mod Evaluate

@@ -14,7 +14,9 @@ pub mod ResultLaws
 pub mod GoodResults
 pub mod IntegralLaws
 pub mod IntegralSound
+pub mod StripsSound
 pub mod EvaluationError
 pub mod EvaluationLaws
 pub mod EvaluationSound
 pub mod Examples
+pub mod StripExamples

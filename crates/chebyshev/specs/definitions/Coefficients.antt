@@ -1,6 +1,6 @@
 -- Lists of coefficients of T_0, T_1, …: their weights, sums and values.
 use mathlib.Core.List.{List, [], _∷_, map}
-use Prim.Native.Nat.{ℕ, suc, _+_}
+use Prim.Native.Nat.{ℕ, suc, _+_, _*_}
 use lib.IntN.{ℤ, pos, natAbs, _+ℤ_}
 use Rattle.integer.specs.definitions.Ring.{CommutativeRing}
 use Rattle.chebyshev.specs.definitions.Recurrences.{firstKind}
@@ -9,6 +9,11 @@ use Rattle.chebyshev.specs.definitions.Recurrences.{firstKind}
 unfoldable pub weight : List ℤ → ℕ
 weight [] = 0
 weight (c ∷ cs) = natAbs c + weight cs
+
+-- Σ |a_i|·(k+i)², as a natural number; from place 0 on the L of 02: "L = Σ|a_k|·k²"
+unfoldable pub lipschitzWeight : ℕ → List ℤ → ℕ
+lipschitzWeight k [] = 0
+lipschitzWeight k (c ∷ cs) = natAbs c * (k * k) + lipschitzWeight (suc k) cs
 
 -- Σ a_k, as in 01's "Σ w_k > 0"
 unfoldable pub coefficientSum : List ℤ → ℤ

@@ -1,22 +1,22 @@
 -- Lipschitz bounds on [−1, 1]: |T_k(x) − T_k(y)| ≤ k²·|x − y|, and |a(x) − a(y)| ≤ L·|x − y| for a list a, with L = Σ|a_k|·k².
-use mathlib.Core.Path.{_≡_}
-use mathlib.Core.List.{List, [], _∷_}
-use Prim.Native.Nat.{ℕ, zero, suc}
-use lib.IntN.{pos}
+use mathlib.Core.Path.{_≡_, refl, sym, _∙_, ap₂}
+use mathlib.Core.List.{List, [], _∷_, map}
+use Prim.Native.Nat.{ℕ, zero, suc, _*_}
+use lib.IntN.{ℤ, pos, natAbs}
 use Rattle.integer.specs.laws.Embedding.{ι-suc, ι-abs}
 use Rattle.integer.specs.definitions.Ring.{CommutativeRing}
 use Rattle.integer.specs.laws.Solver.{reify, solve}
 use Rattle.integer.specs.definitions.OrderedRing.{OrderedRing}
-use Rattle.integer.specs.laws.OrderedRingLaws.{by-certificate, gap, _⊞_, _⟨≼⟩_, _⟨+⟩_, le-refl, le-of-eq, abs-mul-le, triangle}
+use Rattle.integer.specs.laws.OrderedRingLaws.{by-certificate, gap, _⊞_, _⊠_, _⟨≼⟩_, _⟨+⟩_, le-refl, le-of-eq, sq-nonneg, abs-mul-le, triangle}
 use Rattle.chebyshev.specs.definitions.Recurrences.{firstKind}
 use Rattle.chebyshev.specs.laws.RecurrenceLaws.{first-bound}
-use Rattle.chebyshev.specs.definitions.Coefficients.{valueFrom, value}
+use Rattle.chebyshev.specs.definitions.Coefficients.{lipschitzWeight, valueFrom, value}
 use Rattle.chebyshev.specs.definitions.Norms.{lipschitzFrom}
 use Rattle.chebyshev.specs.laws.Perturbed.{Perturbed, perturbed-growth}
 
 module _ (O : OrderedRing) where
-  open OrderedRing O using (ring, le as _≼_, abs)
-  open CommutativeRing ring using (A, add as _⊕_, mul as _⊗_, opp as ⊖_, ι)
+  open OrderedRing O using (ring, le as _≼_, abs, abs-nonneg)
+  open CommutativeRing ring using (A, add as _⊕_, mul as _⊗_, opp as ⊖_, ι, ι-add, ι-mul)
 
   infixl 6 _⊕_
   infixl 7 _⊗_
@@ -86,3 +86,16 @@ module _ (O : OrderedRing) where
       pub value-lipschitz : (a : List A) → abs (value ring x a ⊕ ⊖ value ring y a) ≼ lipschitzFrom O 0 a ⊗ abs (x ⊕ ⊖ y)
       unfolding value
       value-lipschitz a = valueFrom-lipschitz 0 a
+
+  pub lipschitz-nonneg : (k : ℕ) (a : List A) → ι (pos 0) ≼ lipschitzFrom O k a
+  unfolding lipschitzFrom
+  lipschitz-nonneg k [] = le-refl O (ι (pos 0))
+  lipschitz-nonneg k (c ∷ a) = _⊞_ O (_⊠_ O (abs-nonneg c) (sq-nonneg O (ι (pos k)))) (lipschitz-nonneg (suc k) a)
+
+  -- of whole numbers it is a whole number
+  pub lipschitz-whole : (k : ℕ) (a : List ℤ) → lipschitzFrom O k (map ι a) ≡ ι (pos (lipschitzWeight k a))
+  unfolding lipschitzFrom lipschitzWeight
+  lipschitz-whole k [] = refl
+  lipschitz-whole k (c ∷ a) =
+      ap₂ _⊕_ (ap₂ _⊗_ (ι-abs O c) (sym (ι-mul (pos k) (pos k))) ∙ sym (ι-mul (pos (natAbs c)) (pos (k * k)))) (lipschitz-whole (suc k) a)
+      ∙ sym (ι-add (pos (natAbs c * (k * k))) (pos (lipschitzWeight (suc k) a)))

@@ -107,6 +107,11 @@ module _ (O : OrderedRing) where
   unfolding subtractLists
   norm-subtract a b = rw norm-opposite at (norm-add a (map ⊖_ b))
 
+  pub norm-self : (a : List A) → norm O (subtractLists ring a a) ≡ ι (pos 0)
+  unfolding norm subtractLists addLists
+  norm-self [] = refl
+  norm-self (c ∷ a) = ap₂ (λ u v. abs u ⊕ v) (solve ring (c ∷ []) (search reify depth 9) (search reify depth 9) tt) (norm-self a) ∙ ap (λ v. v ⊕ ι (pos 0)) (ι-abs O (pos 0)) ∙ zero-add (ι (pos 0))
+
   pub norm-triangle : (a b c : List A) → norm O (subtractLists ring a c) ≼ norm O (subtractLists ring a b) ⊕ norm O (subtractLists ring b c)
   norm-triangle a b c =
       norm-le (subtractLists ring a c) (subtractLists ring a b) (subtractLists ring b c)

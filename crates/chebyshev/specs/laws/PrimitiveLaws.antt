@@ -133,8 +133,8 @@ primitive-minus-one a = solveℚ (tailAtMinusOne (primitiveTail a) ∷ []) (sear
 
 -- ---- the derivative of the primitive is the list
 
-halve : (x y : ℚ) → whole (pos 2) *ℚ x ≡ whole (pos 2) *ℚ y → x ≡ y
-halve = common2 _ (search linear-prop) (λ k. simp (common-literal k, common) (all2 _ (simp common-differences (omega arith))))
+pub double-injective : (x y : ℚ) → whole (pos 2) *ℚ x ≡ whole (pos 2) *ℚ y → x ≡ y
+double-injective = common2 _ (search linear-prop) (λ k. simp (common-literal k, common) (all2 _ (simp common-differences (omega arith))))
 
 -- 2·c_k·T'_k = (a_(k−1) − a_(k+1))·U_(k−1)
 derivative-term : (x y : ℚ) (k : ℕ) → whole (pos 2) *ℚ ((y /ℚ whole (pos (2 * suc k))) *ℚ derivative ℚ-ring x (suc k)) ≡ y *ℚ secondKind ℚ-ring x (suc k)
@@ -176,7 +176,7 @@ derivative-tail : (x : ℚ) (a : List ℚ) → sumFrom ℚ-ring (derivative ℚ-
 unfolding sumFrom primitiveTail primitiveFrom doubleFirst value valueFrom firstKind secondKind
 derivative-tail x [] = refl
 derivative-tail x (p ∷ a) =
-    halve _ _
+    double-injective _ _
     (*ℚ-dist (whole (pos 2)) _ _
     ∙ ap₂ _+ℚ_ (derivative-term x (whole (pos 2) *ℚ p -ℚ getD a 1 (whole (pos 0))) 0) (derivative-from x 0 a)
     ∙ solveℚ (p ∷ valueFrom ℚ-ring x 1 a ∷ getD a 0 (whole (pos 0)) ∷ getD a 1 (whole (pos 0)) ∷ []) (search reifyℚ depth 20) (search reifyℚ depth 20) tt)

@@ -5,14 +5,14 @@ use mathlib.Core.Path.{_≡_, refl, sym, _∙_, ap, ap₂}
 use mathlib.Core.Logic.{∥∥₁-elim}
 use mathlib.Core.HLevel.{¬-prop}
 use mathlib.Core.List.{List, [], _∷_, map}
-use Prim.Native.Nat.{ℕ, zero, suc, _^_, _≤_}
+use Prim.Native.Nat.{ℕ, zero, suc, _^_}
 use native.Mathlib.Omega.{arith}
 use lib.IntN.{ℤ, pos}
 use lib.Signed.{_<ℤ_}
-use Rattle.integer.specs.laws.Archimedean.{archimedean}
+use Rattle.integer.specs.laws.Archimedean.{archimedean-power}
 use Rattle.integer.specs.laws.Embedding.{ι-abs, ι-nonneg}
 use Rattle.integer.specs.laws.OrderedRingLaws.{by-certificate, gap, _⊞_, _⊠_, _⟨≼⟩_, lt-le, le-refl, le-of-eq, mul-left, abs-upper, abs-neg, abs-mul-le, abs-of-nonneg}
-use Rattle.integer.specs.laws.Order.{lt→not-le, pos-le}
+use Rattle.integer.specs.laws.Order.{lt→not-le}
 use Rattle.integer.specs.definitions.Fraction.{ℚ, whole, _+ℚ_, _-ℚ_, -ℚ_, _*ℚ_, _≤ℚ_, _<ℚ_, ∣_∣ℚ}
 use Rattle.integer.specs.laws.FractionLaws.{*ℚ-comm, *ℚ-assoc, one-*ℚ, whole-add, whole-mul}
 use Rattle.integer.specs.definitions.FractionRing.{ℚ-ring}
@@ -34,7 +34,7 @@ valueFrom-one k (c ∷ a) =
     ∙ ap (λ y. y +ℚ whole (coefficientSum a)) (*ℚ-comm (whole c) (whole (pos 1)) ∙ one-*ℚ (whole c))
     ∙ sym (whole-add c (coefficientSum a))
 
-value-one : (a : List ℤ) → value ℚ-ring (whole (pos 1)) (map whole a) ≡ whole (coefficientSum a)
+pub value-one : (a : List ℤ) → value ℚ-ring (whole (pos 1)) (map whole a) ≡ whole (coefficientSum a)
 unfolding value
 value-one a = valueFrom-one 0 a
 
@@ -83,18 +83,7 @@ module _ (g : ℚ → ℚ) (l m c : ℚ) (above : whole (pos 0) <ℚ c) (nonneg 
 
   same-sign : (x y : ℚ) → ∣ x ∣ℚ ≤ℚ whole (pos 1) → ∣ y ∣ℚ ≤ℚ whole (pos 1) → whole (pos 0) <ℚ g x → whole (pos 0) <ℚ g y
   same-sign x y hx hy p =
-      ∥∥₁-elim (archimedean (m *ℚ (l *ℚ ∣ x -ℚ y ∣ℚ)) c above) ¬-prop
-      (λ t. halving (t .0) x y hx hy (_⟨≼⟩_ ℚ-ordered (t .1) (enough (t .0))) p)
-    where
-      below-power : (n : ℕ) → suc n ≤ 2 ^ n
-      below-power zero = omega arith
-      below-power (suc n) = omega (arith, below-power n)
-
-      enough : (n : ℕ) → (whole (pos n) *ℚ c) ≤ℚ (whole (pos (2 ^ n)) *ℚ c)
-      enough n = go (whole (pos n)) (whole (pos (2 ^ n))) (whole-le (pos n) (pos (2 ^ n)) .1 (pos-le n (2 ^ n) (omega (arith, below-power n))))
-        where
-          go : (a b : ℚ) → a ≤ℚ b → (a *ℚ c) ≤ℚ (b *ℚ c)
-          go a b h = by-certificate ℚ-ordered (_⊠_ ℚ-ordered (gap ℚ-ordered h) (lt-le ℚ-ordered above)) (solveℚ (a ∷ b ∷ c ∷ []) (search reifyℚ depth 9) (search reifyℚ depth 9) tt)
+      ∥∥₁-elim (archimedean-power (m *ℚ (l *ℚ ∣ x -ℚ y ∣ℚ)) c above) ¬-prop (λ t. halving (t .0) x y hx hy (t .1) p)
 
 -- with w(x) and h(x) the values of lists of whole numbers; the root test has κ = S²
 pub helper-positive : (κ μ : ℚ) (w h : List ℤ) → pos 0 <ℤ coefficientSum w → μ <ℚ κ

@@ -11,8 +11,8 @@ use lib.IntN.{ℤ, pos, _-ℤ_, _*ℤ_}
 use lib.ListN.{length, getD, replicate, length-take, List·getD-map, List·getD-eq-default}
 use Rattle.integer.specs.laws.Embedding.{ι-nonneg}
 use Rattle.integer.specs.laws.Difference.{all1, differences}
-use Rattle.integer.specs.laws.OrderedRingLaws.{_⟨≼⟩_, _⟨+⟩_, mul-left}
-use Rattle.integer.specs.laws.Order.{pos-le}
+use Rattle.integer.specs.laws.OrderedRingLaws.{le-refl, le-of-eq, _⟨≼⟩_, _⟨+⟩_, mul-left}
+use Rattle.integer.specs.laws.FractionRounding.{natural-add, natural-mul, natural-le}
 use Rattle.integer.specs.definitions.Rounding.{near}
 use Rattle.integer.specs.laws.RoundingLaws.{near-error-abs}
 use Rattle.integer.specs.definitions.Fraction.{ℚ, whole, _+ℚ_, _-ℚ_, -ℚ_, _*ℚ_, _≤ℚ_, ∣_∣ℚ, _/ℚ_}
@@ -24,7 +24,7 @@ use Rattle.chebyshev.specs.definitions.Recurrences.{sign}
 use Rattle.chebyshev.specs.laws.RecurrenceLaws.{first-minus-one}
 use Rattle.chebyshev.specs.definitions.Coefficients.{valueFrom, value, subtractLists}
 use Rattle.chebyshev.specs.definitions.Norms.{norm}
-use Rattle.chebyshev.specs.laws.NormLaws.{value-distance}
+use Rattle.chebyshev.specs.laws.NormLaws.{norm-self, value-distance}
 use Rattle.chebyshev.specs.definitions.Primitive.{numerator, primitive}
 use Rattle.chebyshev.specs.laws.PrimitiveLaws.{numerator-first, numerator-next}
 use Rattle.chebyshev.specs.laws.PrimitiveNorm.{Rounded, primitive-rounded}
@@ -126,15 +126,16 @@ rounded b cs z same = record {
 pub integral-minus-one : (a : Model) → value ℚ-ring (-ℚ whole (pos 1)) (map whole (integralModel a .coefficients)) ≡ whole (pos 0)
 integral-minus-one a = rw (← integral-is a) (value-integral (doubleFirst (terms a)))
 
--- the radius bounds the primitive of α, coefficient by coefficient
-pub integral-sound : (a : Model) (α : List ℚ) → good a ≡ true
-    → norm ℚ-ordered (subtractLists ℚ-ring α (map whole (a .coefficients))) ≤ℚ whole (pos (a .radius))
-    → norm ℚ-ordered (subtractLists ℚ-ring (primitive α) (map whole (integralModel a .coefficients))) ≤ℚ whole (pos (integralModel a .radius))
-unfolding integralModel roundedIntegral
-integral-sound a α g h =
+-- how far the primitive of α lies from the integral, coefficient by coefficient: twice as far as α from the integrand, and the
+-- rounding of c_0, …, c_(n+1)
+integral-distance : (a : Model) (α : List ℚ) → good a ≡ true
+    → norm ℚ-ordered (subtractLists ℚ-ring (primitive α) (map whole (integralModel a .coefficients)))
+    ≤ℚ (whole (pos 2) *ℚ norm ℚ-ordered (subtractLists ℚ-ring α (map whole (a .coefficients))) +ℚ whole (pos (a .degree + 1)))
+unfolding roundedIntegral
+integral-distance a α g =
     rw (← integral-is a)
     (_⟨≼⟩_ ℚ-ordered (primitive-rounded α (map whole (a .coefficients)) (map whole (tail ++ replicate zeros (pos 0))) (whole (alternating tail)) (length (terms a)) (rounded (a .coefficients) (terms a) zeros (getD-terms a g)) (value-integral (doubleFirst (terms a))))
-    (rw radius (_⟨+⟩_ ℚ-ordered (rw (whole-mul (pos 2) (pos (a .radius))) (mul-left ℚ-ordered (whole (pos 2)) (ι-nonneg ℚ-ordered 2) h)) (whole-le _ _ .1 (pos-le _ _ places-used)))))
+    (_⟨+⟩_ ℚ-ordered (le-refl ℚ-ordered _) (natural-le places-used)))
   where
     tail : List ℤ
     tail = roundedTail (doubleFirst (terms a))
@@ -145,8 +146,31 @@ integral-sound a α g h =
     places-used : length (terms a) ≤ a .degree + 1
     places-used = rw length-take (omega arith)
 
-    radius : whole (pos (2 * a .radius + a .degree + 1)) ≡ whole (pos (2 * a .radius)) +ℚ whole (pos (a .degree + 1))
-    radius = let e : 2 * a .radius + a .degree + 1 ≡ 2 * a .radius + (a .degree + 1) = omega arith in rw e (whole-add (pos (2 * a .radius)) (pos (a .degree + 1)))
+-- "Radius 2e + n + 1."
+pub integral-radius : (a : Model) → whole (pos (integralModel a .radius)) ≡ whole (pos 2) *ℚ whole (pos (a .radius)) +ℚ whole (pos (a .degree + 1))
+unfolding integralModel
+integral-radius a =
+    let e : 2 * a .radius + a .degree + 1 ≡ 2 * a .radius + (a .degree + 1) = omega arith in
+    rw (e, natural-add (2 * a .radius) (a .degree + 1), natural-mul 2 (a .radius))
+
+-- the radius bounds the primitive of α, coefficient by coefficient
+pub integral-sound : (a : Model) (α : List ℚ) → good a ≡ true
+    → norm ℚ-ordered (subtractLists ℚ-ring α (map whole (a .coefficients))) ≤ℚ whole (pos (a .radius))
+    → norm ℚ-ordered (subtractLists ℚ-ring (primitive α) (map whole (integralModel a .coefficients))) ≤ℚ whole (pos (integralModel a .radius))
+integral-sound a α g h =
+    rw (integral-radius a)
+    (_⟨≼⟩_ ℚ-ordered (integral-distance a α g)
+    (_⟨+⟩_ ℚ-ordered (mul-left ℚ-ordered (whole (pos 2)) (ι-nonneg ℚ-ordered 2) h) (le-refl ℚ-ordered (whole (pos (a .degree + 1))))))
+
+-- the primitive of the integrand's own list: only the rounding is left
+pub integral-rounding : (a : Model) (x : ℚ) → good a ≡ true → ∣ x ∣ℚ ≤ℚ whole (pos 1)
+    → ∣ value ℚ-ring x (primitive (map whole (a .coefficients))) -ℚ valueAt x (integralModel a .coefficients) ∣ℚ ≤ℚ whole (pos (a .degree + 1))
+integral-rounding a x g h =
+    _⟨≼⟩_ ℚ-ordered (value-distance ℚ-ordered x (primitive (map whole (a .coefficients))) (map whole (integralModel a .coefficients)) h)
+    (_⟨≼⟩_ ℚ-ordered (integral-distance a (map whole (a .coefficients)) g) (le-of-eq ℚ-ordered (rw (norm-self ℚ-ordered (map whole (a .coefficients))) (none (whole (pos (a .degree + 1)))))))
+  where
+    none : (d : ℚ) → whole (pos 2) *ℚ whole (pos 0) +ℚ d ≡ d
+    none d = solveℚ (d ∷ []) (search reifyℚ depth 9) (search reifyℚ depth 9) tt
 
 -- and at every fraction of [−1, 1]
 pub integral-value : (a : Model) (α : List ℚ) (x : ℚ) → good a ≡ true → ∣ x ∣ℚ ≤ℚ whole (pos 1)
@@ -161,15 +185,15 @@ abbrev pub Near : Model → List ℚ → Type 0
 Near a α = norm ℚ-ordered (subtractLists ℚ-ring α (map whole (a .coefficients))) ≤ℚ whole (pos (a .radius))
 
 module _ (a : Model) {c : Model} (e : integration a ≡ accepted c) where
-  performed : (good a ≡ true) × (c ≡ integralModel a)
+  pub integration-accepted : (good a ≡ true) × (c ≡ integralModel a)
   unfolding integration
-  performed =
+  integration-accepted =
       let (passed, result) = outcome-accepted (integrationPlaces a) (integralModel a) zeroModel e in
       (not-false (good a) (passed .0), result)
 
   -- "It bounds the exact primitive …, again summed over coefficients."
   pub integration-lists : (α : List ℚ) → Near a α → Near c (primitive α)
-  integration-lists α h = rw (performed .1) (integral-sound a α (performed .0) h)
+  integration-lists α h = rw (integration-accepted .1) (integral-sound a α (integration-accepted .0) h)
 
   -- so the integral's model allows the exact primitive's value, in units of 1/S, at every fraction
   pub integration-sound : (α : List ℚ) → Near a α → (x : ℚ) → OnInterval x
@@ -181,4 +205,4 @@ module _ (a : Model) {c : Model} (e : integration a ≡ accepted c) where
 
   -- "c_0 makes the value at −1 exactly 0."
   pub integration-start : valueAt (-ℚ whole (pos 1)) (c .coefficients) ≡ whole (pos 0)
-  integration-start = rw (performed .1) (integral-minus-one a)
+  integration-start = rw (integration-accepted .1) (integral-minus-one a)
