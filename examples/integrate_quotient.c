@@ -75,7 +75,7 @@ int main(void)
     for (int k = 1; k <= 1000000; k *= 100) {
         double far = strip_sum(k) * s - value_at_one(integral);
         double most = radius + 2 * lipschitz(quotient) / k;
-        printf("%d strips: %.0f of at most %.0f\n", k, far, most);
+        printf("k = %d: %.0f of at most %.0f\n", k, far, most);
         beyond |= far > most || -far > most;
     }
     return beyond;
