@@ -6,15 +6,15 @@ use mathlib.Core.Logic.{∥∥₁-elim}
 use mathlib.Core.HLevel.{¬-prop}
 use mathlib.Core.List.{List, [], _∷_, map}
 use Prim.Native.Nat.{ℕ, zero, suc, _^_}
-use native.Mathlib.Omega.{arith}
 use lib.IntN.{ℤ, pos}
 use lib.Signed.{_<ℤ_}
 use Rattle.integer.specs.laws.Archimedean.{archimedean-power}
+use Rattle.integer.specs.laws.FractionRounding.{natural-power}
 use Rattle.integer.specs.laws.Embedding.{ι-abs, ι-nonneg}
 use Rattle.integer.specs.laws.OrderedRingLaws.{by-certificate, gap, _⊞_, _⊠_, _⟨≼⟩_, lt-le, le-refl, le-of-eq, mul-left, abs-upper, abs-neg, abs-mul-le, abs-of-nonneg}
 use Rattle.integer.specs.laws.Order.{lt→not-le}
 use Rattle.integer.specs.definitions.Fraction.{ℚ, whole, _+ℚ_, _-ℚ_, -ℚ_, _*ℚ_, _≤ℚ_, _<ℚ_, ∣_∣ℚ}
-use Rattle.integer.specs.laws.FractionLaws.{*ℚ-comm, *ℚ-assoc, one-*ℚ, whole-add, whole-mul}
+use Rattle.integer.specs.laws.FractionLaws.{*ℚ-comm, *ℚ-assoc, one-*ℚ, whole-add}
 use Rattle.integer.specs.definitions.FractionRing.{ℚ-ring}
 use Rattle.integer.specs.laws.FractionSolver.{reifyℚ, solveℚ}
 use Rattle.integer.specs.laws.FractionOrder.{ℚ-ordered, whole-le}
@@ -67,10 +67,7 @@ module _ (g : ℚ → ℚ) (l m c : ℚ) (above : whole (pos 0) <ℚ c) (nonneg 
   half-distance s u d e close =
       halve (m *ℚ (l *ℚ u)) (whole (pos (2 ^ s)) *ℚ c)
       (_⟨≼⟩_ ℚ-ordered (le-of-eq ℚ-ordered (solveℚ (m ∷ l ∷ u ∷ []) (search reifyℚ depth 12) (search reifyℚ depth 12) tt ∙ ap (λ t. m *ℚ (l *ℚ t)) e))
-      (_⟨≼⟩_ ℚ-ordered close (le-of-eq ℚ-ordered (ap (λ t. t *ℚ c) power ∙ *ℚ-assoc (whole (pos 2)) (whole (pos (2 ^ s))) c))))
-    where
-      power : whole (pos (2 ^ suc s)) ≡ whole (pos 2) *ℚ whole (pos (2 ^ s))
-      power = ap (λ (n : ℕ). whole (pos n)) (omega arith) ∙ whole-mul (pos 2) (pos (2 ^ s))
+      (_⟨≼⟩_ ℚ-ordered close (le-of-eq ℚ-ordered (ap (λ t. t *ℚ c) (natural-power s) ∙ *ℚ-assoc (whole (pos 2)) (whole (pos (2 ^ s))) c))))
 
   -- on an interval that is short enough after s halvings
   halving : (s : ℕ) (x y : ℚ) → ∣ x ∣ℚ ≤ℚ whole (pos 1) → ∣ y ∣ℚ ≤ℚ whole (pos 1) → (m *ℚ (l *ℚ ∣ x -ℚ y ∣ℚ)) ≤ℚ (whole (pos (2 ^ s)) *ℚ c) → whole (pos 0) <ℚ g x → whole (pos 0) <ℚ g y

@@ -4,13 +4,13 @@
 use mathlib.Core.Path.{_≡_, sym, _∙_, ap, subst}
 use mathlib.Core.List.{List, [], _∷_}
 use Prim.Native.Nat.{ℕ, zero, suc, _^_}
-use native.Mathlib.Omega.{arith}
 use lib.IntN.{pos}
 use Rattle.integer.specs.laws.Archimedean.{limit-le}
 use Rattle.integer.specs.laws.Embedding.{ι-nonneg, ι-suc, ι-abs}
 use Rattle.integer.specs.laws.OrderedRingLaws.{by-certificate, gap, _⊞_, _⊠_, _⟨≼⟩_, le-refl, le-of-eq, sq-nonneg, abs-le, abs-of-nonneg, abs-mul, abs-mul-le, abs-neg-le, abs-add-le, triangle}
 use Rattle.integer.specs.definitions.Fraction.{ℚ, whole, _+ℚ_, _-ℚ_, -ℚ_, _*ℚ_, _≤ℚ_, ∣_∣ℚ}
-use Rattle.integer.specs.laws.FractionLaws.{+ℚ-assoc, whole-mul}
+use Rattle.integer.specs.laws.FractionLaws.{+ℚ-assoc}
+use Rattle.integer.specs.laws.FractionRounding.{natural-power}
 use Rattle.integer.specs.definitions.FractionRing.{ℚ-ring}
 use Rattle.integer.specs.laws.FractionSolver.{reifyℚ, solveℚ}
 use Rattle.integer.specs.laws.FractionOrder.{ℚ-ordered}
@@ -121,10 +121,7 @@ module _ (a : List ℚ) where
 
   within-power : (n : ℕ) → Within (whole (pos (2 ^ n)))
   within-power zero = within-one
-  within-power (suc n) = rw power (within-double (whole (pos (2 ^ n))) (ι-nonneg ℚ-ordered (2 ^ n)) (within-power n))
-    where
-      power : whole (pos (2 ^ suc n)) ≡ whole (pos 2) *ℚ whole (pos (2 ^ n))
-      power = ap (λ (n : ℕ). whole (pos n)) (omega arith) ∙ whole-mul (pos 2) (pos (2 ^ n))
+  within-power (suc n) = rw (natural-power n) (within-double (whole (pos (2 ^ n))) (ι-nonneg ℚ-ordered (2 ^ n)) (within-power n))
 
   -- 2·|P(x + h) − P(x) − h·a(x)| ≤ L·h²
   increment-bound : (x h : ℚ) → In x → In (x +ℚ h) → (whole (pos 2) *ℚ ∣ strip x h ∣ℚ) ≤ℚ (L *ℚ (h *ℚ h))

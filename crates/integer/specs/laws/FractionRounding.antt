@@ -1,6 +1,6 @@
--- Natural numbers among the fractions: sums, products, the order, and rounding up as a bound.
-use mathlib.Core.Path.{_≡_}
-use Prim.Native.Nat.{ℕ, _+_, _*_, _<_, _≤_}
+-- Natural numbers among the fractions: sums, products, powers of two, the order, and rounding up as a bound.
+use mathlib.Core.Path.{_≡_, _∙_, ap}
+use Prim.Native.Nat.{ℕ, suc, _+_, _*_, _^_, _<_, _≤_}
 use native.Mathlib.Omega.{arith}
 use lib.IntN.{pos}
 use Rattle.integer.specs.laws.OrderedRingLaws.{_⟨≼⟩_, le-of-eq, abs-scale}
@@ -16,6 +16,9 @@ natural-add m n = whole-add (pos m) (pos n)
 
 pub natural-mul : (m n : ℕ) → whole (pos (m * n)) ≡ whole (pos m) *ℚ whole (pos n)
 natural-mul m n = whole-mul (pos m) (pos n)
+
+pub natural-power : (n : ℕ) → whole (pos (2 ^ suc n)) ≡ whole (pos 2) *ℚ whole (pos (2 ^ n))
+natural-power n = ap (λ (m : ℕ). whole (pos m)) (omega arith) ∙ natural-mul 2 (2 ^ n)
 
 pub natural-le : {m n : ℕ} → m ≤ n → whole (pos m) ≤ℚ whole (pos n)
 natural-le {m} {n} h = whole-le (pos m) (pos n) .1 (pos-le m n h)

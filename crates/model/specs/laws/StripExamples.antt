@@ -1,6 +1,7 @@
 -- The bound of request S-8 is attained: of the integrand S·T_1 with radius 0, whose only allowed value at x is x, the sum over k
--- strips from −1 to 1 lies 2·L/k units below the integral's polynomial, for every k. The radius is the rounding part alone.
-use mathlib.Core.Path.{_≡_, refl, sym, _∙_, ap}
+-- strips from −1 to 1 lies 2·L/k units below the integral's polynomial, for every k. The radius is the rounding part alone. And a
+-- choice that lies a radius off the polynomial.
+use mathlib.Core.Path.{_≡_, refl, sym, _∙_, ap, ap₂}
 use mathlib.Core.List.{[], _∷_}
 use Prim.Native.Nat.{ℕ, zero, suc, _*_, _<_}
 use lib.IntN.{pos, negsuc}
@@ -24,7 +25,7 @@ use Rattle.model.specs.definitions.Outcomes.{accepted, passing}
 use Rattle.model.specs.definitions.Allowed.{position, AllowsAt}
 use Rattle.model.specs.definitions.Integrate.{integration, integralModel, integralList, halved, numerators, doubleFirst, alternating}
 use Rattle.model.specs.definitions.Strips.{Chooses, stripSum, lipschitz}
-use Rattle.model.specs.laws.ValueLaws.{valueAt, valueAt-append-zeros}
+use Rattle.model.specs.laws.ValueLaws.{valueAt, valueAt-append-zeros, scale-nonzero}
 use Rattle.model.specs.laws.Examples.{padded, linear}
 use Rattle.model.specs.declared.types.Model.{Model}
 
@@ -48,6 +49,18 @@ linear-chosen x on =
     (ap (λ v. ∣ x *ℚ whole (pos scale) -ℚ v ∣ℚ) (valueAt-append-zeros x (pos 0 ∷ pos 1048576 ∷ []) 31)
     ∙ ap ∣_∣ℚ (solveℚ (x ∷ []) (search reifyℚ depth 20) (search reifyℚ depth 20) tt)
     ∙ ι-abs ℚ-ordered (pos 0))
+
+-- a choice off the polynomial: one unit everywhere, of the zero polynomial with radius 1
+pub unit-chosen : Chooses (makeModel 0 (padded []) 1) (λ x. whole (pos 1) /ℚ whole (pos scale))
+unfolding position AllowsAt allows value valueFrom
+unit-chosen x on =
+    le-of-eq ℚ-ordered
+    (ap₂ (λ u v. ∣ u -ℚ v ∣ℚ) (quotient-mul (whole (pos 1)) (whole (pos scale)) scale-nonzero) (valueAt-append-zeros x [] 33)
+    ∙ ap ∣_∣ℚ one
+    ∙ ι-abs ℚ-ordered (pos 1))
+  where
+    one : whole (pos 1) -ℚ whole (pos 0) ≡ whole (pos 1)
+    one = solveℚ [] (search reifyℚ depth 9) (search reifyℚ depth 9) tt
 
 -- 2·Σ (y + i·h)·h = k·h·(2·y + k·h − h)
 sum-of-ends : (k : ℕ) (y h : ℚ) → whole (pos 2) *ℚ leftSum (λ x. x) y h k ≡ whole (pos k) *ℚ h *ℚ (whole (pos 2) *ℚ y +ℚ whole (pos k) *ℚ h -ℚ h)
