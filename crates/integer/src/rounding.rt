@@ -24,16 +24,17 @@ pub fn up(n: i64, d: i64) -> i64
     if 0 < r { q + 1 } else { q }
 }
 
-// The nearest whole number to n / d, a tie going towards plus infinity, for every n. The remainder is compared with halves
-// of d: twice n, or twice a remainder, need not fit.
+// The nearest whole number to n / d, a tie going to the even one, for every n. The remainder is compared with the half of d,
+// or of d - 1 where q is odd: twice n, or twice a remainder, need not fit.
 pub fn near(n: i64, d: i64) -> i64
     requires { ⌜ pos 0 <ℤ d ⌝ }
     ensures { λ r. ⌜ r ≡ nearOf n (natAbs d) ⌝ }
 {
     let q = n / d;
     let r = n % d;
-    let half = d >> 1;
-    if d - half <= r {
+    let odd = q & 1;
+    let half = (d - odd) >> 1;
+    if half < r {
         q + 1
     } else if r < -half {
         q - 1
