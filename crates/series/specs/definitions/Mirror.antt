@@ -4,7 +4,7 @@ use Prim.Native.Nat.{ℕ}
 use Rattle.chebyshev.specs.definitions.Negation.{every, odd, negatedFrom}
 use Rattle.series.specs.declared.types.Series.{Series}
 
-unfoldable pub negatedSeriesWhere : (ℕ → Bool) → Series → Series
+abbrev pub negatedSeriesWhere : (ℕ → Bool) → Series → Series
 negatedSeriesWhere chosen s = record { degree = s .degree; coefficients = negatedFrom chosen 0 (s .coefficients) }
 
 -- all p_k negated: minus the series

@@ -89,19 +89,18 @@ module _ (chosen : ℕ → Bool) (fits : Fits chosen) where
       start i = omega arith
 
   goodSeries-negated : (s : Series) → goodSeries (negatedSeriesWhere chosen s) ≡ goodSeries s
-  unfolding goodSeries negatedSeriesWhere
+  unfolding goodSeries
   goodSeries-negated s =
       rw (weight-negated chosen 0 (s .coefficients), drop-negated chosen (suc (s .degree)) 0 (s .coefficients), weight-negated chosen (0 + suc (s .degree)) (seriesBeyond s))
 
   module _ (s : Series) (good : goodSeries s ≡ true) where
     expanded-is : expanded (negatedSeriesWhere chosen s) ≡ negatedFrom chosen 0 (expanded s)
-    unfolding negatedSeriesWhere
     expanded-is =
         ap (expandedFrom 0) (take-negated chosen (suc (s .degree)) 0 (s .coefficients))
         ∙ expanded-negated 0 (seriesTerms s) (omega (arith, length-take (suc (s .degree)) (s .coefficients), limits s good))
 
     seriesModel-negated : seriesModel (negatedSeriesWhere chosen s) ≡ negatedWhere chosen (seriesModel s)
-    unfolding seriesModel negatedWhere
+    unfolding seriesModel
     seriesModel-negated =
         let zeros = replicate (coefficientCount - suc (s .degree)) (pos 0) in
         ap₂ (makeModel (s .degree))
