@@ -1,5 +1,5 @@
--- What floor, up and near share: the truncated quotient and remainder of n by d ≥ 1, and the correction of each rounding.
-use mathlib.Core.Path.{_≡_, _∙_}
+-- What floor, modulo and up share: the truncated quotient and remainder of n by d ≥ 1, and the correction of each.
+use mathlib.Core.Path.{_≡_, _∙_, ap}
 use Prim.Native.Nat.{ℕ, _+_, _*_, _≤_, _<_}
 use native.Mathlib.Omega.{arith}
 use native.Mathlib.Nat.{mul-le-mul-left}
@@ -11,8 +11,11 @@ use mir.Facts.{toZ-ofZ}
 use Rattle.integer.specs.laws.Parts.{_⁺, _⁻, abs, apart, sum, difference}
 use Rattle.integer.specs.laws.Difference.{all3, differences}
 use Rattle.integer.specs.laws.Machine.{fits, within, is-positive, positive-bits, Truncated, truncated}
-use Rattle.integer.specs.definitions.Rounding.{floor, up, parity, near}
-use Rattle.integer.specs.laws.RoundingLaws.{parity-small, parity-next, parity-before, floor-left, up-left, near-left}
+use Rattle.integer.specs.definitions.Rounding.{floor, up}
+use Rattle.integer.specs.laws.RoundingLaws.{floor-left, up-left}
+
+rest : (n m x : ℤ) → n ≡ m +ℤ x → x ≡ n -ℤ m
+rest = all3 _ (simp differences (omega arith))
 
 -- ---- the truncated quotient q and remainder r: the code takes q, q − 1 or q + 1 by what its tests say of r
 
@@ -47,20 +50,12 @@ module _ (n : ℤ) (d : ℕ) (q r : ℤ) (t : Truncated n d q r) where
   pub up-above : 0 < r ⁺ → q +ℤ pos 1 ≡ up n d
   up-above h = up-left n (q +ℤ pos 1) (r -ℤ pos d) d split-up (left-up h .0) (omega (arith, left-up h))
 
-  pub near-at : 2 * natAbs r + parity q ≤ d → q ≡ near n d
-  near-at h = near-left n q r d (t .split) (omega (arith, t .small)) h
+  -- what floor leaves
+  pub rest-at : r ⁻ ≡ 0 → r ≡ n -ℤ floor n d *ℤ pos d
+  rest-at h = rest n (q *ℤ pos d) r (t .split) ∙ ap (λ c. n -ℤ c *ℤ pos d) (floor-at h)
 
-  pub near-below : d < 2 * r ⁻ + parity q → q -ℤ pos 1 ≡ near n d
-  near-below h =
-      let p : 0 < r ⁻ = omega (arith, parity-small q, t .small) in
-      near-left n (q -ℤ pos 1) (r +ℤ pos d) d split-down (omega (arith, t .small))
-      (omega (arith, h, left-down p, abs (r +ℤ pos d), parity-before q))
-
-  pub near-above : d < 2 * r ⁺ + parity q → q +ℤ pos 1 ≡ near n d
-  near-above h =
-      let p : 0 < r ⁺ = omega (arith, parity-small q, t .small) in
-      near-left n (q +ℤ pos 1) (r -ℤ pos d) d split-up (omega (arith, t .small))
-      (omega (arith, h, left-up p, abs (r -ℤ pos d), parity-next q))
+  pub rest-down : 0 < r ⁻ → r +ℤ pos d ≡ n -ℤ floor n d *ℤ pos d
+  rest-down h = rest n ((q -ℤ pos 1) *ℤ pos d) (r +ℤ pos d) split-down ∙ ap (λ c. n -ℤ c *ℤ pos d) (floor-down h)
 
 -- ---- in 64 bits: what the code divides
 
@@ -83,7 +78,7 @@ module _ (o : Operands) where
   pub t : Truncated n (natAbs d) q r
   t = truncated n d (is-positive d (o .positive))
 
-  pub q-fits : SFits w64 q
+  q-fits : SFits w64 q
   q-fits = fits w64 q (omega (arith, t, within w64 n fits-n)) (omega (arith, t, within w64 n fits-n))
 
   r-fits : SFits w64 r

@@ -6,7 +6,7 @@ use Prim.Native.Nat.{ℕ, zero, suc, _+_, _-_, _*_, _/_, _%_, _<_, _≤_}
 use native.Mathlib.Omega.{arith}
 use native.Mathlib.Nat.{mul-div-le, lt-div-mul-add, div-add-mod, mod-lt}
 use lib.Dec.{leb, eqb}
-use borrow.Author.Tests.{leb-true, leb-false, eqb-true, eqb-false}
+use borrow.Author.Tests.{leb-true, leb-false, le-leb, lt-leb, eqb-true, eqb-false}
 use lib.IntN.{ℤ, pos, negsuc, negℤ, natAbs, _+ℤ_, _-ℤ_, _*ℤ_}
 use lib.Signed.{_≤ℤ_, _<ℤ_}
 use Rattle.integer.specs.laws.Parts.{_⁺, _⁻, same, abs, abs-neg, sum, product, difference, apart}
@@ -130,12 +130,6 @@ parity-next (negsuc a) =
     let e : natAbs z ≡ a = omega (arith, abs z, apart z, sum (negsuc a) (pos 1)) in
     rw e (omega (arith, next-parity a))
 
-pub parity-before : (c : ℤ) → parity (c -ℤ pos 1) + parity c ≡ 1
-parity-before c = omega (arith, parity-next (c -ℤ pos 1), ap parity (again c))
-  where
-    again : (c : ℤ) → c -ℤ pos 1 +ℤ pos 1 ≡ c
-    again = all1 _ (simp differences (omega arith))
-
 pub parity-opposite : (c : ℤ) → parity (negℤ c) ≡ parity c
 parity-opposite c = ap (λ (k : ℕ). k % 2) (abs-neg c)
 
@@ -145,8 +139,8 @@ parity-opposite c = ap (λ (k : ℕ). k % 2) (abs-neg c)
 abbrev Nearest : ℤ → ℕ → ℤ → Type 0
 Nearest n d c = 2 * natAbs (c *ℤ pos d -ℤ n) + parity c ≤ d
 
--- n − c d for c = floor n d
-floor-rest : (n : ℤ) (d : ℕ) → 0 < d → let x = n -ℤ floor n d *ℤ pos d in (x ⁻ ≡ 0) × (x ⁺ < d)
+-- what floor leaves: 0 ≤ n − c d < d
+pub floor-rest : (n : ℤ) (d : ℕ) → 0 < d → let x = n -ℤ floor n d *ℤ pos d in (x ⁻ ≡ 0) × (x ⁺ < d)
 floor-rest n d h =
     let m = floor n d *ℤ pos d in
     let x = n -ℤ m in
@@ -174,6 +168,17 @@ near-nearest n d h = pick (leb (2 * natAbs x + parity c) d) refl
         let y = pos d -ℤ x in
         rw (above n c (pos d))
         (omega (arith, leb-false (2 * natAbs x + parity c) d e, parity-next c, floor-rest n d h, abs x, abs y, apart y, difference (pos d) x))
+
+-- as code finds it: c = floor n d, and x is left
+module _ (n c x : ℤ) (d : ℕ) (c-is : c ≡ floor n d) (x-is : x ≡ n -ℤ floor n d *ℤ pos d) where
+  pub near-at : 2 * natAbs x + parity c ≤ d → c ≡ near n d
+  unfolding near
+  near-at h = c-is ∙ rw (le-leb (2 * natAbs (n -ℤ floor n d *ℤ pos d) + parity (floor n d)) d (rw (x-is, c-is) at h))
+
+  pub near-above : d < 2 * natAbs x + parity c → c +ℤ pos 1 ≡ near n d
+  unfolding near
+  near-above h =
+      ap (λ z. z +ℤ pos 1) c-is ∙ rw (lt-leb (2 * natAbs (n -ℤ floor n d *ℤ pos d) + parity (floor n d)) d (rw (x-is, c-is) at h))
 
 -- two such numbers are in order, so equal
 nearest-le : (n c c′ : ℤ) (d : ℕ) → 0 < d → Nearest n d c → Nearest n d c′ → c ≤ℤ c′
@@ -250,7 +255,7 @@ near-closer n d h = go (near n d) (near-error n d h)
 pub near-error-abs : (n : ℤ) (d : ℕ) → 0 < d → (pos 2 *ℤ ∣ near n d *ℤ pos d -ℤ n ∣) ≤ℤ pos d
 near-error-abs n d h = rw ∣∣-is (pos-le _ _ (near-error n d h))
 
--- ---- the same by what is left over, x = n − c d: 0 ≤ x < d, −d < x ≤ 0, 2·|x| ≤ d
+-- ---- floor and up by what is left over, x = n − c d: 0 ≤ x < d, −d < x ≤ 0
 
 module _ (n c x : ℤ) (d : ℕ) (split : n ≡ c *ℤ pos d +ℤ x) where
   abbrev m : ℤ
@@ -265,8 +270,3 @@ module _ (n c x : ℤ) (d : ℕ) (split : n ≡ c *ℤ pos d +ℤ x) where
   up-left hi lo =
       up-unique n c d (omega arith) (rw split (≤-parts (m +ℤ x) m .1 (omega (arith, sum m x))))
       (rw split (<-parts m (m +ℤ x +ℤ pos d) .1 (omega (arith, sum m x, sum (m +ℤ x) (pos d)))))
-
-  pub near-left : 0 < d → 2 * natAbs x + parity c ≤ d → c ≡ near n d
-  near-left h p =
-      let e = m -ℤ (m +ℤ x) in
-      nearest-is n c d h (rw split (omega (arith, p, abs e, apart e, abs x, apart x, difference m (m +ℤ x), sum m x)))

@@ -1,122 +1,121 @@
--- `rounding::near` meets its contract: the truncated quotient, corrected where the remainder passes half of d, or of d − 1.
-use mathlib.Core.Path.{_≡_}
+-- `rounding::near` meets its contract: c = floor(n/d), and c + 1 where twice what floor leaves, and 1 if c is odd, passes d.
+use mathlib.Core.Path.{_≡_, sym, _∙_, ap, subst}
 use mathlib.Core.Bool.{true, false}
 use Prim.Native.Nat.{ℕ, _+_, _*_, _≤_, _<_}
 use native.Mathlib.Omega.{arith}
-use native.Mathlib.Nat.{mul-div-le, lt-div-mul-add}
+use native.Mathlib.Nat.{mul-le-mul-left}
 use lib.Bits.{bitAnd}
-use lib.IntN.{ℤ, pos, negsuc, natAbs, _+ℤ_, _-ℤ_}
-use lib.Signed.{quotZ, shrZ, ltZ}
+use lib.IntN.{ℤ, pos, negsuc, natAbs, _+ℤ_, _-ℤ_, _*ℤ_}
+use lib.Signed.{_≤ℤ_, ltZ}
 use mir.Syntax.{w64}
 use mir.Val.{SFits, toZ, ofZ}
 use mir.Facts.{toZ-ofZ}
-use Rattle.integer.specs.definitions.Rounding.{parity}
-use Rattle.integer.specs.laws.Parts.{_⁺, _⁻, abs, apart, difference, lt-yes, lt-no}
-use Rattle.integer.specs.laws.Machine.{fits, within, is-positive, lowest-bit}
-use Rattle.integer.specs.laws.RoundingLaws.{parity-small}
-use Rattle.integer.proofs.Division.{Operands, q, r, t, q-fits, asks, q-is, r-is, q-up-fits, q-down-fits, near-above, near-below, near-at}
+use Rattle.integer.specs.definitions.Rounding.{floor, parity}
+use Rattle.integer.specs.laws.Parts.{_⁺, _⁻, abs, apart, sum, difference, product, lt-yes, lt-no}
+use Rattle.integer.specs.laws.Difference.{≤-parts}
+use Rattle.integer.specs.laws.Machine.{fits, within, is-positive, positive-is, lowest-bit}
+use Rattle.integer.specs.laws.RoundingLaws.{parity-small, floor-le, floor-rest, near-at, near-above}
 use Rattle.integer.proofs.rounding.near.Statement.{statement}
 use Rattle.integer.proofs.rounding.near.Tie as tie
 
--- d − k is 2 h or 2 h + 1, for d ≥ 1 and k = 0 or 1
-record Halved (d : ℤ) (k : ℕ) (h : ℤ) : Type 0 where
-  nonneg : h ⁻ ≡ 0
-  low : 2 * h ⁺ + k ≤ natAbs d
-  high : natAbs d < 2 * h ⁺ + 2 + k
-
-halved : (d : ℤ) (k : ℕ) → 0 < d ⁺ → k ≤ 1 → Halved d k (shrZ (d -ℤ pos k) 2)
-halved d k p l = go (d -ℤ pos k) (omega (arith, abs d, apart d, difference d (pos k), apart (d -ℤ pos k)))
-  where
-    go : (z : ℤ) → (z ⁻ ≡ 0) × (z ⁺ + k ≡ natAbs d) → Halved d k (shrZ z 2)
-    go (pos n) e = record { nonneg = omega arith; low = omega (arith, e, mul-div-le n 2); high = omega (arith, e, lt-div-mul-add {a = n} {b = 2} (omega arith)) }
-    go (negsuc n) e = absurd (omega (arith, e))
-
--- what the tests say of the remainder r
-module _ (d : ℤ) (k : ℕ) (h r : ℤ) (x : Halved d k h) where
-  above : ltZ h r ≡ true → natAbs d < 2 * r ⁺ + k
-  above e = omega (arith, x, lt-yes h r e)
-
-  not-above : ltZ h r ≡ false → 2 * r ⁺ + k ≤ natAbs d
-  not-above e = omega (arith, x, apart r, lt-no h r e)
-
-  below : ltZ r (pos 0 -ℤ h) ≡ true → natAbs d < 2 * r ⁻ + k
-  below e = omega (arith, x, difference (pos 0) h, lt-yes r (pos 0 -ℤ h) e)
-
-  not-below : ltZ r (pos 0 -ℤ h) ≡ false → 2 * r ⁻ + k ≤ natAbs d
-  not-below e = omega (arith, x, difference (pos 0) h, apart r, lt-no r (pos 0 -ℤ h) e)
-
-module _ (s : tie.Start) where
-  abbrev o : Operands
-  o = record { n = s .args .n; d = s .args .d; fits-n = s .fits .n; fits-d = s .fits .d; positive = s .pre }
+-- the two calls
+module _ (m : tie.After-modulo) where
+  abbrev n : ℤ
+  n = m .before .before .args .n
 
   abbrev d : ℤ
-  d = s .args .d
+  d = m .before .before .args .d
 
-  abbrev odd : ℕ
-  odd = parity (q o)
+  abbrev c : ℤ
+  c = m .before .floor .result
 
-  -- the lowest bit of the machine's quotient
-  odd-is : toZ w64 (bitAnd (ofZ w64 (quotZ (toZ w64 (ofZ w64 (o .n))) (toZ w64 (ofZ w64 d)))) 1) ≡ pos odd
-  odd-is = simp (toZ-ofZ (s .fits .n), toZ-ofZ (s .fits .d)) (lowest-bit (q o) (q-fits o))
+  abbrev x : ℤ
+  x = m .modulo .result
 
-  abbrev half : ℤ
-  half = shrZ (d -ℤ pos odd) 2
+  fits-n : SFits w64 n
+  fits-n = m .before .before .fits .n
 
-  halves : Halved d odd half
-  halves = halved d odd (is-positive d (s .pre)) (parity-small (q o))
+  fits-d : SFits w64 d
+  fits-d = m .before .before .fits .d
 
-  rest-fits : SFits w64 (d -ℤ pos odd)
-  rest-fits =
-      fits w64 (d -ℤ pos odd) (omega (arith, difference d (pos odd), within w64 d (s .fits .d)))
-      (omega (arith, is-positive d (s .pre), parity-small (q o), apart d, apart (d -ℤ pos odd), difference d (pos odd)))
+  fits-c : SFits w64 c
+  fits-c = record { sfits = m .before .floor .ok }
 
-  half-fits : SFits w64 half
-  half-fits = fits w64 half (omega (arith, halves, abs d, apart d, is-positive d (s .pre), within w64 d (s .fits .d))) (omega (arith, halves))
+  fits-x : SFits w64 x
+  fits-x = record { sfits = m .modulo .ok }
 
-  half-is : toZ w64 (ofZ w64 (shrZ (toZ w64 (ofZ w64 (toZ w64 (ofZ w64 d) -ℤ toZ w64 (bitAnd (ofZ w64 (quotZ (toZ w64 (ofZ w64 (o .n))) (toZ w64 (ofZ w64 d)))) 1)))) 2)) ≡ half
-  half-is = rw odd-is (simp (toZ-ofZ (s .fits .d), toZ-ofZ rest-fits, toZ-ofZ half-fits))
+  positive : 0 < d ⁺
+  positive = is-positive d (m .before .before .pre)
 
-  minus-fits : SFits w64 (pos 0 -ℤ half)
-  minus-fits =
-      fits w64 (pos 0 -ℤ half) (omega (arith, halves, difference (pos 0) half))
-      (omega (arith, halves, difference (pos 0) half, abs d, apart d, is-positive d (s .pre), within w64 d (s .fits .d)))
+  at-least-one : 0 < natAbs d
+  at-least-one = omega (arith, positive, abs d)
 
-module _ (c : tie.Then1) where
-  abbrev s₁ : tie.Start
-  s₁ = c .before
+  c-is : c ≡ floor n (natAbs d)
+  c-is = simp (toZ-ofZ fits-n, toZ-ofZ fits-d) at (m .before .floor .ensures)
 
-  at-above : natAbs (d s₁) < 2 * r (o s₁) ⁺ + odd s₁
-  at-above = above (d s₁) (odd s₁) (half s₁) (r (o s₁)) (halves s₁) (rw (half-is s₁, r-is (o s₁)) at (c .if1 .taken))
+  x-is : x ≡ n -ℤ floor n (natAbs d) *ℤ pos (natAbs d)
+  x-is = simp (toZ-ofZ fits-n, toZ-ofZ fits-d) at (m .modulo .ensures) ∙ ap (λ z. n -ℤ floor n (natAbs d) *ℤ z) (positive-is d positive)
 
-  up-fits : SFits w64 (q (o s₁) +ℤ pos 1)
-  up-fits = q-up-fits (o s₁) (omega (arith, at-above, parity-small (q (o s₁)), abs (d s₁), is-positive (d s₁) (s₁ .pre)))
+  left : (x ⁻ ≡ 0) × (x ⁺ < natAbs d)
+  left = subst (λ z. (z ⁻ ≡ 0) × (z ⁺ < natAbs d)) (sym x-is) (floor-rest n (natAbs d) at-least-one)
 
-module _ (c : tie.Then2) where
-  abbrev s₂ : tie.Start
-  s₂ = c .before .before
+  odd-is : toZ w64 (bitAnd (ofZ w64 c) 1) ≡ pos (parity c)
+  odd-is = lowest-bit c fits-c
 
-  at-below : natAbs (d s₂) < 2 * r (o s₂) ⁻ + odd s₂
-  at-below = below (d s₂) (odd s₂) (half s₂) (r (o s₂)) (halves s₂) (rw (r-is (o s₂), half-is s₂, toZ-ofZ (minus-fits s₂)) at (c .if2 .taken))
+  lacks-fits : SFits w64 (d -ℤ x)
+  lacks-fits =
+      let z = d -ℤ x in
+      fits w64 z (omega (arith, left, difference d x, within w64 d fits-d)) (omega (arith, left, difference d x, positive, abs d, apart d, apart z))
 
-  down-fits : SFits w64 (q (o s₂) -ℤ pos 1)
-  down-fits = q-down-fits (o s₂) (omega (arith, at-below, parity-small (q (o s₂)), abs (d s₂), is-positive (d s₂) (s₂ .pre)))
+  passes-fits : SFits w64 (x +ℤ pos (parity c))
+  passes-fits =
+      let z = x +ℤ pos (parity c) in
+      fits w64 z (omega (arith, left, parity-small c, sum x (pos (parity c)), positive, abs d, apart d, within w64 d fits-d))
+      (omega (arith, left, sum x (pos (parity c))))
+
+  -- what the test compares: d − x < x + (1 if c is odd)
+  passes : ltZ (d -ℤ x) (x +ℤ pos (parity c)) ≡ true → natAbs d < 2 * natAbs x + parity c
+  passes e = omega (arith, lt-yes (d -ℤ x) (x +ℤ pos (parity c)) e, difference d x, sum x (pos (parity c)), abs x, abs d, positive, apart d, left)
+
+  passes-not : ltZ (d -ℤ x) (x +ℤ pos (parity c)) ≡ false → 2 * natAbs x + parity c ≤ natAbs d
+  passes-not e = omega (arith, lt-no (d -ℤ x) (x +ℤ pos (parity c)) e, difference d x, sum x (pos (parity c)), abs x, abs d, positive, apart d, left)
+
+  -- c·d ≤ n and d ≥ 2, where something is left
+  next-fits : natAbs d < 2 * natAbs x + parity c → SFits w64 (c +ℤ pos 1)
+  next-fits h = go c fits-c (rw (sym c-is) at (floor-le n (natAbs d) at-least-one))
+    where
+      two : 2 ≤ natAbs d
+      two = omega (arith, h, left, abs x, parity-small c)
+
+      go : (c : ℤ) → SFits w64 c → (c *ℤ pos (natAbs d)) ≤ℤ n → SFits w64 (c +ℤ pos 1)
+      go (pos k) f l =
+          fits w64 (pos k +ℤ pos 1)
+          (omega (arith, mul-le-mul-left k two, ≤-parts (pos k *ℤ pos (natAbs d)) n .0 l, product (pos k) (pos (natAbs d)), within w64 n fits-n))
+          (omega arith)
+      go (negsuc k) f l =
+          let z = negsuc k +ℤ pos 1 in
+          fits w64 z (omega (arith, sum (negsuc k) (pos 1), apart z)) (omega (arith, sum (negsuc k) (pos 1), within w64 (negsuc k) f))
+
+module _ (t : tie.Then1) where
+  abbrev m₁ : tie.After-modulo
+  m₁ = t .before
+
+  passed : natAbs (d m₁) < 2 * natAbs (x m₁) + parity (c m₁)
+  passed = passes m₁ (simp (toZ-ofZ (fits-d m₁), toZ-ofZ (fits-x m₁), odd-is m₁, toZ-ofZ (lacks-fits m₁), toZ-ofZ (passes-fits m₁)) at (t .if1 .taken))
 
 returns : tie.Need-returns
-returns c = let o = o (c .before) in rw (q-is o, toZ-ofZ (up-fits c)) (near-above (o .n) (natAbs (o .d)) (q o) (r o) (t o) (at-above c))
+returns t =
+    let m = t .before in
+    simp (toZ-ofZ (fits-c m), toZ-ofZ (next-fits m (passed t))) (near-above (n m) (c m) (x m) (natAbs (d m)) (c-is m) (x-is m) (passed t))
 
 returns-2 : tie.Need-returns-2
-returns-2 c = let o = o (c .before .before) in rw (q-is o, toZ-ofZ (down-fits c)) (near-below (o .n) (natAbs (o .d)) (q o) (r o) (t o) (at-below c))
-
-returns-3 : tie.Need-returns-3
-returns-3 c =
-    let s = c .before .before in
-    let o = o s in
-    let up = not-above (d s) (odd s) (half s) (r o) (halves s) (rw (half-is s, r-is o) at (c .before .if1 .left)) in
-    let down = not-below (d s) (odd s) (half s) (r o) (halves s) (rw (r-is o, half-is s, toZ-ofZ (minus-fits s)) at (c .if2 .left)) in
-    rw (q-is o) (near-at (o .n) (natAbs (o .d)) (q o) (r o) (t o) (omega (arith, up, down, abs (r o), apart (r o))))
+returns-2 t =
+    let m = t .before in
+    let stays = passes-not m (simp (toZ-ofZ (fits-d m), toZ-ofZ (fits-x m), odd-is m, toZ-ofZ (lacks-fits m), toZ-ofZ (passes-fits m)) at (t .if1 .left)) in
+    simp (toZ-ofZ (fits-c m)) (near-at (n m) (c m) (x m) (natAbs (d m)) (c-is m) (x-is m) stays)
 
 pub near-spec : {M : Type 1} → statement M
 near-spec =
-    tie.close
-    (tie.spec (λ s. asks (o s)) (λ s. asks (o s)) (λ s. rw (odd-is s, toZ-ofZ (s .fits .d)) (rest-fits s)) (λ c. rw (q-is (o (c .before))) (up-fits c))
-    (λ c. rw (half-is (c .before)) (minus-fits (c .before))) (λ c. rw (q-is (o (c .before .before))) (down-fits c)) returns returns-2 returns-3)
+    tie.close (tie.spec (λ s κs. simp (toZ-ofZ (s .fits .d)) (s .pre)) (λ a κs. simp (toZ-ofZ (a .before .fits .d)) (a .before .pre))
+    (λ m. simp (toZ-ofZ (fits-d m), toZ-ofZ (fits-x m)) (lacks-fits m)) (λ m. simp (toZ-ofZ (fits-x m), odd-is m) (passes-fits m))
+    (λ t. simp (toZ-ofZ (fits-c (t .before))) (next-fits (t .before) (passed t))) returns returns-2)
