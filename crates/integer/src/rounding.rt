@@ -39,8 +39,8 @@ pub fn near(n: i64, d: i64) -> i64
     requires { ⌜ pos 0 <ℤ d ⌝ }
     ensures { λ r. ⌜ r ≡ nearOf n (natAbs d) ⌝ }
 {
-    let c = floor(n, d);
     let rest = modulo(n, d);
+    let c = floor(n, d);
     let odd = c & 1;
     if d - rest < rest + odd { c + 1 } else { c }
 }
