@@ -176,6 +176,15 @@ def build_harness(folder, entries, library, plain, flags):
     return program
 
 
+def perhaps_shortened(rng, case):
+    """Some cases with one or two areas too short."""
+    if rng.random() >= 0.02:
+        return case
+    sizes = [(i, size) for i, (_, size, what) in enumerate(AREAS[case.entry]) if what != 'job']
+    chosen = rng.sample(sizes, rng.choice((1, 1, 2)))
+    return case._replace(lengths=tuple((i, rng.choice((size - 1, rng.randrange(size)))) for i, size in chosen))
+
+
 def make_cases(entries, wanted, rng):
     """All fixed cases of the entries, then random ones up to the number wanted."""
     fixed = {**cases.FIXED, **certificate_cases.FIXED, **job_cases.FIXED, **series_cases.FIXED}
@@ -189,14 +198,8 @@ def make_cases(entries, wanted, rng):
     shares = [SHARE[entry] for entry in entries]
     while made < wanted:
         entry = rng.choices(entries, shares)[0]
-        case = drawn[entry](rng)
-        if rng.random() < 0.02:                     # one or two areas too short
-            sizes = [(i, size) for i, (_, size, what) in enumerate(AREAS[entry]) if what != 'job']
-            chosen = rng.sample(sizes, rng.choice((1, 1, 2)))
-            case = case._replace(lengths=tuple((i, rng.choice((size - 1, rng.randrange(size))))
-                                               for i, size in chosen))
         made += 1
-        yield case
+        yield perhaps_shortened(rng, drawn[entry](rng))
 
 
 def run_harness(program, calls, runner):
