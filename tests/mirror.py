@@ -27,7 +27,7 @@ import job_cases
 import jobs
 import oracle as o
 import series_cases
-from area_cases import AREAS, WITNESSES, area_cases
+from area_cases import AREAS, CURVE, FOUR, WITNESSES, area_cases
 from cases import HIGHEST, Case
 from compare import BATCH, PLAIN, ROOT, build_harness, lent_areas, perhaps_shortened, run_harness, stop
 from header import (BLOCK_BYTES, COEFFICIENTS, HELPER_NOT_POSITIVE, MAX_RESULTS, MODEL_SIZE, NOT_CONTRACTING, PLACE_RADIUS,
@@ -177,6 +177,10 @@ def drawn_cases(rng, wanted):
         yield job_cases.case(path.read_bytes())
     for _ in range(wanted // 2):
         yield job_cases.case(jobs.tied_builder(rng).job())
+    # Every refusal behind a load that no command before it names: its sign is free, and it is not its own mirror.
+    head = jobs.EDITION_1 + jobs.load(FOUR) + jobs.load(CURVE)
+    for command in job_cases.faulty_commands(2):
+        yield job_cases.case(head + command + jobs.END)
 
 
 def drawn_pairs(rng, wanted):
@@ -301,7 +305,7 @@ def main():
     parser.add_argument('--library', type=Path, help='static library under test')
     parser.add_argument('--plain', type=Path, default=PLAIN, help='C file to test instead')
     parser.add_argument('--program', type=Path, help='the program jobcheck, for jobs')
-    parser.add_argument('--cases', type=int, default=1500, help='random calls of each entry')
+    parser.add_argument('--cases', type=int, default=1000, help='random calls of each entry')
     parser.add_argument('--seed', type=int, default=1)
     parser.add_argument('--plant', action='store_true', help='spoil an answer of each kind')
     options = parser.parse_args()
