@@ -47,7 +47,7 @@ ROUNDING = ('multiply', 'integrate', 'evaluate', 'from_series', 'check')        
 
 
 def stop(message):
-    print(f'compare: {message}', file=sys.stderr)
+    print(f'{Path(sys.argv[0]).stem}: {message}', file=sys.stderr)
     sys.exit(2)
 
 

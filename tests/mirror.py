@@ -30,8 +30,9 @@ import series_cases
 from area_cases import AREAS, CURVE, FOUR, WITNESSES, area_cases
 from cases import HIGHEST, Case
 from compare import BATCH, PLAIN, ROOT, build_harness, lent_areas, perhaps_shortened, run_harness, stop
-from header import (BLOCK_BYTES, COEFFICIENTS, HELPER_NOT_POSITIVE, MAX_RESULTS, MODEL_SIZE, NOT_CONTRACTING, PLACE_RADIUS,
+from header import (BLOCK_BYTES, COEFFICIENTS, HELPER_NOT_POSITIVE, MAX_RESULTS, MODEL_SIZE, NOT_CONTRACTING, PLACE_RADIUS, S,
                     SHORT_AREA)
+from oracle import model
 from slips import NEAR, TIES_DOWN, TIES_UP, spoiled_plain
 
 SAME, NEGATED = (1,) * COEFFICIENTS, (-1,) * COEFFICIENTS
@@ -179,7 +180,7 @@ def drawn_cases(rng, wanted):
         yield job_cases.case(jobs.tied_builder(rng).job())
     # Every refusal behind a load that no command before it names: its sign is free, and it is not its own mirror.
     head = jobs.EDITION_1 + jobs.load(FOUR) + jobs.load(CURVE)
-    for command in job_cases.faulty_commands(2):
+    for command in (*job_cases.faulty_commands(2), *(jobs.root(0, FOUR, model([0, w])) for w in (S, -S))):
         yield job_cases.case(head + command + jobs.END)
 
 
@@ -223,13 +224,15 @@ def turned(answer, signs):
                                    for m, row in zip(answer.models, rows)])
 
 
+def sign_refused(pair, first, second):
+    """A root's test of the helper's sign is taken at x = 1, which a mirror turns to -1.  Where the two differ w has a zero
+    between, so that the next test fails: one job is refused with 7, the other with 5."""
+    return pair.kind == MIRRORED_JOB and {first.number, second.number} == {NOT_CONTRACTING, HELPER_NOT_POSITIVE}
+
+
 def agree(pair, first, second):
     expected = turned(first, pair.signs)
-    # A root's test of the helper's sign is at x = 1; its mirror's is at -1.  Where the two differ, w has a zero between, so that
-    # the test after it fails: one is refused with 7, the other with 5.
-    if pair.kind == MIRRORED_JOB and {first.number, second.number} == {NOT_CONTRACTING, HELPER_NOT_POSITIVE}:
-        expected = expected._replace(number=second.number)
-    return second == expected
+    return second == (expected._replace(number=second.number) if sign_refused(pair, first, second) else expected)
 
 
 def told(pair, first, second):
@@ -298,6 +301,9 @@ def check_counts(pairs, calls, answers):
         missing = {SHORT_AREA, *WITNESSES[entry]} - set(numbers)
         assert not missing, f'{kind}: never {missing}'
         assert numbers.total() >= PAIRS and numbers[0] >= ACCEPTED and min(ties) >= SHOWN, kind
+    refused = sum(sign_refused(pair, *both) for pair, both in zip(pairs, answers))
+    print(f'{MIRRORED_JOB}: {refused} refused with 7 against 5')
+    assert refused, 'no root whose helper changes its sign'
 
 
 def main():
@@ -322,10 +328,10 @@ def main():
         if not planted <= different or len(planted) < len(ENTRY):
             stop('a planted answer was not found')
         sys.exit(1)
-    check_counts(pairs, calls, answers)
-    if options.program and program_differences(options.program, pairs, answers, 300, rng):
+    if different:
         sys.exit(1)
-    sys.exit(1 if different else 0)
+    check_counts(pairs, calls, answers)
+    sys.exit(1 if options.program and program_differences(options.program, pairs, answers, 300, rng) else 0)
 
 
 if __name__ == '__main__':
