@@ -29,6 +29,15 @@
 
    A candidate area holds 34 numbers: a model without its radius.
 
+   Products, integrals, evaluations and models of series are rounded to the
+   nearest whole number, a tie to the even one.  So a mirrored curve has mirrored
+   answers: negating every coefficient of one factor, of an integrand or of a
+   series negates those of the result and keeps its radius, its degree and the
+   number answered; negating the odd coefficients of both factors or of a series
+   (x for -x) negates the odd ones of the result; and negating p and the odd
+   coefficients keeps both bounds of an evaluation.  (-2^31 has no negation; a
+   model or series with it is refused.)
+
    A series area holds 34 numbers: the degree n (0 to 32) and 33 coefficients
    p_0 .. p_32, in units, of the power series (p_0 + p_1 x + .. + p_n x^n) / S.
    Coefficients beyond the degree are zero, the weight |p_0| + .. + |p_32| is at
@@ -199,9 +208,9 @@ uint32_t ferruntzo_evaluate(const int32_t *a, size_t a_len,
 /* ---- Power series ----
 
    The model of a power series.  Each x^k is expanded in T_0 .. T_k, the
-   coefficients are rounded to the nearest unit, a tie towards plus infinity, and
-   the radius is the sum of the absolute rounding differences, rounded up.  The
-   degree stays, even if top coefficients become zero.  Accepted: at every x from
+   coefficients are rounded to the nearest unit, and the radius is the sum of the
+   absolute rounding differences, rounded up.  The degree stays, even if top
+   coefficients become zero.  Accepted: at every x from
    -1 to 1 out allows the exact value of the series.  The radius covers this
    rounding only; docs/FORMAT.md says how the model becomes a load of a job.
    About 11.5 kB of stack.
