@@ -23,3 +23,4 @@ pub mod MirrorAllowed
 pub mod MirroredOperations
 pub mod Examples
 pub mod StripExamples
+pub mod MirrorExamples

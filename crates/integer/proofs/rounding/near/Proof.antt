@@ -9,7 +9,8 @@ use mir.Facts.{toZ-ofZ}
 use Rattle.integer.specs.definitions.Rounding.{parity}
 use Rattle.integer.specs.laws.Machine.{lowest-bit}
 use Rattle.integer.specs.laws.RoundingLaws.{near-at, near-above}
-use Rattle.integer.proofs.Division.{Operands, Left, x-left, lacks-fits, passes-fits, passes, passes-not, next-fits}
+use Rattle.integer.proofs.Division.{Operands}
+use Rattle.integer.proofs.Nearest.{Left, x-left, lacks-fits, passes-fits, passes, passes-not, next-fits}
 use Rattle.integer.proofs.rounding.near.Statement.{statement}
 use Rattle.integer.proofs.rounding.near.Tie as tie
 
