@@ -11,7 +11,7 @@ use Rattle.integer.specs.laws.OrderedRingLaws.{abs-neg}
 use Rattle.chebyshev.specs.definitions.Allows.{allows}
 use Rattle.chebyshev.specs.laws.NegationValues.{value-negated, value-mirrored}
 use Rattle.model.specs.definitions.Allowed.{position, AllowsAt, Allows}
-use Rattle.model.specs.definitions.Mirror.{negatedWhere, negated, mirrored}
+use Rattle.model.specs.definitions.Mirror.{negated, mirrored}
 use Rattle.model.specs.definitions.Models.{scale}
 use Rattle.model.specs.laws.ValueLaws.{valueAt}
 use Rattle.model.specs.declared.types.Model.{Model}

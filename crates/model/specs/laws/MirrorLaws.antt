@@ -5,7 +5,7 @@ use mathlib.Core.Bool.{Bool, true, false, cond}
 use mathlib.Core.List.{List, [], _∷_}
 use Prim.Native.Nat.{ℕ, suc, _+_, _<_}
 use native.Mathlib.Omega.{arith}
-use lib.IntN.{ℤ, pos, negℤ, natAbs, _-ℤ_, _*ℤ_}
+use lib.IntN.{ℤ, pos, natAbs, _-ℤ_, _*ℤ_}
 use Rattle.integer.specs.laws.Difference.{all3, differences}
 use Rattle.integer.specs.definitions.Rounding.{near}
 use Rattle.integer.specs.laws.RoundingLaws.{near-opposite}
@@ -14,7 +14,7 @@ use Rattle.chebyshev.specs.definitions.Negation.{none, negatedIf, negatedFrom}
 use Rattle.chebyshev.specs.laws.NegationLaws.{abs-negated, take-negated, drop-negated, weight-negated, negated-zeros, negated-none}
 use Rattle.model.specs.definitions.Models.{coefficientCount, terms, beyond, good, tooLarge, makeModel, zeroModel}
 use Rattle.model.specs.definitions.Mirror.{negatedWhere, mapOutcome}
-use Rattle.model.specs.definitions.Outcomes.{accepted, refused, outcome, passing}
+use Rattle.model.specs.definitions.Outcomes.{refused, outcome, passing}
 use Rattle.model.specs.definitions.Round.{rounded, roundingLoss}
 use Rattle.model.specs.declared.types.Model.{Model}
 

@@ -6,7 +6,7 @@ use mathlib.Core.Bool.{Bool, true, false, not}
 use mathlib.Core.List.{List, [], _∷_, _++_, map}
 use Prim.Native.Nat.{ℕ, zero, suc, _+_, _-_, _*_}
 use native.Mathlib.Omega.{arith}
-use lib.IntN.{ℤ, pos, negℤ, natAbs, _+ℤ_, _-ℤ_, _*ℤ_}
+use lib.IntN.{ℤ, pos, negℤ, _+ℤ_, _-ℤ_, _*ℤ_}
 use lib.ListN.{length, take, drop, replicate}
 use Rattle.integer.specs.laws.Parts.{abs-neg}
 use Rattle.integer.specs.laws.Difference.{all1, all2, differences}
@@ -16,14 +16,14 @@ use Rattle.integer.specs.definitions.Rounding.{near, upℕ}
 use Rattle.integer.specs.laws.RoundingLaws.{near-opposite}
 use Rattle.chebyshev.specs.definitions.Coefficients.{addLists, subtractLists}
 use Rattle.chebyshev.specs.definitions.Product.{product}
-use Rattle.chebyshev.specs.definitions.Negation.{none, every, odd, negatedIf, negatedFrom}
+use Rattle.chebyshev.specs.definitions.Negation.{every, odd, negatedIf, negatedFrom}
 use Rattle.chebyshev.specs.laws.NegationLaws.{Signs, signs-left, signs-right, signs-odd, product-negated, length-negated, take-negated, drop-negated, weight-negated, negated-append-zeros, negated-every, abs-negated}
 use Rattle.model.specs.definitions.Models.{scale, coefficientCount, productSize, terms, makeModel, zeroModel}
 use Rattle.model.specs.definitions.Mirror.{negatedWhere, negated, mirrored, mapOutcome}
 use Rattle.model.specs.definitions.Multiply.{productList, productDegree, productLoss, productModel, multiplicationPlaces, multiplication}
 use Rattle.model.specs.definitions.Integrate.{doubleFirst, numerators, halved, alternating, integralList, integralModel, integrationPlaces, integration}
-use Rattle.model.specs.definitions.Evaluate.{pointTerm, pointSum, pointError, lowBound, highBound, evaluationPlaces, evaluation}
-use Rattle.model.specs.definitions.Round.{rounded, roundingLoss}
+use Rattle.model.specs.definitions.Evaluate.{pointTerm, pointSum, pointError, lowBound, highBound, evaluation}
+use Rattle.model.specs.definitions.Round.{rounded}
 use Rattle.model.specs.laws.MirrorLaws.{rounded-negated, roundingLoss-negated, terms-negated, weight-of-negated, negated-nowhere, good-negated, tooLarge-negated, zero-negated, outcome-mapped}
 use Rattle.model.specs.declared.types.Model.{Model}
 

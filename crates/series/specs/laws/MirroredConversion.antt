@@ -8,11 +8,11 @@ use Prim.Native.Nat.{ℕ, zero, suc, _+_, _-_, _*_, _/_, _%_, _<_, _≤_}
 use native.Mathlib.Decide.{decLe}
 use native.Mathlib.Nat.{div-add-mod, mod-lt}
 use native.Mathlib.Omega.{arith}
-use lib.IntN.{ℤ, pos, negℤ, _*ℤ_, *ℤ-comm, zero-*ℤ}
-use lib.ListN.{length, getD, take, replicate, length-take, List·getD-eq-default}
+use lib.IntN.{ℤ, pos, _*ℤ_, *ℤ-comm, zero-*ℤ}
+use lib.ListN.{length, getD, replicate, length-take, List·getD-eq-default}
 use Rattle.integer.specs.definitions.Integer.{ℤ-ring}
 use Rattle.integer.specs.definitions.Rounding.{upℕ}
-use Rattle.chebyshev.specs.definitions.Coefficients.{weight, addLists, scaleList}
+use Rattle.chebyshev.specs.definitions.Coefficients.{addLists, scaleList}
 use Rattle.chebyshev.specs.definitions.Negation.{every, odd, negatedIf, negatedFrom}
 use Rattle.chebyshev.specs.laws.NegationLaws.{negated-left, take-negated, drop-negated, weight-negated, negated-append-zeros, negated-lists, odd-twice}
 use Rattle.model.specs.definitions.Mirror.{negatedWhere, negated, mirrored, mapOutcome}
