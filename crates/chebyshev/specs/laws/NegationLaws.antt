@@ -9,7 +9,7 @@ use lib.ListN.{length, take, drop, replicate}
 use Rattle.integer.specs.laws.Parts.{abs-neg}
 use Rattle.integer.specs.laws.Difference.{all1, all2, differences}
 use Rattle.integer.specs.definitions.Integer.{ℤ-ring}
-use Rattle.chebyshev.specs.definitions.Coefficients.{weight, addLists}
+use Rattle.chebyshev.specs.definitions.Coefficients.{weight, addLists, subtractLists}
 use Rattle.chebyshev.specs.definitions.Negation.{none, every, odd, negatedIf, negatedFrom}
 use Rattle.chebyshev.specs.definitions.Product.{distance, addAt, addPair, Walk, visit, addTerm, addTerms, product}
 
@@ -74,11 +74,23 @@ module _ (chosen : ℕ → Bool) where
   negated-append-zeros k n [] = negated-zeros k n
   negated-append-zeros k n (c ∷ a) = ap (λ l. negatedIf (chosen k) c ∷ l) (negated-append-zeros (suc k) n a)
 
-  pub negated-lists : (k : ℕ) (a b : List ℤ) → addLists ℤ-ring (negatedFrom chosen k a) (negatedFrom chosen k b) ≡ negatedFrom chosen k (addLists ℤ-ring a b)
+  pub negated-sum : (k : ℕ) (a b : List ℤ) → addLists ℤ-ring (negatedFrom chosen k a) (negatedFrom chosen k b) ≡ negatedFrom chosen k (addLists ℤ-ring a b)
   unfolding negatedFrom addLists
-  negated-lists k [] b = refl
-  negated-lists k (x ∷ a) [] = refl
-  negated-lists k (x ∷ a) (y ∷ b) = ap₂ _∷_ (negated-add (chosen k) x y) (negated-lists (suc k) a b)
+  negated-sum k [] b = refl
+  negated-sum k (x ∷ a) [] = refl
+  negated-sum k (x ∷ a) (y ∷ b) = ap₂ _∷_ (negated-add (chosen k) x y) (negated-sum (suc k) a b)
+
+  pub negated-difference : (k : ℕ) (a b : List ℤ) → subtractLists ℤ-ring (negatedFrom chosen k a) (negatedFrom chosen k b) ≡ negatedFrom chosen k (subtractLists ℤ-ring a b)
+  unfolding subtractLists negatedFrom
+  negated-difference k a b = ap (addLists ℤ-ring (negatedFrom chosen k a)) (opposites k b) ∙ negated-sum k a (map negℤ b)
+    where
+      swap : (t : Bool) (c : ℤ) → negℤ (negatedIf t c) ≡ negatedIf t (negℤ c)
+      swap true c = refl
+      swap false c = refl
+
+      opposites : (k : ℕ) (b : List ℤ) → map negℤ (negatedFrom chosen k b) ≡ negatedFrom chosen k (map negℤ b)
+      opposites k [] = refl
+      opposites k (c ∷ b) = ap₂ _∷_ (swap (chosen k) c) (opposites (suc k) b)
 
   addAt-negated : (m : ℕ) (c : List ℤ) (k : ℕ) (v : ℤ) → negatedFrom chosen m (addAt ℤ-ring c k v) ≡ addAt ℤ-ring (negatedFrom chosen m c) k (negatedIf (chosen (m + k)) v)
   unfolding negatedFrom addAt

@@ -4,7 +4,7 @@
 use mathlib.Core.Path.{_≡_, refl, sym, _∙_, ap, ap₂}
 use mathlib.Core.Bool.{Bool, true, false, not}
 use mathlib.Core.List.{List, [], _∷_, _++_, map}
-use Prim.Native.Nat.{ℕ, zero, suc, _+_, _-_, _*_}
+use Prim.Native.Nat.{ℕ, zero, suc, _+_, _-_, _*_, max}
 use native.Mathlib.Omega.{arith}
 use lib.IntN.{ℤ, pos, negℤ, _+ℤ_, _-ℤ_, _*ℤ_}
 use lib.ListN.{length, take, drop, replicate}
@@ -14,18 +14,45 @@ use Rattle.integer.specs.laws.IntegerSolver.{reifyℤ, solveℤ}
 use Rattle.integer.specs.definitions.Integer.{ℤ-ring}
 use Rattle.integer.specs.definitions.Rounding.{near, upℕ}
 use Rattle.integer.specs.laws.RoundingLaws.{near-opposite}
-use Rattle.chebyshev.specs.definitions.Coefficients.{addLists, subtractLists}
+use Rattle.chebyshev.specs.definitions.Coefficients.{subtractLists}
 use Rattle.chebyshev.specs.definitions.Product.{product}
 use Rattle.chebyshev.specs.definitions.Negation.{every, odd, negatedIf, negatedFrom}
-use Rattle.chebyshev.specs.laws.NegationLaws.{Signs, signs-left, signs-right, signs-odd, product-negated, length-negated, take-negated, drop-negated, weight-negated, negated-append-zeros, negated-every, abs-negated}
+use Rattle.chebyshev.specs.laws.NegationLaws.{Signs, signs-left, signs-right, signs-odd, product-negated, length-negated, take-negated, drop-negated, weight-negated, negated-append-zeros, negated-every, negated-sum, negated-difference, abs-negated}
 use Rattle.model.specs.definitions.Models.{scale, coefficientCount, productSize, terms, makeModel, zeroModel}
 use Rattle.model.specs.definitions.Mirror.{negatedWhere, negated, mirrored, mapOutcome}
+use Rattle.model.specs.definitions.Add.{sumModel, differenceModel, additionPlaces, subtractionPlaces, addition, subtraction}
 use Rattle.model.specs.definitions.Multiply.{productList, productDegree, productLoss, productModel, multiplicationPlaces, multiplication}
 use Rattle.model.specs.definitions.Integrate.{doubleFirst, numerators, halved, alternating, integralList, integralModel, integrationPlaces, integration}
 use Rattle.model.specs.definitions.Evaluate.{pointTerm, pointSum, pointError, lowBound, highBound, evaluation}
 use Rattle.model.specs.definitions.Round.{rounded}
 use Rattle.model.specs.laws.MirrorLaws.{rounded-negated, roundingLoss-negated, terms-negated, weight-of-negated, negated-nowhere, good-negated, tooLarge-negated, zero-negated, outcome-mapped}
 use Rattle.model.specs.declared.types.Model.{Model}
+
+-- ---- add and subtract, both operands negated at the same places
+
+module _ (chosen : ℕ → Bool) (a b : Model) where
+  abbrev formed : List ℤ → Model
+  formed cs = makeModel (max (a .degree) (b .degree)) cs (a .radius + b .radius)
+
+  sumModel-negated : sumModel (negatedWhere chosen a) (negatedWhere chosen b) ≡ negatedWhere chosen (sumModel a b)
+  unfolding sumModel
+  sumModel-negated = ap formed (negated-sum chosen 0 (a .coefficients) (b .coefficients))
+
+  pub addition-negated : addition (negatedWhere chosen a) (negatedWhere chosen b) ≡ mapOutcome (negatedWhere chosen) (addition a b)
+  unfolding addition
+  addition-negated =
+      rw (good-negated chosen a, good-negated chosen b, sumModel-negated, tooLarge-negated chosen (sumModel a b))
+      (outcome-mapped (negatedWhere chosen) (additionPlaces a b) (sumModel a b) zeroModel (zero-negated chosen))
+
+  differenceModel-negated : differenceModel (negatedWhere chosen a) (negatedWhere chosen b) ≡ negatedWhere chosen (differenceModel a b)
+  unfolding differenceModel
+  differenceModel-negated = ap formed (negated-difference chosen 0 (a .coefficients) (b .coefficients))
+
+  pub subtraction-negated : subtraction (negatedWhere chosen a) (negatedWhere chosen b) ≡ mapOutcome (negatedWhere chosen) (subtraction a b)
+  unfolding subtraction
+  subtraction-negated =
+      rw (good-negated chosen a, good-negated chosen b, differenceModel-negated, tooLarge-negated chosen (differenceModel a b))
+      (outcome-mapped (negatedWhere chosen) (subtractionPlaces a b) (differenceModel a b) zeroModel (zero-negated chosen))
 
 -- ---- multiply
 
@@ -82,20 +109,16 @@ multiplication-mirrored d a b = multiplication-negated signs-odd a b d
 
 -- ---- integrate
 
-opposite-lists : (a b : List ℤ) → subtractLists ℤ-ring (map negℤ a) (map negℤ b) ≡ map negℤ (subtractLists ℤ-ring a b)
-unfolding subtractLists addLists
-opposite-lists [] [] = refl
-opposite-lists [] (y ∷ b) = ap (λ l. negℤ (negℤ y) ∷ l) (opposite-lists [] b)
-opposite-lists (x ∷ a) [] = refl
-opposite-lists (x ∷ a) (y ∷ b) = ap₂ _∷_ (turn x y) (opposite-lists a b)
-  where
-    turn : (x y : ℤ) → negℤ x +ℤ negℤ (negℤ y) ≡ negℤ (x +ℤ negℤ y)
-    turn = all2 _ (simp differences (omega arith))
+opposite-difference : (a b : List ℤ) → subtractLists ℤ-ring (map negℤ a) (map negℤ b) ≡ map negℤ (subtractLists ℤ-ring a b)
+opposite-difference a b =
+    ap₂ (subtractLists ℤ-ring) (sym (negated-every 0 a)) (sym (negated-every 0 b))
+    ∙ negated-difference every 0 a b
+    ∙ negated-every 0 (subtractLists ℤ-ring a b)
 
 numerators-opposite : (cs : List ℤ) → numerators (map negℤ cs) ≡ map negℤ (numerators cs)
 unfolding numerators doubleFirst
 numerators-opposite cs =
-    ap₂ (subtractLists ℤ-ring) (doubled cs) (dropped 2 cs) ∙ opposite-lists (doubleFirst cs) (drop 2 cs)
+    ap₂ (subtractLists ℤ-ring) (doubled cs) (dropped 2 cs) ∙ opposite-difference (doubleFirst cs) (drop 2 cs)
   where
     twice : (a : ℤ) → pos 2 *ℤ negℤ a ≡ negℤ (pos 2 *ℤ a)
     twice = all1 _ (simp differences (omega arith))

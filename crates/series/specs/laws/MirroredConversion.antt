@@ -14,7 +14,7 @@ use Rattle.integer.specs.definitions.Integer.{ℤ-ring}
 use Rattle.integer.specs.definitions.Rounding.{upℕ}
 use Rattle.chebyshev.specs.definitions.Coefficients.{addLists, scaleList}
 use Rattle.chebyshev.specs.definitions.Negation.{every, odd, negatedIf, negatedFrom}
-use Rattle.chebyshev.specs.laws.NegationLaws.{negated-left, take-negated, drop-negated, weight-negated, negated-append-zeros, negated-lists, odd-twice}
+use Rattle.chebyshev.specs.laws.NegationLaws.{negated-left, take-negated, drop-negated, weight-negated, negated-append-zeros, negated-sum, odd-twice}
 use Rattle.model.specs.definitions.Mirror.{negatedWhere, negated, mirrored, mapOutcome}
 use Rattle.model.specs.definitions.Models.{maxDegree, coefficientCount, makeModel, zeroModel}
 use Rattle.model.specs.definitions.Outcomes.{refused}
@@ -83,7 +83,7 @@ module _ (chosen : ℕ → Bool) (fits : Fits chosen) where
   expanded-negated k (p ∷ ps) h =
       ap₂ (addLists ℤ-ring) (scale-negated chosen (chosen k) p 0 (expansionRow k) (λ i. rw (start i) (fits k i (omega arith))))
       (expanded-negated (suc k) ps (omega arith))
-      ∙ negated-lists chosen 0 (scaleList ℤ-ring p (expansionRow k)) (expandedFrom (suc k) ps)
+      ∙ negated-sum chosen 0 (scaleList ℤ-ring p (expansionRow k)) (expandedFrom (suc k) ps)
     where
       start : (i : ℕ) → 0 + i ≡ i
       start i = omega arith
