@@ -86,10 +86,10 @@ extern "C" {
 
 /* ---- Version ---- */
 
-#define FERRUNTZO_VERSION_MAJOR 1
-#define FERRUNTZO_VERSION_MINOR 1
-#define FERRUNTZO_VERSION_PATCH 2
-#define FERRUNTZO_VERSION "1.1.2"
+#define FERRUNTZO_VERSION_MAJOR 2
+#define FERRUNTZO_VERSION_MINOR 0
+#define FERRUNTZO_VERSION_PATCH 0
+#define FERRUNTZO_VERSION "2.0.0"
 
 /* ---- Limits ---- */
 

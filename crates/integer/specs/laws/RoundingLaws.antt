@@ -146,7 +146,7 @@ floor-rest n d h =
     let x = n -ℤ m in
     omega (arith, difference n m, apart x, ≤-parts m n .0 (floor-le n d h), <-parts n (m +ℤ pos d) .0 (floor-lt n d h), sum m (pos d), apart (m +ℤ pos d))
 
-pub near-nearest : (n : ℤ) (d : ℕ) → 0 < d → Nearest n d (near n d)
+near-nearest : (n : ℤ) (d : ℕ) → 0 < d → Nearest n d (near n d)
 unfolding near
 near-nearest n d h = pick (leb (2 * natAbs x + parity c) d) refl
   where
@@ -212,10 +212,15 @@ nearest-is : (n c : ℤ) (d : ℕ) → 0 < d → Nearest n d c → c ≡ near n 
 nearest-is n c d h p =
     ℤ-ordered .le-antisym c (near n d) (nearest-le n c (near n d) d h p (near-nearest n d h)) (nearest-le n (near n d) c d h (near-nearest n d h) p)
 
+-- nearest: |2(c d − n)| ≤ d
+pub near-error : (n : ℤ) (d : ℕ) → 0 < d → 2 * natAbs (near n d *ℤ pos d -ℤ n) ≤ d
+near-error n d h = omega (arith, near-nearest n d h)
+
+-- a tie goes to the even number
 pub near-even : (n : ℤ) (d : ℕ) → 0 < d → 2 * natAbs (near n d *ℤ pos d -ℤ n) ≡ d → parity (near n d) ≡ 0
 near-even n d h e = omega (arith, near-nearest n d h)
 
--- nothing else is nearest, and even at a tie
+-- and nothing else is nearest, and even at a tie
 pub near-unique : (n c : ℤ) (d : ℕ) → 0 < d → 2 * natAbs (c *ℤ pos d -ℤ n) ≤ d → (2 * natAbs (c *ℤ pos d -ℤ n) ≡ d → parity c ≡ 0) → c ≡ near n d
 near-unique n c d h p even = nearest-is n c d h (pick (eqb (2 * natAbs (c *ℤ pos d -ℤ n)) d) refl)
   where
@@ -232,10 +237,6 @@ near-opposite n d h =
   where
     turn : (n c d : ℤ) → negℤ c *ℤ d -ℤ negℤ n ≡ negℤ (c *ℤ d -ℤ n)
     turn = all3 _ (simp differences (omega arith))
-
--- |2(c d − n)| ≤ d
-pub near-error : (n : ℤ) (d : ℕ) → 0 < d → 2 * natAbs (near n d *ℤ pos d -ℤ n) ≤ d
-near-error n d h = omega (arith, near-nearest n d h)
 
 -- |c d − n| ≤ |n|: 0 is a rival, and where c is not 0, |n| ≥ |c| d − d/2
 pub near-closer : (n : ℤ) (d : ℕ) → 0 < d → natAbs (near n d *ℤ pos d -ℤ n) ≤ natAbs n
