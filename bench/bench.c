@@ -10,7 +10,7 @@
      bench stack JOB..          bytes of stack that a call writes to
      bench former JOB..         the largest deviation that the former check finds
 
-   Every other mode first compares all answers and areas of the three versions.  The last
+   count, time and stack first compare all answers and areas of the three versions.  The last
    JOB must hold a load and 31 roots; its first 1, 4 and 16 results are cases too. */
 #define _POSIX_C_SOURCE 200809L
 #include "ferruntzo.h"
@@ -138,8 +138,8 @@ static void geometric(int32_t *model, int degree, double first, double term, dou
         model[1 + k] = (int32_t)lround(term * FERRUNTZO_S * pow(ratio, k));
 }
 
-/* Every operation and test and the conversion of a series, every polynomial of one degree; but
-   an integral, whose degree is one more than the integrand's, has the degree itself. */
+/* Multiply, integrate, evaluate, both tests and the conversion of a series, every polynomial of
+   one degree; the integrand has one less, so that its integral has that degree. */
 static void add_degree(int degree)
 {
     struct bench_case *product = new_case(MULTIPLY, "multiply", degree);

@@ -29,19 +29,20 @@
 
    A candidate area holds 34 numbers: a model without its radius.
 
-   Products, integrals, evaluations and models of series are rounded to the
-   nearest whole number, a tie to the even one.  So a mirrored curve has mirrored
-   answers: negating every coefficient of one factor, of an integrand or of a
-   series negates those of the result and keeps its radius, its degree and the
-   number answered; negating the odd coefficients of both factors or of a series
-   (x for -x) negates the odd ones of the result; and negating p and the odd
-   coefficients keeps both bounds of an evaluation.  (-2^31 has no negation; a
-   model or series with it is refused.)
-
    A series area holds 34 numbers: the degree n (0 to 32) and 33 coefficients
    p_0 .. p_32, in units, of the power series (p_0 + p_1 x + .. + p_n x^n) / S.
    Coefficients beyond the degree are zero, the weight |p_0| + .. + |p_32| is at
    most 2^28.
+
+   The coefficients of products, integrals and models of series, and the T_k(x)
+   inside an evaluation, are rounded to the nearest whole number, a tie to the even
+   one; bounds are rounded outwards.  So a mirrored curve has mirrored answers:
+   negating every coefficient of one factor, of an integrand or of a series negates
+   those of the result and keeps its radius, its degree and the number answered;
+   negating the odd coefficients of both factors or of a series (-x for x) negates
+   the odd ones of the result; and negating p and the odd coefficients keeps both
+   bounds of an evaluation.  (-2^31 has no negation; a model or series with it, and
+   a point of it, is refused.)
 
    AREAS
 

@@ -284,7 +284,7 @@ TIED_SHIFTS = {4: 2, 9: 3, 13: 5, 14: 6, 16: 10, 17: 15, 18: 30}
 
 
 def fixed_tied_evaluate():
-    """One large coefficient, since a tie shows only in one that is multiplied by 2^26 or more."""
+    """One large coefficient: a t_k that is one off moves the bounds by a_k/2^30 only."""
     for shift, k in TIED_SHIFTS.items():
         for odd in range(1, min(24, S >> shift), 2):
             for place in sorted({k, min(k + 2, MAX_DEGREE), MAX_DEGREE - 1, MAX_DEGREE}):

@@ -269,7 +269,7 @@ def check_ties(ties, total):
     for entry in rounding:
         assert ties[entry][True] and ties[entry][False], f'{entry}: no tie above zero, or none below'
     tied = sum(ties[entry]['cases'] for entry in ties)
-    assert set(ties) != set(ENTRIES) or total < TIED_OF or tied >= TIED, f'{tied} cases with a tie'
+    assert set(ties) != set(ENTRIES) or tied * TIED_OF >= TIED * min(total, TIED_OF), f'{tied} cases with a tie'
     return ', '.join([*(f'{entry} {ties[entry]["cases"]} ({ties[entry][True]} with one above zero, '
                         f'{ties[entry][False]} below)' for entry in rounding), f'{tied} in all'])
 

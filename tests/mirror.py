@@ -1,9 +1,9 @@
-"""The mirror (document 02, S-11) through the library, without the oracle: a call and its twin, some of whose coefficients are
-negated, must have answers that are each other's mirror.
+"""The mirror (document 02, S-11) through the library, without the oracle: a call and its counterpart, some of whose
+coefficients are negated, must have answers that are each other's mirror.
 
   mirror.py                                    plain.c
   mirror.py --library libferruntzo.a           the product
-  mirror.py --program target/bin/jobcheck      twins of jobs must also print the same text
+  mirror.py --program target/bin/jobcheck      counterparts of jobs must also print the same text
   mirror.py --plant                            spoils an answer of every kind; status 1 then says that each was found
 
 Exits with 0 when every pair agrees, 1 when any does not, 2 when something could not be built or run, or the pairs are too few.
@@ -37,7 +37,7 @@ from slips import NEAR, TIES_DOWN, TIES_UP, spoiled_plain
 
 SAME, NEGATED = (1,) * COEFFICIENTS, (-1,) * COEFFICIENTS
 MIRRORED = tuple((-1) ** k for k in range(COEFFICIENTS))
-# Kinds of twins: the entry, signs of the inputs' coefficients, signs of the answer's.
+# Kinds of counterparts: the entry, signs of the inputs' coefficients, signs of the answer's.
 KINDS = {
     'multiply, first negated': ('multiply', (NEGATED, SAME), NEGATED),
     'multiply, second negated': ('multiply', (SAME, NEGATED), NEGATED),
@@ -59,12 +59,12 @@ class Pair(NamedTuple):
     """signs: those of the coefficients of each model of the answer."""
     kind: str
     case: Case
-    twin: Case
+    counterpart: Case
     signs: tuple
 
 
 def opposite(n):
-    """-2^31 has no negation in 32 bits: a model with it is bad, a point outside, and neither has a twin."""
+    """-2^31 has no negation in 32 bits: a model with it is bad, a point outside, and neither has a counterpart."""
     if -n > HIGHEST:
         raise OverflowError
     return -n
@@ -139,7 +139,7 @@ def load_signs(rng, commands):
     return [(bits & mask).bit_count() % 2 == 1 for mask in masks]
 
 
-def job_twins(rng, case):
+def job_counterparts(rng, case):
     """The job with some loads negated, and the job with the odd coefficients of all its blocks negated."""
     edition, commands, rest = read_commands(*case.inputs)
     results = [NEGATED if negated else SAME for negated in load_signs(rng, commands)]
@@ -153,10 +153,10 @@ def job_twins(rng, case):
 
 # ---- Pairs ------------------------------------------------------------------------------
 
-def twins(rng, case):
-    """Each twin of a call: its kind, the call, the signs of the answer."""
+def counterparts(rng, case):
+    """Each counterpart of a call: its kind, the call, the signs of the answer."""
     if case.entry == 'check':
-        for kind, job, signs in job_twins(rng, case):
+        for kind, job, signs in job_counterparts(rng, case):
             yield kind, case._replace(inputs=(job,)), signs
     if case.entry == 'evaluate':
         case = case._replace(scalar=opposite(case.scalar))
@@ -166,7 +166,7 @@ def twins(rng, case):
 
 
 def drawn_cases(rng, wanted):
-    """Fixed calls of each entry that has twins, and as many random ones as wanted; the example jobs, and jobs with ties."""
+    """Fixed calls of each entry that has counterparts, as many random ones as wanted; the example jobs, and jobs with ties."""
     fixed = {**cases.FIXED, **job_cases.FIXED, **series_cases.FIXED}
     drawn = {**cases.RANDOM, 'check': job_cases.RandomJobs(), **series_cases.RANDOM}
     for entry in dict.fromkeys(ENTRY.values()):
@@ -187,9 +187,9 @@ def drawn_cases(rng, wanted):
 def drawn_pairs(rng, wanted):
     for case in drawn_cases(rng, wanted):
         try:
-            for kind, twin, signs in twins(rng, case):
-                if twin != case:
-                    yield Pair(kind, case, twin, tuple(signs))
+            for kind, counterpart, signs in counterparts(rng, case):
+                if counterpart != case:
+                    yield Pair(kind, case, counterpart, tuple(signs))
         except OverflowError:
             continue
 
@@ -218,7 +218,7 @@ def read_answer(case, areas, data):
 
 
 def turned(answer, signs):
-    """What the twin of a call with this answer has to answer."""
+    """What the counterpart of a call with this answer has to answer."""
     rows = [*signs, *[SAME] * (MAX_RESULTS - len(signs))]
     return answer._replace(models=[[m[0], *map(mul, row, m[1:PLACE_RADIUS]), m[PLACE_RADIUS]]
                                    for m, row in zip(answer.models, rows)])
@@ -236,7 +236,7 @@ def agree(pair, first, second):
 
 
 def told(pair, first, second):
-    """How the twin's answer differs, in words."""
+    """How the counterpart's answer differs, in words."""
     expected = turned(first, pair.signs)
     models = [(i, m, n) for i, (m, n) in enumerate(zip(second.models, expected.models)) if m != n]
     return (f'number {second.number} with {second.others} instead of {expected.number} with {expected.others}'
@@ -264,7 +264,8 @@ def spoil(pairs, answers):
 # ---- The program --------------------------------------------------------------------------
 
 def same_text(program, pair):
-    texts = [subprocess.run([program], input=case.inputs[0], stdout=subprocess.PIPE).stdout for case in (pair.case, pair.twin)]
+    texts = [subprocess.run([program], input=case.inputs[0], stdout=subprocess.PIPE).stdout
+             for case in (pair.case, pair.counterpart)]
     return texts[0] == texts[1] != b''
 
 
@@ -301,9 +302,10 @@ def check_counts(pairs, calls, answers):
         missing = {SHORT_AREA, *WITNESSES[entry]} - set(numbers)
         assert not missing, f'{kind}: never {missing}'
         assert numbers.total() >= PAIRS and numbers[0] >= ACCEPTED and min(ties) >= SHOWN, kind
-    refused = sum(sign_refused(pair, *both) for pair, both in zip(pairs, answers))
-    print(f'{MIRRORED_JOB}: {refused} refused with 7 against 5')
-    assert refused, 'no root whose helper changes its sign'
+    refused = Counter((first.number, second.number) for pair, (first, second) in zip(pairs, answers)
+                      if sign_refused(pair, first, second))
+    print(f'{MIRRORED_JOB}: {refused.total()} refused with 5 against 7, or 7 against 5')
+    assert len(refused) == 2, 'no root whose helper changes its sign, to plus or to minus'
 
 
 def main():
@@ -317,7 +319,7 @@ def main():
     options = parser.parse_args()
     rng = Random(options.seed)
     pairs = list(drawn_pairs(rng, options.cases))
-    calls = [(case, lent_areas(case, rng, True)) for pair in pairs for case in (pair.case, pair.twin)]
+    calls = [(case, lent_areas(case, rng, True)) for pair in pairs for case in (pair.case, pair.counterpart)]
     answers = answers_by(options.library, options.plain, calls)
     planted = spoil(pairs, answers) if options.plant else set()
     different = {i for i, (pair, both) in enumerate(zip(pairs, answers)) if not agree(pair, *both)}

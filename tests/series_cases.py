@@ -30,7 +30,7 @@ def two_powers(first, second, top):
 GROWN = (series([0] * 14 + [-152] + [0] * 16 + [268435304]), two_powers(199, LIMIT - 199, 29), two_powers(198, LIMIT - 199, 29))
 NOT_GROWN = (series([0] * 14 + [-152] + [0] * 16 + [268435303]), series([0] * 14 + [-151] + [0] * 16 + [268435304]),
              two_powers(197, LIMIT - 199, 29), two_powers(199, LIMIT - 200, 29), power(31, LIMIT), power(31, -LIMIT))
-# Its coefficients are ties: weight 2^28 by the even rule, four more by ties upwards or away from zero.
+# Eight of its coefficients are ties: weight 2^28 by the even rule, four more by ties upwards or away from zero.
 TIED_AT_LIMIT = power(30, LIMIT)
 
 
@@ -174,7 +174,7 @@ def cut(n, d):
     return n // d if n >= 0 else -(-n // d)
 
 
-def tied(choose):
+def ties_to(choose):
     """The nearest whole number, a tie between q and q + 1 going to choose(q)."""
     def rule(n, d):
         q, rest = divmod(n, d)
@@ -182,8 +182,8 @@ def tied(choose):
     return rule
 
 
-WRONG_TIES = {'ties upwards': tied(lambda q: q + 1), 'ties downwards': tied(lambda q: q),
-              'ties away from zero': tied(lambda q: q + (q >= 0)), 'ties to the odd number': tied(lambda q: q + 1 - q % 2)}
+WRONG_TIES = {'ties upwards': ties_to(lambda q: q + 1), 'ties downwards': ties_to(lambda q: q),
+              'ties away from zero': ties_to(lambda q: q + (q >= 0)), 'ties to the odd number': ties_to(lambda q: q + 1 - q % 2)}
 WRONG_RULES = {'cutting': cut, **WRONG_TIES}
 
 

@@ -1,5 +1,6 @@
 """Tests of `ferruntzo solve`: every radius covers the error against the margin itself, sampled in exact
-arithmetic, for each shipped stretch and for random margins; and curves that cannot be used are named.
+arithmetic, for each shipped stretch and for random margins; mirrored margins give mirrored paths; and curves that cannot be
+used are named.
 
   tool_solve.py [--tool tools/ferruntzo] [--jobcheck target/bin/jobcheck] [--samples K] [--seed N]
 """
@@ -169,6 +170,7 @@ def mirrored_margins(rng, folder, count):
             path_x, path_y = one.results[-2:]
             negated = path_x._replace(coefficients=[-c for c in path_x.coefficients])
             expect('a mirrored margin', two.results[-2:] == [negated, path_y] and two.job.text() == one.job.text())
+    expect('mirrored margins', stretches >= count, stretches)
     print(f'mirrored margins: {stretches} stretches')
 
 

@@ -84,7 +84,7 @@ fn mirrored(m: &Model) -> Model {
     Model::from_numbers(numbers)
 }
 
-/// At p = 512·odd the third of the rounded T_k(p) is a tie.
+/// At p = 512·odd T_3(p) is rounded at a tie.
 #[test]
 fn mirrored_curves() {
     for odd in [1, 3, 5, 11, -9, 1023] {

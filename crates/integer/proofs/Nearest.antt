@@ -15,16 +15,16 @@ use Rattle.integer.specs.definitions.Rounding.{floor, parity}
 use Rattle.integer.specs.laws.RoundingLaws.{floor-le, floor-rest, parity-small}
 use Rattle.integer.proofs.Division.{Operands, divisor}
 
-pub record Left (o : Operands) : Type 0 where
+pub record FloorAndRest (o : Operands) : Type 0 where
   pub c : ℤ
   pub x : ℤ
   pub fits-c : SFits w64 c
   pub c-is : c ≡ floor (o .n) (natAbs (o .d))
   pub x-is : x ≡ o .n -ℤ floor (o .n) (natAbs (o .d)) *ℤ o .d
 
-module _ (o : Operands) (l : Left o) where
+module _ (o : Operands) (l : FloorAndRest o) where
   open Operands o using (n, d, fits-n, fits-d)
-  open Left l using (c, x)
+  open FloorAndRest l using (c, x)
 
   abbrev odd : ℕ
   odd = parity c
@@ -41,13 +41,13 @@ module _ (o : Operands) (l : Left o) where
   small : (x ⁻ ≡ 0) × (x ⁺ < natAbs d)
   small = subst (λ z. (z ⁻ ≡ 0) × (z ⁺ < natAbs d)) (sym x-left) (floor-rest n (natAbs d) at-least-one)
 
-  pub lacks-fits : SFits w64 (d -ℤ x)
-  lacks-fits =
+  pub missing-fits : SFits w64 (d -ℤ x)
+  missing-fits =
       let z = d -ℤ x in
       fits w64 z (omega (arith, small, difference d x, within w64 d fits-d)) (omega (arith, small, difference d x, positive, abs d, apart d, apart z))
 
-  pub passes-fits : SFits w64 (x +ℤ pos odd)
-  passes-fits =
+  pub sum-fits : SFits w64 (x +ℤ pos odd)
+  sum-fits =
       let z = x +ℤ pos odd in
       fits w64 z (omega (arith, small, parity-small c, sum x (pos odd), positive, abs d, apart d, within w64 d fits-d))
       (omega (arith, small, sum x (pos odd)))

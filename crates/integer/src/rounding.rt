@@ -34,7 +34,7 @@ fn modulo(n: i64, d: i64) -> i64
 }
 
 // The nearest whole number to n / d, a tie going to the even one, for every n. What is left above c·d is compared with what
-// lacks to (c + 1)·d: twice n, or twice a remainder, need not fit.
+// is missing up to (c + 1)·d: twice n, or twice a remainder, need not fit.
 pub fn near(n: i64, d: i64) -> i64
     requires { ⌜ pos 0 <ℤ d ⌝ }
     ensures { λ r. ⌜ r ≡ nearOf n (natAbs d) ⌝ }

@@ -1,4 +1,4 @@
--- Lists of which some coefficients are negated (Negation.antt): lengths, parts, weights and sums; their products, and their values.
+-- Lists of which some coefficients are negated (Negation.antt): lengths, parts, weights and sums; their products.
 use mathlib.Core.Path.{_≡_, refl, sym, _∙_, ap, ap₂}
 use mathlib.Core.Bool.{Bool, true, false, not}
 use mathlib.Core.List.{List, [], _∷_, _++_, map}

@@ -22,6 +22,6 @@ abbrev pub parity : ℤ → ℕ
 parity c = natAbs c % 2
 
 -- "Near" means the nearest whole number (01), and "sends a tie to the even whole number" (02, S-11): c below or at n/d if n lies
--- less than half of d above c·d, or just half and c is even; else c + 1.
+-- less than half of d above c·d, or exactly half and c is even; else c + 1.
 unfoldable pub near : ℤ → ℕ → ℤ
 near n d = let c = floor n d in cond (leb (2 * natAbs (n -ℤ c *ℤ pos d) + parity c) d) c (c +ℤ pos 1)

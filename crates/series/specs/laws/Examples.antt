@@ -41,3 +41,13 @@ Ties =
 pub ties : Ties
 unfolding conversion goodSeries seriesModel expandedFrom expansionRow neighbourSums addLists scaleList rounded roundingLoss near floor upℕ passing tooLarge weight zeroModel odd negatedFrom
 ties = (refl, refl, refl, refl)
+
+-- a coefficient −2^31, whose negation 32 bits do not hold, is refused on both sides
+abbrev lowest : Series
+lowest = series 1 (pos 0 ∷ negsuc 2147483647 ∷ [])
+
+pub lowest-refused : (conversion lowest ≡ refused 14 zeroModel)
+    × (conversion (negatedSeries lowest) ≡ refused 14 zeroModel)
+    × (conversion (mirroredSeries lowest) ≡ refused 14 zeroModel)
+unfolding conversion goodSeries passing weight odd negatedFrom
+lowest-refused = (refl, refl, refl)

@@ -10,7 +10,7 @@ use Rattle.integer.specs.definitions.Rounding.{parity}
 use Rattle.integer.specs.laws.Machine.{lowest-bit}
 use Rattle.integer.specs.laws.RoundingLaws.{near-at, near-above}
 use Rattle.integer.proofs.Division.{Operands}
-use Rattle.integer.proofs.Nearest.{Left, x-left, lacks-fits, passes-fits, passes, passes-not, next-fits}
+use Rattle.integer.proofs.Nearest.{FloorAndRest, x-left, missing-fits, sum-fits, passes, passes-not, next-fits}
 use Rattle.integer.proofs.rounding.near.Statement.{statement}
 use Rattle.integer.proofs.rounding.near.Tie as tie
 
@@ -31,7 +31,7 @@ module _ (m : tie.After-floor) where
   fits-x : SFits w64 x
   fits-x = record { sfits = m .before .modulo .ok }
 
-  abbrev l : Left o
+  abbrev l : FloorAndRest o
   l = record {
     c = c;
     x = x;
@@ -46,7 +46,7 @@ module _ (m : tie.After-floor) where
 passed : (t : tie.Then1) → let m = t .before in natAbs (o m .d) < 2 * natAbs (x m) + parity (c m)
 passed t =
     let m = t .before in
-    passes (o m) (l m) (simp (toZ-ofZ (o m .fits-d), toZ-ofZ (fits-x m), odd-is m, toZ-ofZ (lacks-fits (o m) (l m)), toZ-ofZ (passes-fits (o m) (l m))) at (t .if1 .taken))
+    passes (o m) (l m) (simp (toZ-ofZ (o m .fits-d), toZ-ofZ (fits-x m), odd-is m, toZ-ofZ (missing-fits (o m) (l m)), toZ-ofZ (sum-fits (o m) (l m))) at (t .if1 .taken))
 
 returns : tie.Need-returns
 returns t =
@@ -59,10 +59,10 @@ returns-2 t =
     let m = t .before in
     simp (toZ-ofZ (l m .fits-c))
     (near-at (o m .n) (c m) (x m) (natAbs (o m .d)) (l m .c-is) (x-left (o m) (l m))
-    (passes-not (o m) (l m) (simp (toZ-ofZ (o m .fits-d), toZ-ofZ (fits-x m), odd-is m, toZ-ofZ (lacks-fits (o m) (l m)), toZ-ofZ (passes-fits (o m) (l m))) at (t .if1 .left))))
+    (passes-not (o m) (l m) (simp (toZ-ofZ (o m .fits-d), toZ-ofZ (fits-x m), odd-is m, toZ-ofZ (missing-fits (o m) (l m)), toZ-ofZ (sum-fits (o m) (l m))) at (t .if1 .left))))
 
 pub near-spec : {M : Type 1} → statement M
 near-spec =
     tie.close (tie.spec (λ s κs. simp (toZ-ofZ (s .fits .d)) (s .pre)) (λ a κs. simp (toZ-ofZ (a .before .fits .d)) (a .before .pre))
-    (λ m. simp (toZ-ofZ (o m .fits-d), toZ-ofZ (fits-x m)) (lacks-fits (o m) (l m))) (λ m. simp (toZ-ofZ (fits-x m), odd-is m) (passes-fits (o m) (l m)))
+    (λ m. simp (toZ-ofZ (o m .fits-d), toZ-ofZ (fits-x m)) (missing-fits (o m) (l m))) (λ m. simp (toZ-ofZ (fits-x m), odd-is m) (sum-fits (o m) (l m)))
     (λ t. simp (toZ-ofZ (l (t .before) .fits-c)) (next-fits (o (t .before)) (l (t .before)) (passed t))) returns returns-2)
