@@ -4,11 +4,13 @@
 
      bench count JOB..          calls each case with each version and writes down each
                                 call (entry, case, version); for callgrind
+     bench alone JOB..          the same with the library only, which may be an earlier one
+                                with other answers: it is compared with nothing
      bench time MILLISECONDS JOB..   best time of a call, versions taken in turn
      bench stack JOB..          bytes of stack that a call writes to
      bench former JOB..         the largest deviation that the former check finds
 
-   Every mode first compares all answers and areas of the three versions.  The last
+   count, time and stack first compare all answers and areas of the three versions.  The last
    JOB must hold a load and 31 roots; its first 1, 4 and 16 results are cases too. */
 #define _POSIX_C_SOURCE 200809L
 #include "ferruntzo.h"
@@ -23,6 +25,8 @@
 
 typedef uint32_t multiply_entry(const int32_t *, size_t, const int32_t *, size_t, uint32_t,
                                 int32_t *, size_t);
+typedef uint32_t integrate_entry(const int32_t *, size_t, int32_t *, size_t);
+typedef uint32_t evaluate_entry(const int32_t *, size_t, int32_t, int64_t *, size_t);
 typedef uint32_t quotient_entry(const int32_t *, size_t, const int32_t *, size_t,
                                 const int32_t *, size_t, const int32_t *, size_t,
                                 int64_t *, size_t, int32_t *, size_t, uint64_t *, size_t);
@@ -33,6 +37,8 @@ typedef uint32_t check_entry(const uint8_t *, size_t, int32_t *, size_t, int64_t
                              uint32_t *, size_t);
 typedef uint32_t from_series_entry(const int32_t *, size_t, int32_t *, size_t);
 multiply_entry plain2_multiply, plain3_multiply;
+integrate_entry plain2_integrate, plain3_integrate;
+evaluate_entry plain2_evaluate, plain3_evaluate;
 quotient_entry plain2_quotient, plain3_quotient;
 root_entry plain2_root, plain3_root;
 check_entry plain2_check, plain3_check;
@@ -41,6 +47,8 @@ from_series_entry plain2_from_series, plain3_from_series;
 struct version {
     const char *name;
     multiply_entry *multiply;
+    integrate_entry *integrate;
+    evaluate_entry *evaluate;
     quotient_entry *quotient;
     root_entry *root;
     check_entry *check;
@@ -50,16 +58,19 @@ struct version {
 enum { LIBRARY, PLAIN_O2, PLAIN_O3, FORMER, VERSIONS };
 
 static const struct version versions[VERSIONS] = {
-    {"library", ferruntzo_multiply, ferruntzo_quotient, ferruntzo_root, ferruntzo_check,
-     ferruntzo_from_series},
-    {"O2", plain2_multiply, plain2_quotient, plain2_root, plain2_check, plain2_from_series},
-    {"O3", plain3_multiply, plain3_quotient, plain3_root, plain3_check, plain3_from_series},
-    {"former", NULL, NULL, NULL, NULL, NULL},
+    {"library", ferruntzo_multiply, ferruntzo_integrate, ferruntzo_evaluate, ferruntzo_quotient,
+     ferruntzo_root, ferruntzo_check, ferruntzo_from_series},
+    {"O2", plain2_multiply, plain2_integrate, plain2_evaluate, plain2_quotient, plain2_root,
+     plain2_check, plain2_from_series},
+    {"O3", plain3_multiply, plain3_integrate, plain3_evaluate, plain3_quotient, plain3_root,
+     plain3_check, plain3_from_series},
+    {"former", NULL, NULL, NULL, NULL, NULL, NULL, NULL},
 };
 
-enum kind { MULTIPLY, QUOTIENT, ROOT, CHECK, FROM_SERIES };
+enum kind { MULTIPLY, INTEGRATE, EVALUATE, QUOTIENT, ROOT, CHECK, FROM_SERIES };
 
-static const char *const kind_names[] = {"multiply", "quotient", "root", "check", "from_series"};
+static const char *const kind_names[] = {"multiply", "integrate", "evaluate", "quotient",
+                                         "root", "check", "from_series"};
 
 struct bench_case {
     enum kind kind;
@@ -127,12 +138,15 @@ static void geometric(int32_t *model, int degree, double first, double term, dou
         model[1 + k] = (int32_t)lround(term * FERRUNTZO_S * pow(ratio, k));
 }
 
-/* Multiply, quotient, root and the conversion of a series, every polynomial of one degree. */
+/* Multiply, integrate, evaluate, both tests and the conversion of a series, every polynomial of
+   one degree; the integrand has one less, so that its integral has that degree. */
 static void add_degree(int degree)
 {
     struct bench_case *product = new_case(MULTIPLY, "multiply", degree);
     geometric(product->f, degree, 2.0, 0.5, 0.8);
     geometric(product->g, degree, 4.0, 0.8, -0.7);
+    geometric(new_case(INTEGRATE, "integrate", degree)->f, degree - 1, 4.0, 0.8, -0.7);
+    geometric(new_case(EVALUATE, "evaluate", degree)->f, degree, 4.0, 0.8, -0.7);
 
     struct bench_case *quotient = new_case(QUOTIENT, "quotient", degree);
     double values[NODES], inverse[NODES];
@@ -195,6 +209,7 @@ static void add_prefix(const struct bench_case *job, int results)
 static struct areas {
     uint32_t number;
     int32_t out[FERRUNTZO_MODEL_SIZE];
+    int64_t bounds[FERRUNTZO_BOUNDS_SIZE];
     int64_t scratch[FERRUNTZO_SCRATCH_SIZE];
     uint64_t numbers[FERRUNTZO_NUMBERS_SIZE];
     int32_t work[FERRUNTZO_WORK_SIZE];
@@ -220,6 +235,12 @@ static void call(int v, const struct bench_case *c)
     case MULTIPLY:
         lent.number = version->multiply(WHOLE(c->f), WHOLE(c->g), FERRUNTZO_DEFAULT_KEPT,
                                         WHOLE(lent.out));
+        break;
+    case INTEGRATE:
+        lent.number = version->integrate(WHOLE(c->f), WHOLE(lent.out));
+        break;
+    case EVALUATE:
+        lent.number = version->evaluate(WHOLE(c->f), FERRUNTZO_S / 3, WHOLE(lent.bounds));
         break;
     case QUOTIENT:
         lent.number = version->quotient(WHOLE(c->f), WHOLE(c->g), WHOLE(c->h), WHOLE(c->w),
@@ -261,10 +282,10 @@ static void compare_versions(void)
 
 /* ---- Modes ---- */
 
-static void count(void)
+static void count(int versions_called)
 {
     for (int i = 0; i < case_count; i++)
-        for (int v = 0; v < VERSIONS; v++)
+        for (int v = 0; v < versions_called; v++)
             if (has_version(v, &cases[i]))
                 for (int turn = 0; turn < 2; turn++)
                     call(v, &cases[i]);
@@ -388,7 +409,7 @@ int main(int argc, char **argv)
     if (strcmp(mode, "time") == 0 && argc > 2)
         milliseconds = atof(argv[first++]);
     if (first >= argc) {
-        fprintf(stderr, "usage: bench count|time MILLISECONDS|stack|former JOB..\n");
+        fprintf(stderr, "usage: bench count|alone|time MILLISECONDS|stack|former JOB..\n");
         return 2;
     }
     if (strcmp(mode, "former") == 0) {
@@ -405,10 +426,12 @@ int main(int argc, char **argv)
         last = add_job(argv[i]);
     for (int results = 1; results <= 16; results *= 4)
         add_prefix(last, results);
-    logged = strcmp(mode, "count") == 0;
-    compare_versions();
+    int alone = strcmp(mode, "alone") == 0;
+    logged = alone || strcmp(mode, "count") == 0;
+    if (!alone)
+        compare_versions();
     if (logged)
-        count();
+        count(alone ? LIBRARY + 1 : VERSIONS);
     else if (strcmp(mode, "time") == 0)
         measure(milliseconds);
     else if (strcmp(mode, "stack") == 0)

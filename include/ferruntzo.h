@@ -34,6 +34,16 @@
    Coefficients beyond the degree are zero, the weight |p_0| + .. + |p_32| is at
    most 2^28.
 
+   The coefficients of products, integrals and models of series, and the T_k(x)
+   inside an evaluation, are rounded to the nearest whole number, a tie to the even
+   one; bounds are rounded outwards.  So a mirrored curve has mirrored answers:
+   negating every coefficient of one factor, of an integrand or of a series negates
+   those of the result and keeps its radius, its degree and the number answered;
+   negating the odd coefficients of both factors or of a series (-x for x) negates
+   the odd ones of the result; and negating p and the odd coefficients keeps both
+   bounds of an evaluation.  (-2^31 has no negation; a model or series with it, and
+   a point of it, is refused.)
+
    AREAS
 
    Each pointer is followed by the length of its area, counted in numbers, not
@@ -77,10 +87,10 @@ extern "C" {
 
 /* ---- Version ---- */
 
-#define FERRUNTZO_VERSION_MAJOR 1
-#define FERRUNTZO_VERSION_MINOR 1
-#define FERRUNTZO_VERSION_PATCH 2
-#define FERRUNTZO_VERSION "1.1.2"
+#define FERRUNTZO_VERSION_MAJOR 2
+#define FERRUNTZO_VERSION_MINOR 0
+#define FERRUNTZO_VERSION_PATCH 0
+#define FERRUNTZO_VERSION "2.0.0"
 
 /* ---- Limits ---- */
 
@@ -199,9 +209,9 @@ uint32_t ferruntzo_evaluate(const int32_t *a, size_t a_len,
 /* ---- Power series ----
 
    The model of a power series.  Each x^k is expanded in T_0 .. T_k, the
-   coefficients are rounded to the nearest unit, a tie towards plus infinity, and
-   the radius is the sum of the absolute rounding differences, rounded up.  The
-   degree stays, even if top coefficients become zero.  Accepted: at every x from
+   coefficients are rounded to the nearest unit, and the radius is the sum of the
+   absolute rounding differences, rounded up.  The degree stays, even if top
+   coefficients become zero.  Accepted: at every x from
    -1 to 1 out allows the exact value of the series.  The radius covers this
    rounding only; docs/FORMAT.md says how the model becomes a load of a job.
    About 11.5 kB of stack.

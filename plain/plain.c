@@ -48,8 +48,14 @@ static int64_t up(int64_t n, int64_t d)
     return n % d > 0 ? q + 1 : q;
 }
 
-/* The nearest whole number to n/d, a tie going towards plus infinity. */
-static int64_t near(int64_t n, int64_t d) { return down(2 * n + d, 2 * d); }
+/* The nearest whole number to n/d, d > 0, a tie going to the even one. */
+static int64_t near(int64_t n, int64_t d)
+{
+    int64_t q = down(2 * n + d, 2 * d);
+    if ((2 * n + d) % (2 * d) == 0 && q % 2 != 0)    /* a tie, and the upper number is odd */
+        q--;
+    return q;
+}
 
 static int64_t weight(const int64_t *list, int size)
 {

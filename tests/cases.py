@@ -171,6 +171,7 @@ def random_add(rng, entry='add'):
 
 # ---- Multiply -------------------------------------------------------------------
 
+ODD = range(-7, 8, 2)       # twice a tie each, with the lower number even and odd, on both sides of zero
 BAD_KEPT = (MAX_DEGREE + 1, MAX_DEGREE + 2, DEFAULT_KEPT - 1, DEFAULT_KEPT + 1, MAX_DEGREE + 256,
             1 << 31, (1 << 32) - 1)
 KEPT_BORDERS = (*range(MAX_DEGREE + 1), DEFAULT_KEPT, *BAD_KEPT)
@@ -206,16 +207,24 @@ def fixed_multiply():
             a = term(place, top, LIMIT)
             yield Case('multiply', (a, a), MAX_DEGREE)
             yield Case('multiply', (a, constant(LIMIT, LIMIT)), 0)
-    for tie in (-5, -3, -1, 1, 3, 5):               # ties at every place
-        yield Case('multiply', (model([tie, tie, -tie]), model([S // 2, S, S // 2])), MAX_DEGREE)
+    for odd in (*ODD, LIMIT - 1, 1 - LIMIT):        # odd/2 at several places, from either factor
+        yield Case('multiply', (model([odd, odd, -odd]), model([S // 2, S, S // 2])), MAX_DEGREE)
+        for place in (0, 1, MAX_DEGREE - 1, MAX_DEGREE):
+            yield Case('multiply', (term(place, odd), half), DEFAULT_KEPT)
+            yield Case('multiply', (half, term(place, odd)), MAX_DEGREE)
+
+
+def tied_factors(rng):
+    """Two models whose product has many ties."""
+    a = model([rng.randint(-9, 9) for _ in range(rng.randint(1, COEFFICIENTS))])
+    b = model([rng.randint(-4, 4) * S // 2 for _ in range(rng.randint(1, COEFFICIENTS))])
+    return (a, b) if rng.random() < 0.5 else (b, a)
 
 
 def random_multiply(rng):
     kind = rng.random()
-    if kind < 0.1:                                  # ties
-        a = model([rng.randint(-9, 9) for _ in range(rng.randint(1, COEFFICIENTS))])
-        b = model([rng.randint(-4, 4) * S // 2 for _ in range(rng.randint(1, COEFFICIENTS))])
-        pair = (a, b) if rng.random() < 0.5 else (b, a)
+    if kind < 0.1:
+        pair = tied_factors(rng)
     elif kind < 0.13:                               # radius on both sides of the limit
         a, b = (random_model(rng, random_total(rng, 22.0), 0) for _ in range(2))
         edge = largest_accepted(lambda e: o.multiply(a._replace(radius=e), b, MAX_DEGREE)[0] == 0)
@@ -242,7 +251,7 @@ def fixed_integrate():
     for degree in range(MAX_DEGREE + 1):            # degree 31 fits, 32 gives 3
         yield Case('integrate', (model([S] * (degree + 1), degree),))
         yield Case('integrate', (model([], 0, degree),))
-        for top in (1, -1, degree + 1, -degree - 1, LIMIT, -LIMIT):     # ties at the top
+        for top in (1, -1, LIMIT, -LIMIT, *(odd * (degree + 1) for odd in ODD)):    # ties at the top
             yield Case('integrate', (term(degree, top),))
     for m, _ in BORDER_MODELS:
         yield Case('integrate', (m,))
@@ -270,6 +279,17 @@ def random_integrate(rng):
 
 POINTS = (0, 1, -1, S // 2, -S // 2, S - 1, 1 - S, S, -S)
 OUTSIDE = (S + 1, -S - 1, HIGHEST, LOWEST, 2 * S, -2 * S)
+# At p = odd * 2^shift the last bit of 2 p t_(k-1)/S is exactly one half for k = 30/(19 - shift): t_k is the first tie.
+TIED_SHIFTS = {4: 2, 9: 3, 13: 5, 14: 6, 16: 10, 17: 15, 18: 30}
+
+
+def fixed_tied_evaluate():
+    """One large coefficient: a t_k that is one off moves the bounds by a_k/2^30 only."""
+    for shift, k in TIED_SHIFTS.items():
+        for odd in range(1, min(24, S >> shift), 2):
+            for place in sorted({k, min(k + 2, MAX_DEGREE), MAX_DEGREE - 1, MAX_DEGREE}):
+                for p in (odd << shift, -odd << shift):
+                    yield Case('evaluate', (term(place, LIMIT if odd % 4 == 1 else -LIMIT),), p)
 
 
 def fixed_evaluate():
@@ -284,14 +304,20 @@ def fixed_evaluate():
         yield Case('evaluate', (model([], 3, MAX_DEGREE),), p)
         for m, _ in BORDER_MODELS:                  # 2 before 4
             yield Case('evaluate', (m,), p)
+    yield from fixed_tied_evaluate()
 
 
 def random_evaluate(rng):
     p = rng.choice((rng.randint(-S, S), rng.randint(-S, S), rng.randint(-99, 99),
                     rng.choice(POINTS), rng.choice((S, -S)) - rng.randint(-9, 9)))
+    m = random_model(rng)
+    if rng.random() < 0.25:                         # ties, with coefficients that show them
+        shift = rng.choice(list(TIED_SHIFTS))
+        p = signed(rng, rng.randrange(1, S >> shift, 2) << shift)
+        m = model(spread(rng, max(TIED_SHIFTS[shift], random_degree(rng)), LIMIT), random_radius(rng))
     if rng.random() < 0.05:
         p = rng.choice(OUTSIDE)
-    return Case('evaluate', perhaps_spoiled(rng, (random_model(rng),), 0.08), p)
+    return Case('evaluate', perhaps_spoiled(rng, (m,), 0.08), p)
 
 
 FIXED = {'add': fixed_add, 'subtract': lambda: fixed_add('subtract'),

@@ -41,10 +41,13 @@ SHARE = {'add': 2, 'subtract': 2, 'multiply': 3, 'integrate': 3, 'evaluate': 3,
          'quotient': 4, 'root': 4, 'check': 5, 'from_series': 3}
 BATCH = 2000
 SOUNDNESS_SAMPLE = 0.04
+# Accepted cases in which some near rounds a tie: in the whole comparison at least so many of at least so many.
+TIED, TIED_OF = 2000, 75000
+ROUNDING = ('multiply', 'integrate', 'evaluate', 'from_series', 'check')        # the entries that use near
 
 
 def stop(message):
-    print(f'compare: {message}', file=sys.stderr)
+    print(f'{Path(sys.argv[0]).stem}: {message}', file=sys.stderr)
     sys.exit(2)
 
 
@@ -173,6 +176,15 @@ def build_harness(folder, entries, library, plain, flags):
     return program
 
 
+def perhaps_shortened(rng, case):
+    """Some cases with one or two areas too short."""
+    if rng.random() >= 0.02:
+        return case
+    sizes = [(i, size) for i, (_, size, what) in enumerate(AREAS[case.entry]) if what != 'job']
+    chosen = rng.sample(sizes, rng.choice((1, 1, 2)))
+    return case._replace(lengths=tuple((i, rng.choice((size - 1, rng.randrange(size)))) for i, size in chosen))
+
+
 def make_cases(entries, wanted, rng):
     """All fixed cases of the entries, then random ones up to the number wanted."""
     fixed = {**cases.FIXED, **certificate_cases.FIXED, **job_cases.FIXED, **series_cases.FIXED}
@@ -186,25 +198,21 @@ def make_cases(entries, wanted, rng):
     shares = [SHARE[entry] for entry in entries]
     while made < wanted:
         entry = rng.choices(entries, shares)[0]
-        case = drawn[entry](rng)
-        if rng.random() < 0.02:                     # one or two areas too short
-            sizes = [(i, size) for i, (_, size, what) in enumerate(AREAS[entry]) if what != 'job']
-            chosen = rng.sample(sizes, rng.choice((1, 1, 2)))
-            case = case._replace(lengths=tuple((i, rng.choice((size - 1, rng.randrange(size))))
-                                               for i, size in chosen))
         made += 1
-        yield case
+        yield perhaps_shortened(rng, drawn[entry](rng))
 
 
-def run_harness(program, batch, runner):
-    data = b''.join(case_bytes(case, areas) for case, areas, _, _ in batch)
+def run_harness(program, calls, runner):
+    """The answer to each call, which is a case with its areas."""
+    data = b''.join(case_bytes(case, areas) for case, areas in calls)
     run = subprocess.run([*runner, str(program)], input=data, stdout=subprocess.PIPE)
     if run.returncode != 0:
         stop(f'the harness ended with {run.returncode}')
     answers, start = [], 0
-    for _, _, _, expected in batch:
-        answers.append(run.stdout[start:start + len(expected)])
-        start += len(expected)
+    for _, areas in calls:
+        size = 4 + sum(len(content) * content.itemsize for _, _, content in areas)
+        answers.append(run.stdout[start:start + size])
+        start += size
     if start != len(run.stdout):
         stop('the harness wrote more or less than its answers')
     return answers
@@ -255,6 +263,17 @@ def leave(batch, answers, entry):
     return False
 
 
+def check_ties(ties, total):
+    """The counts of cases with ties, in words: on both sides of zero in each entry, enough in the whole comparison."""
+    rounding = [entry for entry in ties if entry in ROUNDING]
+    for entry in rounding:
+        assert ties[entry][True] and ties[entry][False], f'{entry}: no tie above zero, or none below'
+    tied = sum(ties[entry]['cases'] for entry in ties)
+    assert set(ties) != set(ENTRIES) or tied * TIED_OF >= TIED * min(total, TIED_OF), f'{tied} cases with a tie'
+    return ', '.join([*(f'{entry} {ties[entry]["cases"]} ({ties[entry][True]} with one above zero, '
+                        f'{ties[entry][False]} below)' for entry in rounding), f'{tied} in all'])
+
+
 def main():
     parser = argparse.ArgumentParser()
     parser.add_argument('--library', type=Path, help='static library under test')
@@ -282,7 +301,7 @@ def main():
     rng, sound_rng = Random(options.seed), Random(options.seed)
     began = time.perf_counter()
     oracle_time, differences, planted, sound = 0.0, 0, False, 0
-    counts = {entry: Counter() for entry in entries}
+    counts, ties = ({entry: Counter() for entry in entries} for _ in range(2))
     with tempfile.TemporaryDirectory() as folder:
         program = build_harness(folder, entries, options.library, options.plain,
                                 options.link.split())
@@ -290,7 +309,7 @@ def main():
 
         def judge():
             nonlocal differences, planted, sound
-            answers = run_harness(program, batch, options.runner.split())
+            answers = run_harness(program, [one[:2] for one in batch], options.runner.split())
             if options.plant and not planted:
                 planted = plant(batch, answers, options.plant)
             if options.leave and not planted:
@@ -309,9 +328,11 @@ def main():
 
         for case in make_cases(entries, options.cases, rng):
             areas = lent_areas(case, rng, not options.no_guards)
-            before = time.perf_counter()
+            before, ties_before = time.perf_counter(), dict(o.TIES)
             number, expected = expected_bytes(case, areas)
             oracle_time += time.perf_counter() - before
+            if number == 0 and o.TIES != ties_before:
+                ties[case.entry].update(['cases', *(above for above in o.TIES if o.TIES[above] > ties_before[above])])
             counts[case.entry][number] += 1
             batch.append((case, areas, number, expected))
             if number == 0 and case.entry != 'from_series' and sound_rng.random() < SOUNDNESS_SAMPLE:
@@ -325,6 +346,7 @@ def main():
         numbers = ' '.join(f'{n}:{c}' for n, c in sorted(counts[entry].items()))
         print(f'{entry}: {sum(counts[entry].values())} cases (number:cases {numbers})')
     total = sum(sum(c.values()) for c in counts.values())
+    print('accepted cases with a tie:', check_ties(ties, total))
     print(f'{total} cases, {differences} differences, {time.perf_counter() - began:.1f} s '
           f'(oracle {oracle_time:.1f} s), '
           f'{sound} checked for soundness, seed {options.seed}')

@@ -1,8 +1,8 @@
-"""The examples P1 to P11 and the other stated numbers of document 01, asserted
+"""The examples P1 to P11 and the other stated numbers of document 01, and the ties of document 02's S-11, asserted
 against the oracle.  compare.py runs them before every comparison."""
 
 import oracle as o
-from oracle import S, constant, model
+from oracle import S, constant, model, power, term
 
 
 def check_tables():
@@ -12,13 +12,24 @@ def check_tables():
         assert o.chebyshev_form(o.power_form(unit)) == [0] * k + [1 << o.SCALE]
 
 
+def check_ties():
+    """Document 02, S-11: half an odd number goes to the even one, on both sides of zero."""
+    for odd, even in ((1, 0), (3, 2), (5, 2), (7, 4)):
+        for n, whole in ((odd, even), (-odd, -even)):
+            assert o.near(n, 2) == whole
+            assert o.multiply(constant(n), constant(S // 2), 32) == (0, constant(whole, 1))
+            assert o.integrate(term(1, 2 * n)) == (0, model([-whole, 0, whole], 2))
+            assert o.from_series(power(2, n)) == (0, model([whole, 0, whole], 1))
+
+
 def check_examples():
     check_tables()
+    check_ties()
     t1, t2 = model([0, S]), model([0, 0, S])
     assert o.multiply(t1, t1, 2) == (0, model([524288, 0, 524288]))            # P1
     assert o.multiply(t1, t1, 1) == (0, model([524288, 0], 524288))            # P2
     half = constant(524288)
-    assert o.multiply(constant(1), half, 32) == (0, constant(1, 1))            # P3
+    assert o.multiply(constant(1), half, 32) == (0, constant(0, 1))            # P3, as S-11 has it
     assert o.multiply(constant(-1), half, 32) == (0, constant(0, 1))           # P4
     assert o.integrate(constant(S)) == (0, model([S, S], 1))                   # P5
     assert o.evaluate(t2, 524288) == (0, -524289, -524287)                     # P6

@@ -6,10 +6,10 @@ from random import Random
 import jobs
 import oracle as o
 from candidates import clipped
-from cases import BORDER_MODELS, LOWEST, Case, random_model, spoiled
+from cases import BORDER_MODELS, LOWEST, ODD, Case, random_model, spoiled
 from examples_of_01 import example_job
 from header import DEFAULT_KEPT, MAX_DEGREE, MAX_RESULTS, S
-from jobs import EDITION_1, END, Builder, full_builder, random_builder
+from jobs import EDITION_1, END, Builder, full_builder, random_builder, tied_builder
 from oracle import LIMIT, constant, model
 
 KNOWN = sorted(o.OPERAND_WIDTH)
@@ -133,6 +133,9 @@ def fixed_check():
     yield case(jobs.load(constant(S)) + END)
     for d in range(256):                            # every kept degree
         yield case(EDITION_1 + jobs.load(model([S // 2] * 20, 3)) + jobs.multiply(0, 0, d) + END)
+    for odd in ODD:                                 # a tie, alone and doubled
+        yield case(EDITION_1 + jobs.load(constant(odd)) + jobs.load(constant(S // 2))
+                   + jobs.multiply(0, 1, DEFAULT_KEPT) + jobs.add(2, 2) + END)
     # Every fault after 1, 3 and 32 results, with and without more behind.
     few = EDITION_1 + jobs.load(constant(4 * S))
     more = few + jobs.multiply(0, 0, 4) + jobs.root(0, TWO, QUARTER)
@@ -245,7 +248,7 @@ class RandomJobs:
     def __call__(self, rng):
         kind = rng.random()
         if kind < 0.35 or len(self.kept) < 5:
-            builder = random_builder(rng)
+            builder = (tied_builder if rng.random() < 0.3 else random_builder)(rng)
             self.kept = (self.kept + [builder])[-40:]
             return case(builder.job())
         builder = rng.choice(self.kept)

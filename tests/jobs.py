@@ -3,7 +3,7 @@ of the results so far, so that fitting candidates can be found for the next."""
 
 import oracle as o
 from candidates import quotient_candidates, root_candidates
-from cases import random_degree, random_model, signed, spread
+from cases import random_degree, random_model, signed, spread, tied_factors
 from header import BAD_MODEL, COEFFICIENTS, DEFAULT_KEPT, MAX_DEGREE, MAX_RESULTS, S
 from oracle import LIMIT, model
 
@@ -127,6 +127,19 @@ def random_builder(rng, wanted=None):
     if wanted is None:
         wanted = rng.choice((0, 1, 2, 3, 4, 5, 6, 8, 10, 14))
     grow(rng, builder, wanted)
+    return builder
+
+
+def tied_builder(rng):
+    """Products with ties, sums and products of these, and a few other commands."""
+    builder = Builder()
+    for m in tied_factors(rng):
+        builder.load(m._replace(radius=rng.choice((0, 0, 1, 20))))
+    builder.multiply(0, 1, rng.choice((DEFAULT_KEPT, rng.randint(0, MAX_DEGREE))))
+    for _ in range(rng.randint(0, 3)):
+        i, j = rng.randrange(len(builder.results)), rng.randrange(2)
+        rng.choice((builder.add, builder.subtract, builder.multiply, builder.multiply))(i, j)
+    grow(rng, builder, len(builder.results) + rng.choice((0, 0, 1, 4)))
     return builder
 
 

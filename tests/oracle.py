@@ -4,7 +4,8 @@ Every answer is formed with Python's unbounded whole numbers.  Products and
 primitives are formed in the power basis (1, x, x^2, ...) and converted back;
 neither the pair walk nor the primitive rule of the product is used to get
 them.  Power series (document 02, S-3) are expanded by binomials, not by the
-rule of the product's table.  Only the rounding is taken over from document 01 as it stands there.
+rule of the product's table.  Only the rounding is taken over from document 01 as it stands there,
+with the ties of document 02 (S-11).
 Areas, and refusal 1 for a short one, are compare.py's.
 
 Run as a program it checks the examples P1 to P11.
@@ -73,9 +74,16 @@ def up(numerator, denominator):
     return -((-numerator) // denominator)
 
 
+TIES = {True: 0, False: 0}  # how many ties near has rounded, above zero and below; compare.py counts its cases by them
+
+
 def near(numerator, denominator):
-    """The nearest whole number, a tie going towards plus infinity."""
-    return (2 * numerator + denominator) // (2 * denominator)
+    """The nearest whole number, a tie going to the even one."""
+    below, rest = divmod(numerator, denominator)
+    if 2 * rest == denominator:
+        TIES[numerator > 0] += 1
+        return below + below % 2
+    return below + (2 * rest > denominator)
 
 
 def weight(row):

@@ -14,6 +14,7 @@ from oracle import LIMIT, Series, power, series
 ROOT = Path(__file__).resolve().parent.parent
 TABLES = [ROOT / 'crates' / 'series' / 'src' / 'table.rt', ROOT / 'plain' / 'expansion_table.h']
 CONVERTED = 5000            # accepted ones among the fixed cases, at least
+SHOWN = 500                 # answers among them that a wrong rule changes, at least
 
 
 def case(s):
@@ -29,8 +30,8 @@ def two_powers(first, second, top):
 GROWN = (series([0] * 14 + [-152] + [0] * 16 + [268435304]), two_powers(199, LIMIT - 199, 29), two_powers(198, LIMIT - 199, 29))
 NOT_GROWN = (series([0] * 14 + [-152] + [0] * 16 + [268435303]), series([0] * 14 + [-151] + [0] * 16 + [268435304]),
              two_powers(197, LIMIT - 199, 29), two_powers(199, LIMIT - 200, 29), power(31, LIMIT), power(31, -LIMIT))
-# By a tie that goes towards plus infinity.
-GROWN_BY_TIES = power(30, LIMIT)
+# Eight of its coefficients are ties: weight 2^28 by the even rule, four more by ties upwards or away from zero.
+TIED_AT_LIMIT = power(30, LIMIT)
 
 
 def fixed_powers():
@@ -74,7 +75,7 @@ def fixed_refused():
     for m, _ in BORDER_MODELS:
         yield Series(m.degree, m.coefficients)
     whole = power(MAX_DEGREE, S)
-    for s in (whole, series([S]), series([]), *GROWN, GROWN_BY_TIES, power(MAX_DEGREE, LIMIT + 1)):
+    for s in (whole, series([S]), series([]), *GROWN, TIED_AT_LIMIT, power(MAX_DEGREE, LIMIT + 1)):
         for degree in BAD_DEGREES:
             yield s._replace(degree=degree)
     for degree in range(MAX_DEGREE):
@@ -82,7 +83,7 @@ def fixed_refused():
             for value in (1, -1, LIMIT, LIMIT + 1):
                 yield power(place, value)._replace(degree=degree)
                 yield series([S] * (degree + 1) + [0] * (place - degree - 1) + [value], degree)
-    for s in (*GROWN, GROWN_BY_TIES, *NOT_GROWN):
+    for s in (*GROWN, TIED_AT_LIMIT, *NOT_GROWN):
         yield s
         yield Series(s.degree, tuple(-p for p in s.coefficients))
         yield s._replace(degree=MAX_DEGREE)
@@ -173,8 +174,17 @@ def cut(n, d):
     return n // d if n >= 0 else -(-n // d)
 
 
-def down_at_ties(n, d):
-    return -o.near(-n, d)
+def ties_to(choose):
+    """The nearest whole number, a tie between q and q + 1 going to choose(q)."""
+    def rule(n, d):
+        q, rest = divmod(n, d)
+        return choose(q) if 2 * rest == d else o.near(n, d)
+    return rule
+
+
+WRONG_TIES = {'ties upwards': ties_to(lambda q: q + 1), 'ties downwards': ties_to(lambda q: q),
+              'ties away from zero': ties_to(lambda q: q + (q >= 0)), 'ties to the odd number': ties_to(lambda q: q + 1 - q % 2)}
+WRONG_RULES = {'cutting': cut, **WRONG_TIES}
 
 
 def rounded(degree, exact, rule=o.near):
@@ -186,9 +196,14 @@ def rounded(degree, exact, rule=o.near):
 
 def check_witnesses():
     """What grows past 2^28 by rounding, and what does not; with which rule of ties."""
-    assert all(o.from_series(s)[0] == LARGE_RESULT for s in (*GROWN, GROWN_BY_TIES))
-    assert all(rounded(s.degree, sums(s), down_at_ties)[0] == LARGE_RESULT for s in GROWN)
-    assert rounded(GROWN_BY_TIES.degree, sums(GROWN_BY_TIES), down_at_ties)[0] == ACCEPTED
+    assert all(o.from_series(s)[0] == LARGE_RESULT for s in GROWN)
+    assert all(rounded(s.degree, sums(s), rule)[0] == LARGE_RESULT for s in GROWN for rule in WRONG_TIES.values())
+    for s in (TIED_AT_LIMIT, Series(TIED_AT_LIMIT.degree, tuple(-p for p in TIED_AT_LIMIT.coefficients))):
+        number, made = o.from_series(s)
+        assert (number, o.weight(made.coefficients), made.radius) == (ACCEPTED, LIMIT, 4)
+    grown_by = {name for name, rule in WRONG_TIES.items()
+                if rounded(TIED_AT_LIMIT.degree, sums(TIED_AT_LIMIT), rule)[0] == LARGE_RESULT}
+    assert grown_by == {'ties upwards', 'ties away from zero'}
     assert all(o.from_series(s)[0] == ACCEPTED for s in NOT_GROWN)
     assert o.weight(o.from_series(NOT_GROWN[2])[1].coefficients) == LIMIT
 
@@ -210,8 +225,9 @@ def entry_shows(judged, k, j, change):
 
 
 def check_cases():
-    """The fixed cases are enough, and they show each wrong rule: they tell the oracle from a converter that cuts, from one that rounds ties downwards
-    and from one with an entry of the table one off; they have ties above and below zero at every degree from 2 on."""
+    """The fixed cases are enough, and they show each wrong rule: they tell the oracle from a converter that cuts, from one that
+    sends ties elsewhere and from one with an entry of the table one off; they have ties above and below zero at every degree
+    from 2 on."""
     answers = [(s, o.from_series(s)) for (s,) in (c.inputs for c in fixed_from_series())]
     judged = [(s, sums(s), answer) for s, answer in answers if answer[0] != BAD_SERIES]
     assert all(rounded(s.degree, exact) == answer for s, exact, answer in judged)
@@ -221,16 +237,17 @@ def check_cases():
     assert {s.degree for s, _, answer in judged if answer[0] == ACCEPTED} == set(range(COEFFICIENTS))
     ties = {(s.degree, n > 0) for s, exact, _ in judged for n in exact if n % (1 << 32) == 1 << 31}
     assert ties == {(degree, above) for degree in range(2, COEFFICIENTS) for above in (True, False)}
-    shown = [sum(rounded(s.degree, exact, rule) != answer for s, exact, answer in judged) for rule in (cut, down_at_ties)]
-    assert min(shown) > 500, shown
+    shown = {name: sum(rounded(s.degree, exact, rule) != answer for s, exact, answer in judged)
+             for name, rule in WRONG_RULES.items()}
+    assert min(shown.values()) > SHOWN, shown
     for k in range(COEFFICIENTS):
         with_power = [one for one in judged if one[0].coefficients[k]]
         assert all(entry_shows(with_power, k, j, change) for j in range(k + 1) for change in (1, -1)), k
-    return accepted, *shown
+    return accepted, ', '.join(f'{name} shows in {count}' for name, count in shown.items())
 
 
 FIXED = {'from_series': fixed_from_series}
 RANDOM = {'from_series': random_from_series}
 
 if __name__ == '__main__':
-    print('series: %d converted among the fixed cases; cutting shows in %d, ties downwards in %d' % check_cases())
+    print('series: %d converted among the fixed cases; %s' % check_cases())

@@ -16,6 +16,17 @@ M_LINE = 'int64_t m = up(weight(c, PRODUCT_SIZE) + 2 * m_weight'
 N_LINE = 'int64_t n = up(weight(c, PRODUCT_SIZE) + 2 * (int64_t)UNIT * f[RADIUS],'
 B_LINE = '    if (b > (UNIT - m) * (UNIT - m) / (8 * m_weight))'
 P_LINE = 'int64_t p = (int64_t)a[1 + i] * b[1 + j];'
+NEAR = 'static int64_t near(int64_t n, int64_t d)\n{\n'
+# Wrong rules for near: the expression that it answers with.
+TIES_UP, TIES_DOWN = 'down(2 * n + d, 2 * d)', '-down(d - 2 * n, 2 * d)'
+WRONG_NEAR = {
+    'near truncates': 'n / d',
+    'near cuts after adding a half': '(2 * n + d) / (2 * d)',
+    'ties upwards, the former rule': TIES_UP,
+    'ties downwards': TIES_DOWN,
+    'ties away from zero': f'n < 0 ? {TIES_DOWN} : {TIES_UP}',
+    'ties to the odd number': f'{TIES_UP} - ({TIES_UP} != {TIES_DOWN} && {TIES_UP} % 2 == 0)',
+}
 
 # Name, entries that must show it, old text (its first place), new text.
 SLIPS = [
@@ -35,18 +46,6 @@ SLIPS = [
     ('b downwards', TESTS, 'int64_t b = up(', 'int64_t b = down('),
     ('radius downwards', 'quotient', 'radius = up(b * UNIT', 'radius = down(b * UNIT'),
     ('root radius not doubled', 'root', 'up(2 * b * UNIT', 'up(b * UNIT'),
-    ('near cuts towards zero', 'multiply', 'return down(2 * n + d, 2 * d);',
-     'return (2 * n + d) / (2 * d);'),
-    ('near cuts, integrate', 'integrate', 'return down(2 * n + d, 2 * d);',
-     'return (2 * n + d) / (2 * d);'),
-    ('near cuts, evaluate', 'evaluate', 'return down(2 * n + d, 2 * d);',
-     'return (2 * n + d) / (2 * d);'),
-    ('ties downwards', 'multiply', 'return down(2 * n + d, 2 * d);',
-     'return -down(d - 2 * n, 2 * d);'),
-    ('ties downwards, integrate', 'integrate', 'return down(2 * n + d, 2 * d);',
-     'return -down(d - 2 * n, 2 * d);'),
-    ('ties downwards, evaluate', 'evaluate', 'return down(2 * n + d, 2 * d);',
-     'return -down(d - 2 * n, 2 * d);'),
     ('dropped not paid', 'multiply', 'error += weight(c + degree + 1, PRODUCT_SIZE - degree - 1);', ''),
     ('radii product left out', 'multiply', ' + e_a * e_b);', ');'),
     ('8bM wraps signed', 'root', B_LINE,
@@ -76,10 +75,6 @@ SLIPS = [
      '    while (degree > 0 && row[degree] == 0) degree--;\n    out[0] = degree;'),
     ('kept 255 unknown', 'multiply', 'if (kept == DEFAULT_KEPT)', 'if (kept == DEFAULT_KEPT - 1)'),
     ('kept as a byte', 'multiply', 'if (kept == DEFAULT_KEPT)', 'kept &= 255;\n    if (kept == DEFAULT_KEPT)'),
-    ('near cuts, series', 'from_series', 'return down(2 * n + d, 2 * d);',
-     'return (2 * n + d) / (2 * d);'),
-    ('ties downwards, series', 'from_series', 'return down(2 * n + d, 2 * d);',
-     'return -down(d - 2 * n, 2 * d);'),
     ('series cut towards zero', 'from_series', 'row[j] = near(sums[j], EXPANSION_UNIT)', 'row[j] = sums[j] / EXPANSION_UNIT'),
     ('series rounded down', 'from_series', 'row[j] = near(sums[j], EXPANSION_UNIT)', 'row[j] = down(sums[j], EXPANSION_UNIT)'),
     ('series: radius 0', 'from_series', 'up(error, EXPANSION_UNIT)', 'up(0 * error, EXPANSION_UNIT)'),
@@ -153,6 +148,11 @@ SLIPS = [
      '        return 0;\n    }\n    if (byte == 0x20)\n'),
 ]
 
+# One near serves four operations and the jobs.
+SLIPS += [(f'{name}, {entry}', entry, NEAR, f'{NEAR}    return {rule};\n')
+          for name, rule in WRONG_NEAR.items()
+          for entry in ('multiply', 'integrate', 'evaluate', 'from_series', 'check')]
+
 # One walk over the pairs serves multiply and both tests: a wrong visit must show in each.
 SLIPS += [(f'walk: {name}, {entry}', entry, P_LINE, new)
           for name, new in (('diagonal skipped', 'if (i == j)\n                continue;\n            ' + P_LINE),
@@ -161,14 +161,20 @@ SLIPS += [(f'walk: {name}, {entry}', entry, P_LINE, new)
           for entry in ('multiply', 'quotient', 'root')]
 
 
-def found(slip, folder):
-    name, entries, old, new = slip
+def spoiled_plain(folder, old, new):
+    """A copy of plain.c in the folder with a text altered at its first place."""
     text = PLAIN.read_text()
-    assert old in text, f'{name}: the text to alter is gone'
+    assert old in text, f'the text to alter is gone: {old}'
     spoiled = Path(folder) / 'plain.c'
     spoiled.write_text(text.replace(old, new, 1))
     for header in ('plain.h', 'expansion_table.h'):
         (Path(folder) / header).write_text((PLAIN.parent / header).read_text())
+    return spoiled
+
+
+def found(slip, folder):
+    name, entries, old, new = slip
+    spoiled = spoiled_plain(folder, old, new)
     run = subprocess.run([sys.executable, str(HERE / 'compare.py'), '--plain', str(spoiled),
                           '--entries', entries, '--cases', '5000'],
                          stdout=subprocess.PIPE, stderr=subprocess.STDOUT, text=True)

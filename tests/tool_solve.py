@@ -1,5 +1,6 @@
 """Tests of `ferruntzo solve`: every radius covers the error against the margin itself, sampled in exact
-arithmetic, for each shipped stretch and for random margins; and curves that cannot be used are named.
+arithmetic, for each shipped stretch and for random margins; mirrored margins give mirrored paths; and curves that cannot be
+used are named.
 
   tool_solve.py [--tool tools/ferruntzo] [--jobcheck target/bin/jobcheck] [--samples K] [--seed N]
 """
@@ -134,10 +135,12 @@ def load_error(solved, samples):
     return True
 
 
+class Options:
+    degree = scale = stretches = None
+    limit_um = Fraction(1, 2)
+
+
 def random_margins(rng, samples, folder, count):
-    class Options:
-        degree = scale = stretches = None
-        limit_um = Fraction(1, 2)
     for i in range(count):
         path = folder / 'curve.json'
         path.write_text(json.dumps(random_series(rng) if i % 3 else random_points(rng)))
@@ -148,6 +151,27 @@ def random_margins(rng, samples, folder, count):
             expect('radius of its loads', load_error(solved, samples))
             text = solved.job.text()
             expect('the oracle agrees', oracle.printed(solved.job.ended()) == text)
+
+
+def mirrored_margins(rng, folder, count):
+    """A margin with x negated and the other side has the mirrored path: x negated, y and all radii as they were. Every
+    coefficient is an odd number of half units, a tie."""
+    path, stretches = folder / 'curve.json', 0
+    for _ in range(count):
+        piece = random_series(rng, (6, 14))['series_mm'][0]
+        x, y = ([2 * int(c * S) + 1 for c in piece[axis]] for axis in 'xy')
+        solved = []
+        for row, side in ((x, 'left'), ([-n for n in x], 'right')):
+            texts = [', '.join(f'{n / (2 * S):.21f}' for n in numbers) for numbers in (row, y)]
+            path.write_text('{"series_mm": [{"x": [%s], "y": [%s]}]}' % tuple(texts))
+            solved.append(list(solver.solve(read_curve(str(path)), Fraction(1, 2), side, Options)))
+        for one, two in zip(*solved, strict=True):
+            stretches += 1
+            path_x, path_y = one.results[-2:]
+            negated = path_x._replace(coefficients=[-c for c in path_x.coefficients])
+            expect('a mirrored margin', two.results[-2:] == [negated, path_y] and two.job.text() == one.job.text())
+    expect('mirrored margins', stretches >= count, stretches)
+    print(f'mirrored margins: {stretches} stretches')
 
 
 def padded(job):
@@ -274,6 +298,7 @@ def main():
     shipped(options.samples)
     with tempfile.TemporaryDirectory() as name:
         random_margins(rng, 14, Path(name), options.margins)
+        mirrored_margins(rng, Path(name), options.margins // 2)
         cautions(rng, 14, Path(name), options.margins // 2)
         commands(run, Path(name))
         written(run, Path(name))

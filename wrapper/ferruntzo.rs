@@ -163,6 +163,10 @@ fn accepted(number: u32) -> Result<(), Refusal> {
 
 /// A polynomial in the Chebyshev basis with an error radius: degree, coefficients of T_0 to T_32
 /// in units of 1/[`S`], radius in units. Any numbers may be put in; the library refuses bad ones.
+///
+/// The coefficients of products, integrals and models of series, and the T_k(x) inside an evaluation, are
+/// rounded to the nearest whole number, a tie to the even one, so that a mirrored curve has mirrored
+/// answers: include/ferruntzo.h says which.
 #[derive(Clone, Copy, Debug, PartialEq, Eq)]
 #[repr(transparent)]
 pub struct Model([i32; MODEL_SIZE]);

@@ -60,8 +60,45 @@ fn p1_to_p4_products() {
     assert_eq!(t1.multiply(&t1, 2), Ok(model(&[HALF, 0, HALF], 0)));
     assert_eq!(t1.multiply(&t1, 1), Ok(model(&[HALF, 0], HALF)));
     let half = Model::constant(HALF);
-    assert_eq!(Model::constant(1).multiply(&half, DEFAULT_KEPT), Ok(model(&[1], 1)));
+    // P3 as change request S-11 has it: a tie goes to the even number.
+    assert_eq!(Model::constant(1).multiply(&half, DEFAULT_KEPT), Ok(model(&[0], 1)));
     assert_eq!(Model::constant(-1).multiply(&half, DEFAULT_KEPT), Ok(model(&[0], 1)));
+}
+
+/// Half an odd number goes to the even number, on both sides of zero.
+#[test]
+fn ties_to_even() {
+    for (odd, even) in [(1, 0), (3, 2), (5, 2), (7, 4), (-1, 0), (-3, -2), (-5, -2), (-7, -4)] {
+        let half = Model::constant(HALF);
+        assert_eq!(Model::constant(odd).multiply(&half, DEFAULT_KEPT), Ok(model(&[even], 1)));
+        assert_eq!(half.multiply(&Model::constant(odd), DEFAULT_KEPT), Ok(model(&[even], 1)));
+        assert_eq!(term(1, 2 * odd).integrate(), Ok(model(&[-even, 0, even], 2)));
+        assert_eq!(Model::from_series(&series(2, &[(2, odd)])), Ok(model(&[even, 0, even], 1)));
+    }
+}
+
+/// The same with every coefficient at an odd place negated.
+fn mirrored(m: &Model) -> Model {
+    let mut numbers = *m.numbers();
+    numbers[1..RADIUS].iter_mut().skip(1).step_by(2).for_each(|c| *c = -*c);
+    Model::from_numbers(numbers)
+}
+
+/// At p = 512·odd T_3(p) is rounded at a tie.
+#[test]
+fn mirrored_curves() {
+    for odd in [1, 3, 5, 11, -9, 1023] {
+        for m in [term(3, LIMIT), term(31, -LIMIT), model(&[S, -S, 7, LIMIT / 2, 1, 9 * S], 3)] {
+            assert!(m.evaluate(512 * odd).is_ok());
+            assert_eq!(mirrored(&m).evaluate(-512 * odd), m.evaluate(512 * odd));
+        }
+    }
+    let curve = |sign| series(5, &[(0, 9), (1, sign * 5), (2, -3), (3, sign * 6), (5, sign * 24)]);
+    let made = Model::from_series(&curve(1)).unwrap();
+    assert_eq!(made, model(&[8, 24, -2, 9, 0, 2], 2));
+    assert_eq!(Model::from_series(&curve(-1)), Ok(mirrored(&made)));
+    let (a, b) = (model(&[3, 5, -7], 2), model(&[HALF, S, -HALF], 1));
+    assert_eq!(mirrored(&a).multiply(&mirrored(&b), 4), a.multiply(&b, 4).map(|c| mirrored(&c)));
 }
 
 #[test]

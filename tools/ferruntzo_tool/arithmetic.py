@@ -27,7 +27,9 @@ def up(n, d):
 
 
 def near(n, d):
-    return (2 * n + d) // (2 * d)
+    """The nearest whole number to n/d, a tie going to the even one."""
+    q, r = divmod(n, d)
+    return q + (2 * r + q % 2 > d)
 
 
 def weight(row):

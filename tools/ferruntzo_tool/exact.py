@@ -2,7 +2,7 @@
 
 from collections import namedtuple
 
-from .arithmetic import up
+from .arithmetic import near, up
 
 # The series Σ row[k]·T_k / scale.
 Series = namedtuple('Series', 'row scale')
@@ -72,7 +72,7 @@ def value(series, p, q):
 
 def nearest(series, degree):
     """The coefficients rounded to whole units, up to a degree, zeros at the top left off."""
-    row = [(2 * c + series.scale) // (2 * series.scale) for c in series.row[:degree + 1]]
+    row = [near(c, series.scale) for c in series.row[:degree + 1]]
     while len(row) > 1 and row[-1] == 0:
         row.pop()
     return row

@@ -11,7 +11,7 @@ from math import isqrt
 from pathlib import Path
 
 from . import candidates, exact, program
-from .arithmetic import Refused, add, model, multiply, up, weight
+from .arithmetic import Refused, add, model, multiply, near, up, weight
 from .curve import BadCurve, read_curve
 from .exact import Series
 from .program import NotChecked
@@ -159,9 +159,9 @@ class Job:
 def bur_load(bur):
     """The bur's radius in mm as a constant; its radius covers the rounding."""
     units = bur * S
-    near = (2 * units.numerator + units.denominator) // (2 * units.denominator)
-    missed = abs(units - near)
-    return model([near], up(missed.numerator, missed.denominator))
+    whole = near(units.numerator, units.denominator)
+    missed = abs(units - whole)
+    return model([whole], up(missed.numerator, missed.denominator))
 
 
 def add_loads(job, bur, loads, kept=MAX_DEGREE):

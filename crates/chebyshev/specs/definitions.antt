@@ -2,6 +2,7 @@ pub mod Recurrences
 pub mod Product
 pub mod Neighbours
 pub mod Coefficients
+pub mod Negation
 pub mod Norms
 pub mod TwoSums
 pub mod Derivative

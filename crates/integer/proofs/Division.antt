@@ -1,6 +1,6 @@
--- What floor, up and near share: the truncated quotient and remainder of n by d ≥ 1, and the correction of each rounding.
-use mathlib.Core.Path.{_≡_, _∙_}
-use Prim.Native.Nat.{ℕ, _+_, _*_, _≤_, _<_}
+-- What floor, modulo and up share: the truncated quotient and remainder of n by d ≥ 1, and the correction of each.
+use mathlib.Core.Path.{_≡_, _∙_, ap}
+use Prim.Native.Nat.{ℕ, _+_, _≤_, _<_}
 use native.Mathlib.Omega.{arith}
 use native.Mathlib.Nat.{mul-le-mul-left}
 use lib.IntN.{ℤ, pos, natAbs, _+ℤ_, _-ℤ_, _*ℤ_}
@@ -10,9 +10,12 @@ use mir.Val.{SFits, toZ, ofZ}
 use mir.Facts.{toZ-ofZ}
 use Rattle.integer.specs.laws.Parts.{_⁺, _⁻, abs, apart, sum, difference}
 use Rattle.integer.specs.laws.Difference.{all3, differences}
-use Rattle.integer.specs.laws.Machine.{fits, within, is-positive, positive-bits, Truncated, truncated}
-use Rattle.integer.specs.definitions.Rounding.{floor, up, near}
-use Rattle.integer.specs.laws.RoundingLaws.{floor-left, up-left, near-left}
+use Rattle.integer.specs.laws.Machine.{fits, within, is-positive, positive-is, positive-bits, Truncated, truncated}
+use Rattle.integer.specs.definitions.Rounding.{floor, up}
+use Rattle.integer.specs.laws.RoundingLaws.{floor-left, up-left}
+
+rest : (n m x : ℤ) → n ≡ m +ℤ x → x ≡ n -ℤ m
+rest = all3 _ (simp differences (omega arith))
 
 -- ---- the truncated quotient q and remainder r: the code takes q, q − 1 or q + 1 by what its tests say of r
 
@@ -47,18 +50,12 @@ module _ (n : ℤ) (d : ℕ) (q r : ℤ) (t : Truncated n d q r) where
   pub up-above : 0 < r ⁺ → q +ℤ pos 1 ≡ up n d
   up-above h = up-left n (q +ℤ pos 1) (r -ℤ pos d) d split-up (left-up h .0) (omega (arith, left-up h))
 
-  pub near-at : 2 * r ⁺ < d → 2 * r ⁻ ≤ d → q ≡ near n d
-  near-at = near-left n q r d (t .split)
+  -- what floor leaves
+  pub rest-at : r ⁻ ≡ 0 → r ≡ n -ℤ floor n d *ℤ pos d
+  rest-at h = rest n (q *ℤ pos d) r (t .split) ∙ ap (λ c. n -ℤ c *ℤ pos d) (floor-at h)
 
-  pub near-below : d < 2 * r ⁻ → q -ℤ pos 1 ≡ near n d
-  near-below h =
-      let l = left-down (omega arith) in
-      near-left n (q -ℤ pos 1) (r +ℤ pos d) d split-down (omega (arith, abs r)) (omega arith)
-
-  pub near-above : d ≤ 2 * r ⁺ → q +ℤ pos 1 ≡ near n d
-  near-above h =
-      let l = left-up (omega arith) in
-      near-left n (q +ℤ pos 1) (r -ℤ pos d) d split-up (omega arith) (omega arith)
+  pub rest-down : 0 < r ⁻ → r +ℤ pos d ≡ n -ℤ floor n d *ℤ pos d
+  rest-down h = rest n ((q -ℤ pos 1) *ℤ pos d) (r +ℤ pos d) split-down ∙ ap (λ c. n -ℤ c *ℤ pos d) (floor-down h)
 
 -- ---- in 64 bits: what the code divides
 
@@ -113,3 +110,14 @@ module _ (o : Operands) where
       fits w64 (q -ℤ pos 1)
       (omega (arith, difference q (pos 1), t, within w64 n fits-n))
       (omega (arith, difference q (pos 1), t, within w64 n fits-n, mul-le-mul-left (q ⁻) (wide (omega (arith, abs r)))))
+
+  -- the contracts' d is an argument, that of the laws a natural number
+  pub divisor : d ≡ pos (natAbs d)
+  divisor = positive-is d (is-positive d (o .positive))
+
+  -- what modulo gives where the remainder is negative
+  pub r-up-fits : 0 < r ⁻ → SFits w64 (r +ℤ d)
+  r-up-fits p =
+      fits w64 (r +ℤ d)
+      (omega (arith, sum r d, apart r, within w64 d fits-d))
+      (omega (arith, sum r d, t .small, abs r, abs d, is-positive d (o .positive), apart d, apart (r +ℤ d)))

@@ -1,6 +1,6 @@
 ghost use mathlib.Core.Path.{_≡_};
 ghost use Prim.Native.Nat.{_<_};
-ghost use lib.IntN.{pos, natAbs};
+ghost use lib.IntN.{pos, natAbs, _-ℤ_, _*ℤ_};
 ghost use lib.Signed.{_<ℤ_};
 ghost use Rattle.integer.specs.definitions.Rounding.{floor as floorOf, up as upOf, upℕ, near as nearOf};
 
@@ -24,22 +24,25 @@ pub fn up(n: i64, d: i64) -> i64
     if 0 < r { q + 1 } else { q }
 }
 
-// The nearest whole number to n / d, a tie going towards plus infinity, for every n. The remainder is compared with halves
-// of d: twice n, or twice a remainder, need not fit.
+// What n / d rounded down leaves of n: at least 0, less than d.
+fn modulo(n: i64, d: i64) -> i64
+    requires { ⌜ pos 0 <ℤ d ⌝ }
+    ensures { λ r. ⌜ r ≡ n -ℤ floorOf n (natAbs d) *ℤ d ⌝ }
+{
+    let r = n % d;
+    if r < 0 { r + d } else { r }
+}
+
+// The nearest whole number to n / d, a tie going to the even one, for every n. What is left above c·d is compared with what
+// is missing up to (c + 1)·d: twice n, or twice a remainder, need not fit.
 pub fn near(n: i64, d: i64) -> i64
     requires { ⌜ pos 0 <ℤ d ⌝ }
     ensures { λ r. ⌜ r ≡ nearOf n (natAbs d) ⌝ }
 {
-    let q = n / d;
-    let r = n % d;
-    let half = d >> 1;
-    if d - half <= r {
-        q + 1
-    } else if r < -half {
-        q - 1
-    } else {
-        q
-    }
+    let rest = modulo(n, d);
+    let c = floor(n, d);
+    let odd = c & 1;
+    if d - rest < rest + odd { c + 1 } else { c }
 }
 
 // n / d rounded up, of unsigned numbers.

@@ -10,3 +10,4 @@ pub mod Multiply
 pub mod Integrate
 pub mod Strips
 pub mod Evaluate
+pub mod Mirror

@@ -18,5 +18,9 @@ pub mod StripsSound
 pub mod EvaluationError
 pub mod EvaluationLaws
 pub mod EvaluationSound
+pub mod MirrorLaws
+pub mod MirrorAllowed
+pub mod MirroredOperations
 pub mod Examples
 pub mod StripExamples
+pub mod MirrorExamples

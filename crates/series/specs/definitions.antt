@@ -1,4 +1,5 @@
 pub mod Table
 pub mod Convert
+pub mod Mirror
 pub mod SeriesValue
 pub mod InnerContracts

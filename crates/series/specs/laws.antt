@@ -1,4 +1,5 @@
 pub mod RowLaws
 pub mod ConversionLaws
 pub mod ConversionSound
+pub mod MirroredConversion
 pub mod Examples

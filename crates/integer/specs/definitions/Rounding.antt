@@ -1,6 +1,8 @@
 -- Division of a whole number n by a natural divisor d ≥ 1, rounded. RoundingLaws.antt has the bounds that fix each.
-use Prim.Native.Nat.{ℕ, _+_, _-_, _*_, _/_}
-use lib.IntN.{ℤ, pos, negsuc, negℤ, _+ℤ_, _*ℤ_}
+use mathlib.Core.Bool.{cond}
+use Prim.Native.Nat.{ℕ, _+_, _-_, _*_, _/_, _%_}
+use lib.Dec.{leb}
+use lib.IntN.{ℤ, pos, negsuc, negℤ, natAbs, _+ℤ_, _-ℤ_, _*ℤ_}
 
 -- "the whole number below or at" n/d
 unfoldable pub floor : ℤ → ℕ → ℤ
@@ -15,6 +17,11 @@ up n d = negℤ (floor (negℤ n) d)
 unfoldable pub upℕ : ℕ → ℕ → ℕ
 upℕ n d = (n + (d - 1)) / d
 
--- "Near" means the nearest whole number, a tie going towards plus infinity, also below zero.
+-- 0 of an even whole number, 1 of an odd one
+abbrev pub parity : ℤ → ℕ
+parity c = natAbs c % 2
+
+-- "Near" means the nearest whole number (01), and "sends a tie to the even whole number" (02, S-11): c below or at n/d if n lies
+-- less than half of d above c·d, or exactly half and c is even; else c + 1.
 unfoldable pub near : ℤ → ℕ → ℤ
-near n d = floor (pos 2 *ℤ n +ℤ pos d) (2 * d)
+near n d = let c = floor n d in cond (leb (2 * natAbs (n -ℤ c *ℤ pos d) + parity c) d) c (c +ℤ pos 1)

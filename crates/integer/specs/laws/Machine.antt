@@ -1,19 +1,22 @@
 -- From plain facts about whole numbers to what signed code asks: that a number fits a width, and what division leaves.
 -- In a code proof every signed operand shows as `toZ w (ofZ w z)`; `toZ-ofZ` with `SFits w z` reads it back.
-use mathlib.Core.Path.{_≡_, refl, sym, ap, subst}
+use mathlib.Core.Path.{_≡_, refl, sym, _∙_, ap, subst}
 use mathlib.Core.Bool.{true, false}
-use Prim.Native.Nat.{ℕ, suc, _*_, _/_, _%_, _≤_, _<_, _^_, zero-le}
+use Prim.Native.Nat.{ℕ, suc, _-_, _*_, _/_, _%_, _≤_, _<_, _^_, zero-le}
 use native.Mathlib.Omega.{arith}
 use native.Mathlib.Nat.{div-le-self, mod-lt, div-add-mod, lt-of-lt-of-le}
 use lib.Dec.{T, lit≤}
 use lib.IntN.{ℤ, pos, negsuc, negℤ, _+ℤ_, _*ℤ_, natAbs}
 use lib.Signed.{mag, nonNeg, quotZ, remZ, leZ, ltZ, leZ-yes, ltZ-yes, _<ℤ_, _≤ℤ_}
 use lib.Pow.{pow-pos}
+use lib.Bits.{bitAnd, and-mask}
 use mir.Syntax.{Width, w32, w64}
-use mir.Val.{SFits, hbits, ofZ}
+use mir.Val.{SFits, hbits, toZ, ofZ}
+use mir.Facts.{toZ-pos}
 use borrow.Author.Needs.{needs}
 use Rattle.integer.specs.laws.Parts.{_⁺, _⁻, same, sum, product, opposite, abs, le-no, lt-no}
 use Rattle.integer.specs.laws.Difference.{≤-parts, <-parts}
+use Rattle.integer.specs.definitions.Rounding.{parity}
 
 -- ---- ranges
 
@@ -75,6 +78,18 @@ positive-is (negsuc n) h = absurd (omega arith)
 pub positive-bits : (w : Width) (d : ℤ) → 0 < d ⁺ → 0 < ofZ w d
 positive-bits w (pos n) h = h
 positive-bits w (negsuc n) h = absurd (omega arith)
+
+-- ---- the lowest bit
+
+-- z & 1 is the parity of z, below zero too: 2^64 is even
+pub lowest-bit : (z : ℤ) → SFits w64 z → toZ w64 (bitAnd (ofZ w64 z) 1) ≡ pos (parity z)
+lowest-bit z f = ap (toZ w64) (and-mask (ofZ w64 z) 1 ∙ even z f) ∙ toZ-pos w64 (omega (arith, mod-lt (natAbs z) {m = 2} (omega arith)))
+  where
+    even : (z : ℤ) → SFits w64 z → ofZ w64 z % 2 ≡ parity z
+    even (pos n) f = refl
+    even (negsuc n) f =
+        let m = 2 ^ 64 - suc n in
+        omega (arith, f .sfits, div-add-mod m 2, mod-lt m {m = 2} (omega arith), div-add-mod (suc n) 2, mod-lt (suc n) {m = 2} (omega arith))
 
 -- ---- truncating division by d ≥ 1: n = q d + r, and q and r lie between 0 and n
 

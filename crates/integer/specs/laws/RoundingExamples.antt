@@ -4,9 +4,9 @@ use mathlib.Core.Path.{_≡_, refl}
 use lib.IntN.{pos, negsuc}
 use Rattle.integer.specs.definitions.Rounding.{floor, up, near}
 
--- ---- ties go towards plus infinity
+-- ---- ties go to the even number
 
-near-half : near (pos 1) 2 ≡ pos 1
+near-half : near (pos 1) 2 ≡ pos 0
 unfolding near floor
 near-half = refl
 
@@ -18,9 +18,17 @@ near-three-halves : near (pos 3) 2 ≡ pos 2
 unfolding near floor
 near-three-halves = refl
 
-near-minus-three-halves : near (negsuc 2) 2 ≡ negsuc 0
+near-minus-three-halves : near (negsuc 2) 2 ≡ negsuc 1
 unfolding near floor
 near-minus-three-halves = refl
+
+near-five-halves : near (pos 5) 2 ≡ pos 2
+unfolding near floor
+near-five-halves = refl
+
+near-minus-five-halves : near (negsuc 4) 2 ≡ negsuc 1
+unfolding near floor
+near-minus-five-halves = refl
 
 up-seven-halves : up (pos 7) 2 ≡ pos 4
 unfolding up floor
@@ -44,8 +52,8 @@ near-lowest-third : near (negsuc 9223372036854775807) 3 ≡ negsuc 3074457345618
 unfolding near floor
 near-lowest-third = refl
 
--- (−2^63 + 1)/2 = −2^62 + 1/2, the tie next to the lowest number: −2^62 + 1
-near-tie-low : near (negsuc 9223372036854775806) 2 ≡ negsuc 4611686018427387902
+-- (−2^63 + 1)/2 = −2^62 + 1/2, the tie next to the lowest number: −2^62
+near-tie-low : near (negsuc 9223372036854775806) 2 ≡ negsuc 4611686018427387903
 unfolding near floor
 near-tie-low = refl
 
@@ -82,10 +90,19 @@ unfolding near floor
 near-minus-below-half-most = refl
 
 -- (2^62 − 1)/(2^63 − 2) = 1/2, a tie, and its opposite
-near-tie-most : near (pos 4611686018427387903) 9223372036854775806 ≡ pos 1
+near-tie-most : near (pos 4611686018427387903) 9223372036854775806 ≡ pos 0
 unfolding near floor
 near-tie-most = refl
 
 near-minus-tie-most : near (negsuc 4611686018427387902) 9223372036854775806 ≡ pos 0
 unfolding near floor
 near-minus-tie-most = refl
+
+-- (2^63 − 2)/(4·(2^62 − 1)/3) = 3/2, a tie whose divisor is above 2^62, and its opposite
+near-tie-wide : near (pos 9223372036854775806) 6148914691236517204 ≡ pos 2
+unfolding near floor
+near-tie-wide = refl
+
+near-minus-tie-wide : near (negsuc 9223372036854775805) 6148914691236517204 ≡ negsuc 1
+unfolding near floor
+near-minus-tie-wide = refl

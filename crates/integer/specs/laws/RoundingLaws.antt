@@ -1,16 +1,19 @@
 -- The laws of floor, up and near: the bounds that define each, and that nothing else meets them.
-use mathlib.Core.Path.{_≡_, _∙_, ap}
+use mathlib.Core.Path.{_≡_, refl, sym, _∙_, ap, subst}
+use mathlib.Core.Bool.{Bool, true, false, cond}
 use mathlib.Core.Logic.{_⊎_, inl, inr}
-use Prim.Native.Nat.{ℕ, zero, suc, _+_, _-_, _*_, _/_, _<_, _≤_}
+use Prim.Native.Nat.{ℕ, zero, suc, _+_, _-_, _*_, _/_, _%_, _<_, _≤_}
 use native.Mathlib.Omega.{arith}
-use native.Mathlib.Nat.{mul-div-le, lt-div-mul-add}
+use native.Mathlib.Nat.{mul-div-le, lt-div-mul-add, div-add-mod, mod-lt}
+use lib.Dec.{leb, eqb}
+use borrow.Author.Tests.{leb-true, leb-false, le-leb, lt-leb, eqb-true, eqb-false}
 use lib.IntN.{ℤ, pos, negsuc, negℤ, natAbs, _+ℤ_, _-ℤ_, _*ℤ_}
 use lib.Signed.{_≤ℤ_, _<ℤ_}
-use Rattle.integer.specs.laws.Parts.{_⁺, _⁻, abs, sum, product, opposite, difference, apart}
-use Rattle.integer.specs.laws.Difference.{all1, all2, all3, differences, ≤-parts, <-parts}
+use Rattle.integer.specs.laws.Parts.{_⁺, _⁻, same, abs, abs-neg, sum, product, difference, apart}
+use Rattle.integer.specs.laws.Difference.{all1, all2, all3, all4, differences, ≤-parts, <-parts}
 use Rattle.integer.specs.laws.OrderedRingLaws.{mul-left}
 use Rattle.integer.specs.laws.Order.{ℤ-ordered, decide, not-le→lt, pos-le, ∣_∣, ∣∣-is}
-use Rattle.integer.specs.definitions.Rounding.{floor, up, upℕ, near}
+use Rattle.integer.specs.definitions.Rounding.{floor, up, upℕ, parity, near}
 
 -- ---- floor: c d ≤ n < c d + d
 
@@ -112,37 +115,128 @@ upℕ-least n d c h k = multiplesℕ (upℕ n d) c d (omega (arith, upℕ-lt n d
 pub upℕ-unique : (n d c : ℕ) → 0 < d → n ≤ c * d → c * d < n + d → c ≡ upℕ n d
 upℕ-unique n d c h lo hi = omega (arith, upℕ-least n d c h lo, multiplesℕ c (upℕ n d) d (omega (arith, le-upℕ n d h)))
 
--- ---- near: −d < 2(c d − n) ≤ d
+-- ---- even and odd
 
-pub near-lt : (n : ℤ) (d : ℕ) → 0 < d → negℤ (pos d) <ℤ (pos 2 *ℤ (near n d *ℤ pos d -ℤ n))
+next-parity : (n : ℕ) → suc n % 2 + n % 2 ≡ 1
+next-parity n = omega (arith, div-add-mod n 2, mod-lt n {m = 2} (omega arith), div-add-mod (suc n) 2, mod-lt (suc n) {m = 2} (omega arith))
+
+pub parity-small : (c : ℤ) → parity c ≤ 1
+parity-small c = omega (arith, mod-lt (natAbs c) {m = 2} (omega arith))
+
+pub parity-next : (c : ℤ) → parity (c +ℤ pos 1) + parity c ≡ 1
+parity-next (pos a) = let e : a + 1 ≡ suc a = omega arith in rw e (next-parity a)
+parity-next (negsuc a) =
+    let z = negsuc a +ℤ pos 1 in
+    let e : natAbs z ≡ a = omega (arith, abs z, apart z, sum (negsuc a) (pos 1)) in
+    rw e (omega (arith, next-parity a))
+
+pub parity-opposite : (c : ℤ) → parity (negℤ c) ≡ parity c
+parity-opposite c = ap (λ (k : ℕ). k % 2) (abs-neg c)
+
+-- ---- near: 2·|c d − n| ≤ d, and an equation only if c is even
+
+-- both at once: where c is odd there is 1 to spare
+abbrev Nearest : ℤ → ℕ → ℤ → Type 0
+Nearest n d c = 2 * natAbs (c *ℤ pos d -ℤ n) + parity c ≤ d
+
+-- what floor leaves: 0 ≤ n − c d < d
+pub floor-rest : (n : ℤ) (d : ℕ) → 0 < d → let x = n -ℤ floor n d *ℤ pos d in (x ⁻ ≡ 0) × (x ⁺ < d)
+floor-rest n d h =
+    let m = floor n d *ℤ pos d in
+    let x = n -ℤ m in
+    omega (arith, difference n m, apart x, ≤-parts m n .0 (floor-le n d h), <-parts n (m +ℤ pos d) .0 (floor-lt n d h), sum m (pos d), apart (m +ℤ pos d))
+
+near-nearest : (n : ℤ) (d : ℕ) → 0 < d → Nearest n d (near n d)
 unfolding near
-near-lt n d h = let t = pos 2 *ℤ n +ℤ pos d in go n (floor t (2 * d)) (pos d) (floor-lt t (2 * d) (omega arith))
+near-nearest n d h = pick (leb (2 * natAbs x + parity c) d) refl
   where
-    go : (n c d : ℤ) → (pos 2 *ℤ n +ℤ d) <ℤ (c *ℤ (pos 2 *ℤ d) +ℤ pos 2 *ℤ d) → negℤ d <ℤ (pos 2 *ℤ (c *ℤ d -ℤ n))
-    go = all3 _ (simp differences (omega arith))
+    c : ℤ
+    c = floor n d
 
-pub near-le : (n : ℤ) (d : ℕ) → 0 < d → (pos 2 *ℤ (near n d *ℤ pos d -ℤ n)) ≤ℤ pos d
-unfolding near
-near-le n d h = let t = pos 2 *ℤ n +ℤ pos d in go n (floor t (2 * d)) (pos d) (floor-le t (2 * d) (omega arith))
+    x : ℤ
+    x = n -ℤ c *ℤ pos d
+
+    at : (n m : ℤ) → m -ℤ n ≡ negℤ (n -ℤ m)
+    at = all2 _ (simp differences (omega arith))
+
+    above : (n c d : ℤ) → (c +ℤ pos 1) *ℤ d -ℤ n ≡ d -ℤ (n -ℤ c *ℤ d)
+    above = all3 _ (simp differences (omega arith))
+
+    pick : (t : Bool) → leb (2 * natAbs x + parity c) d ≡ t → Nearest n d (cond t c (c +ℤ pos 1))
+    pick true e = rw (at n (c *ℤ pos d)) (omega (arith, leb-true (2 * natAbs x + parity c) d e, abs-neg x))
+    pick false e =
+        let y = pos d -ℤ x in
+        rw (above n c (pos d))
+        (omega (arith, leb-false (2 * natAbs x + parity c) d e, parity-next c, floor-rest n d h, abs x, abs y, apart y, difference (pos d) x))
+
+-- as code finds it: c = floor n d, and x is left
+module _ (n c x : ℤ) (d : ℕ) (c-is : c ≡ floor n d) (x-is : x ≡ n -ℤ floor n d *ℤ pos d) where
+  pub near-at : 2 * natAbs x + parity c ≤ d → c ≡ near n d
+  unfolding near
+  near-at h = c-is ∙ rw (le-leb (2 * natAbs (n -ℤ floor n d *ℤ pos d) + parity (floor n d)) d (rw (x-is, c-is) at h))
+
+  pub near-above : d < 2 * natAbs x + parity c → c +ℤ pos 1 ≡ near n d
+  unfolding near
+  near-above h =
+      ap (λ z. z +ℤ pos 1) c-is ∙ rw (lt-leb (2 * natAbs (n -ℤ floor n d *ℤ pos d) + parity (floor n d)) d (rw (x-is, c-is) at h))
+
+-- two such numbers are in order, so equal
+nearest-le : (n c c′ : ℤ) (d : ℕ) → 0 < d → Nearest n d c → Nearest n d c′ → c ≤ℤ c′
+nearest-le n c c′ d h p p′ = pick (decide c c′)
   where
-    go : (n c d : ℤ) → (c *ℤ (pos 2 *ℤ d)) ≤ℤ (pos 2 *ℤ n +ℤ d) → (pos 2 *ℤ (c *ℤ d -ℤ n)) ≤ℤ d
-    go = all3 _ (simp differences (omega arith))
+    shift : (n c k d : ℤ) → (c +ℤ k) *ℤ d -ℤ n ≡ (c *ℤ d -ℤ n) +ℤ k *ℤ d
+    shift = all4 _ (simp differences (omega arith))
 
-pub near-unique : (n c : ℤ) (d : ℕ) → 0 < d → negℤ (pos d) <ℤ (pos 2 *ℤ (c *ℤ pos d -ℤ n)) → (pos 2 *ℤ (c *ℤ pos d -ℤ n)) ≤ℤ pos d → c ≡ near n d
-unfolding near
-near-unique n c d h lo hi = floor-unique (pos 2 *ℤ n +ℤ pos d) c (2 * d) (omega arith) (under n c (pos d) hi) (over n c (pos d) lo)
-  where
-    under : (n c d : ℤ) → (pos 2 *ℤ (c *ℤ d -ℤ n)) ≤ℤ d → (c *ℤ (pos 2 *ℤ d)) ≤ℤ (pos 2 *ℤ n +ℤ d)
-    under = all3 _ (simp differences (omega arith))
+    -- c and c + 1 differ in parity, and those further apart are too far from one another
+    clash : (k : ℕ) → ¬ (Nearest n d (c′ +ℤ pos (suc k)))
+    clash zero q =
+        let u = c′ *ℤ pos d -ℤ n in
+        let v = u +ℤ pos (1 * d) in
+        omega (arith, rw (shift n c′ (pos 1) (pos d)) at q, p′, parity-next c′, abs u, abs v, sum u (pos (1 * d)))
+    clash (suc k) q =
+        let u = c′ *ℤ pos d -ℤ n in
+        let v = u +ℤ pos (suc (suc k) * d) in
+        omega (arith, rw (shift n c′ (pos (suc (suc k))) (pos d)) at q, p′, abs u, abs v, sum u (pos (suc (suc k) * d)))
 
-    over : (n c d : ℤ) → negℤ d <ℤ (pos 2 *ℤ (c *ℤ d -ℤ n)) → (pos 2 *ℤ n +ℤ d) <ℤ (c *ℤ (pos 2 *ℤ d) +ℤ pos 2 *ℤ d)
-    over = all3 _ (simp differences (omega arith))
+    next : (c c′ : ℤ) → c′ <ℤ c → c ≡ c′ +ℤ pos (suc (natAbs (c -ℤ (c′ +ℤ pos 1))))
+    next c c′ l =
+        let e = c -ℤ (c′ +ℤ pos 1) in
+        same c (c′ +ℤ pos (suc (natAbs e)))
+        (omega (arith, <-parts c′ c .0 l, abs e, apart e, difference c (c′ +ℤ pos 1), sum c′ (pos 1), sum c′ (pos (suc (natAbs e)))))
 
--- |2(c d − n)| ≤ d
+    pick : (c ≤ℤ c′) ⊎ ¬ (c ≤ℤ c′) → c ≤ℤ c′
+    pick (inl k) = k
+    pick (inr m) = absurd (clash _ (subst (Nearest n d) (next c c′ (not-le→lt c′ c m)) p))
+
+nearest-is : (n c : ℤ) (d : ℕ) → 0 < d → Nearest n d c → c ≡ near n d
+nearest-is n c d h p =
+    ℤ-ordered .le-antisym c (near n d) (nearest-le n c (near n d) d h p (near-nearest n d h)) (nearest-le n (near n d) c d h (near-nearest n d h) p)
+
+-- nearest: |2(c d − n)| ≤ d
 pub near-error : (n : ℤ) (d : ℕ) → 0 < d → 2 * natAbs (near n d *ℤ pos d -ℤ n) ≤ d
-near-error n d h =
-    let e = near n d *ℤ pos d -ℤ n in
-    omega (arith, abs e, apart e, product (pos 2) e, <-parts (negℤ (pos d)) (pos 2 *ℤ e) .0 (near-lt n d h), ≤-parts (pos 2 *ℤ e) (pos d) .0 (near-le n d h), opposite (pos d))
+near-error n d h = omega (arith, near-nearest n d h)
+
+-- a tie goes to the even number
+pub near-even : (n : ℤ) (d : ℕ) → 0 < d → 2 * natAbs (near n d *ℤ pos d -ℤ n) ≡ d → parity (near n d) ≡ 0
+near-even n d h e = omega (arith, near-nearest n d h)
+
+-- and nothing else is nearest, and even at a tie
+pub near-unique : (n c : ℤ) (d : ℕ) → 0 < d → 2 * natAbs (c *ℤ pos d -ℤ n) ≤ d → (2 * natAbs (c *ℤ pos d -ℤ n) ≡ d → parity c ≡ 0) → c ≡ near n d
+near-unique n c d h p even = nearest-is n c d h (pick (eqb (2 * natAbs (c *ℤ pos d -ℤ n)) d) refl)
+  where
+    pick : (t : Bool) → eqb (2 * natAbs (c *ℤ pos d -ℤ n)) d ≡ t → Nearest n d c
+    pick true e = omega (arith, p, even (eqb-true (2 * natAbs (c *ℤ pos d -ℤ n)) d e))
+    pick false e = omega (arith, p, eqb-false (2 * natAbs (c *ℤ pos d -ℤ n)) d e, parity-small c)
+
+-- the mirror: −c is nearest to −n
+pub near-opposite : (n : ℤ) (d : ℕ) → 0 < d → near (negℤ n) d ≡ negℤ (near n d)
+near-opposite n d h =
+    let c = near n d in
+    let e : natAbs (negℤ c *ℤ pos d -ℤ negℤ n) ≡ natAbs (c *ℤ pos d -ℤ n) = ap natAbs (turn n c (pos d)) ∙ abs-neg (c *ℤ pos d -ℤ n) in
+    sym (nearest-is (negℤ n) (negℤ c) d h (rw (e, parity-opposite c) (near-nearest n d h)))
+  where
+    turn : (n c d : ℤ) → negℤ c *ℤ d -ℤ negℤ n ≡ negℤ (c *ℤ d -ℤ n)
+    turn = all3 _ (simp differences (omega arith))
 
 -- |c d − n| ≤ |n|: 0 is a rival, and where c is not 0, |n| ≥ |c| d − d/2
 pub near-closer : (n : ℤ) (d : ℕ) → 0 < d → natAbs (near n d *ℤ pos d -ℤ n) ≤ natAbs n
@@ -162,7 +256,7 @@ near-closer n d h = go (near n d) (near-error n d h)
 pub near-error-abs : (n : ℤ) (d : ℕ) → 0 < d → (pos 2 *ℤ ∣ near n d *ℤ pos d -ℤ n ∣) ≤ℤ pos d
 near-error-abs n d h = rw ∣∣-is (pos-le _ _ (near-error n d h))
 
--- ---- the same by what is left over, x = n − c d: 0 ≤ x < d, −d < x ≤ 0, −d ≤ 2 x < d
+-- ---- floor and up by what is left over, x = n − c d: 0 ≤ x < d, −d < x ≤ 0
 
 module _ (n c x : ℤ) (d : ℕ) (split : n ≡ c *ℤ pos d +ℤ x) where
   abbrev m : ℤ
@@ -177,10 +271,3 @@ module _ (n c x : ℤ) (d : ℕ) (split : n ≡ c *ℤ pos d +ℤ x) where
   up-left hi lo =
       up-unique n c d (omega arith) (rw split (≤-parts (m +ℤ x) m .1 (omega (arith, sum m x))))
       (rw split (<-parts m (m +ℤ x +ℤ pos d) .1 (omega (arith, sum m x, sum (m +ℤ x) (pos d)))))
-
-  pub near-left : 2 * x ⁺ < d → 2 * x ⁻ ≤ d → c ≡ near n d
-  near-left hi lo =
-      let e = m -ℤ (m +ℤ x) in
-      near-unique n c d (omega arith)
-      (rw split (<-parts (negℤ (pos d)) (pos 2 *ℤ e) .1 (omega (arith, opposite (pos d), product (pos 2) e, difference m (m +ℤ x), sum m x))))
-      (rw split (≤-parts (pos 2 *ℤ e) (pos d) .1 (omega (arith, product (pos 2) e, difference m (m +ℤ x), sum m x))))

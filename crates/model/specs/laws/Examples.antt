@@ -31,7 +31,7 @@ abbrev pub Benchmarks : Type 0
 Benchmarks =
     (multiplication 2 linear linear ≡ accepted (makeModel 2 (padded (pos 524288 ∷ pos 0 ∷ pos 524288 ∷ [])) 0))
     × (multiplication 1 linear linear ≡ accepted (makeModel 1 (padded (pos 524288 ∷ [])) 524288))
-    × (multiplication 32 (constantModel (pos 1)) (constantModel (pos 524288)) ≡ accepted (makeModel 0 (padded (pos 1 ∷ [])) 1))
+    × (multiplication 32 (constantModel (pos 1)) (constantModel (pos 524288)) ≡ accepted (makeModel 0 (padded []) 1))
     × (multiplication 32 (constantModel (negsuc 0)) (constantModel (pos 524288)) ≡ accepted (makeModel 0 (padded []) 1))
     × (integration (constantModel (pos 1048576)) ≡ accepted (makeModel 1 (padded (pos 1048576 ∷ pos 1048576 ∷ [])) 1))
     × (evaluation quadratic (pos 524288) ≡ accepted (record { low = negsuc 524288; high = negsuc 524286 }))

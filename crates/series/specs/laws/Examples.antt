@@ -1,16 +1,18 @@
--- Closed series: one that is accepted, and one for each refusal. None meets a tie.
+-- Closed series: one that is accepted, one for each refusal, and ties with their mirrors.
 use mathlib.Core.Path.{_≡_, refl}
 use mathlib.Core.List.{List, [], _∷_}
 use Prim.Native.Nat.{ℕ}
-use lib.IntN.{ℤ, pos}
+use lib.IntN.{ℤ, pos, negsuc}
 use Rattle.integer.specs.definitions.Rounding.{floor, near, upℕ}
 use Rattle.chebyshev.specs.definitions.Coefficients.{weight, addLists, scaleList}
+use Rattle.chebyshev.specs.definitions.Negation.{odd, negatedFrom}
 use Rattle.chebyshev.specs.definitions.Neighbours.{neighbourSums}
 use Rattle.model.specs.definitions.Models.{makeModel, zeroModel, tooLarge}
 use Rattle.model.specs.definitions.Outcomes.{accepted, refused, passing}
 use Rattle.model.specs.definitions.Round.{rounded, roundingLoss}
 use Rattle.model.specs.laws.Examples.{padded}
 use Rattle.series.specs.definitions.Convert.{goodSeries, expandedFrom, seriesModel, conversion}
+use Rattle.series.specs.definitions.Mirror.{negatedSeries, mirroredSeries}
 use Rattle.series.specs.definitions.Table.{expansionRow}
 use Rattle.series.specs.declared.types.Series.{Series}
 
@@ -27,3 +29,25 @@ Examples =
 pub examples : Examples
 unfolding conversion goodSeries seriesModel expandedFrom expansionRow neighbourSums addLists scaleList rounded roundingLoss near floor upℕ passing tooLarge weight zeroModel
 examples = (refl, refl, refl)
+
+-- 3·x² is 3/2 + 3/2·T_2, and 6·x³ is 9/2·T_1 + 3/2·T_3, which mirrored is negated
+abbrev pub Ties : Type 0
+Ties =
+    (conversion (series 2 (pos 0 ∷ pos 0 ∷ pos 3 ∷ [])) ≡ accepted (makeModel 2 (padded (pos 2 ∷ pos 0 ∷ pos 2 ∷ [])) 1))
+    × (conversion (negatedSeries (series 2 (pos 0 ∷ pos 0 ∷ pos 3 ∷ []))) ≡ accepted (makeModel 2 (padded (negsuc 1 ∷ pos 0 ∷ negsuc 1 ∷ [])) 1))
+    × (conversion (series 3 (pos 0 ∷ pos 0 ∷ pos 0 ∷ pos 6 ∷ [])) ≡ accepted (makeModel 3 (padded (pos 0 ∷ pos 4 ∷ pos 0 ∷ pos 2 ∷ [])) 1))
+    × (conversion (mirroredSeries (series 3 (pos 0 ∷ pos 0 ∷ pos 0 ∷ pos 6 ∷ []))) ≡ accepted (makeModel 3 (padded (pos 0 ∷ negsuc 3 ∷ pos 0 ∷ negsuc 1 ∷ [])) 1))
+
+pub ties : Ties
+unfolding conversion goodSeries seriesModel expandedFrom expansionRow neighbourSums addLists scaleList rounded roundingLoss near floor upℕ passing tooLarge weight zeroModel odd negatedFrom
+ties = (refl, refl, refl, refl)
+
+-- a coefficient −2^31, whose negation 32 bits do not hold, is refused on both sides
+abbrev lowest : Series
+lowest = series 1 (pos 0 ∷ negsuc 2147483647 ∷ [])
+
+pub lowest-refused : (conversion lowest ≡ refused 14 zeroModel)
+    × (conversion (negatedSeries lowest) ≡ refused 14 zeroModel)
+    × (conversion (mirroredSeries lowest) ≡ refused 14 zeroModel)
+unfolding conversion goodSeries passing weight odd negatedFrom
+lowest-refused = (refl, refl, refl)
