@@ -19,6 +19,10 @@ pub abs-negated : (b : Bool) (c : ℤ) → natAbs (negatedIf b c) ≡ natAbs c
 abs-negated true c = abs-neg c
 abs-negated false c = refl
 
+pub negated-zero : (b : Bool) → negatedIf b (pos 0) ≡ pos 0
+negated-zero true = refl
+negated-zero false = refl
+
 pub negated-add : (b : Bool) (x y : ℤ) → negatedIf b x +ℤ negatedIf b y ≡ negatedIf b (x +ℤ y)
 negated-add true = all2 _ (simp differences (omega arith))
 negated-add false = λ x y. refl
@@ -63,11 +67,7 @@ module _ (chosen : ℕ → Bool) where
   pub negated-zeros : (k n : ℕ) → negatedFrom chosen k (replicate n (pos 0)) ≡ replicate n (pos 0)
   unfolding negatedFrom
   negated-zeros k zero = refl
-  negated-zeros k (suc n) = ap₂ _∷_ (zero-negated (chosen k)) (negated-zeros (suc k) n)
-    where
-      zero-negated : (b : Bool) → negatedIf b (pos 0) ≡ pos 0
-      zero-negated true = refl
-      zero-negated false = refl
+  negated-zeros k (suc n) = ap₂ _∷_ (negated-zero (chosen k)) (negated-zeros (suc k) n)
 
   pub negated-append-zeros : (k n : ℕ) (a : List ℤ) → negatedFrom chosen k (a ++ replicate n (pos 0)) ≡ negatedFrom chosen k a ++ replicate n (pos 0)
   unfolding negatedFrom

@@ -17,12 +17,12 @@ use Rattle.model.specs.definitions.Round.{rounded, roundingLoss}
 use Rattle.model.specs.laws.Examples.{padded}
 use Rattle.model.specs.declared.types.Model.{Model}
 
--- 6·T_1, and 2^24·T_3
+-- 6·T_1, and S + 2^24·T_3, whose mirror is not its negation
 abbrev slope : Model
 slope = makeModel 1 (padded (pos 0 ∷ pos 6 ∷ [])) 0
 
 abbrev cubic : Model
-cubic = makeModel 3 (padded (pos 0 ∷ pos 0 ∷ pos 0 ∷ pos 16777216 ∷ [])) 0
+cubic = makeModel 3 (padded (pos 1048576 ∷ pos 0 ∷ pos 0 ∷ pos 16777216 ∷ [])) 0
 
 -- 3/2 and −3/2; the integral of 6·T_1, with 6/4 for T_2; a point at which t_3 is rounded at a tie
 abbrev pub Ties : Type 0
@@ -31,8 +31,8 @@ Ties =
     × (multiplication 32 (negated (constantModel (pos 3))) (constantModel (pos 524288)) ≡ accepted (makeModel 0 (padded (negsuc 1 ∷ [])) 1))
     × (integration slope ≡ accepted (makeModel 2 (padded (negsuc 1 ∷ pos 0 ∷ pos 2 ∷ [])) 2))
     × (integration (negated slope) ≡ accepted (makeModel 2 (padded (pos 2 ∷ pos 0 ∷ negsuc 1 ∷ [])) 2))
-    × (evaluation cubic (pos 2560) ≡ accepted (record { low = negsuc 122879; high = negsuc 122878 }))
-    × (evaluation (mirrored cubic) (negsuc 2559) ≡ accepted (record { low = negsuc 122879; high = negsuc 122878 }))
+    × (evaluation cubic (pos 2560) ≡ accepted (record { low = pos 925696; high = pos 925697 }))
+    × (evaluation (mirrored cubic) (negsuc 2559) ≡ accepted (record { low = pos 925696; high = pos 925697 }))
 
 pub ties : Ties
 unfolding multiplication productModel productList productLoss rounded roundingLoss integration integralModel integralList halved numerators doubleFirst alternating evaluation lowBound highBound pointTerm pointSum pointError passing good tooLarge constantModel zeroModel weight addLists subtractLists addAt addPair addTerm addTerms product floor up upℕ near odd negatedFrom

@@ -107,6 +107,9 @@ multiplication-second d a b = ap (λ m. multiplication d m (negated b)) (sym (ne
 pub multiplication-mirrored : (d : ℕ) (a b : Model) → multiplication d (mirrored a) (mirrored b) ≡ mapOutcome mirrored (multiplication d a b)
 multiplication-mirrored d a b = multiplication-negated signs-odd a b d
 
+opposites : (x y : ℤ) → negℤ x -ℤ negℤ y ≡ negℤ (x -ℤ y)
+opposites = all2 _ (simp differences (omega arith))
+
 -- ---- integrate
 
 opposite-difference : (a b : List ℤ) → subtractLists ℤ-ring (map negℤ a) (map negℤ b) ≡ map negℤ (subtractLists ℤ-ring a b)
@@ -140,10 +143,7 @@ halved-opposite k (n ∷ ns) = ap₂ _∷_ (near-opposite n (2 * suc k) (omega a
 alternating-opposite : (cs : List ℤ) → alternating (map negℤ cs) ≡ negℤ (alternating cs)
 unfolding alternating
 alternating-opposite [] = refl
-alternating-opposite (c ∷ cs) = ap (λ z. negℤ c -ℤ z) (alternating-opposite cs) ∙ turn c (alternating cs)
-  where
-    turn : (x y : ℤ) → negℤ x -ℤ negℤ y ≡ negℤ (x -ℤ y)
-    turn = all2 _ (simp differences (omega arith))
+alternating-opposite (c ∷ cs) = ap (λ z. negℤ c -ℤ z) (alternating-opposite cs) ∙ opposites c (alternating cs)
 
 integralList-opposite : (cs : List ℤ) → integralList (map negℤ cs) ≡ map negℤ (integralList cs)
 unfolding integralList
@@ -188,14 +188,11 @@ pointTerm-mirrored p (suc (suc k)) =
     other-sign : (p t : ℤ) → pos 2 *ℤ negℤ p *ℤ t ≡ negℤ (pos 2 *ℤ p *ℤ t)
     other-sign p t = solveℤ (p ∷ t ∷ []) (search reifyℤ depth 20) (search reifyℤ depth 20) tt
 
-    turn : (x y : ℤ) → negℤ x -ℤ negℤ y ≡ negℤ (x -ℤ y)
-    turn = all2 _ (simp differences (omega arith))
-
     step : (b : Bool) (p u v : ℤ) → near (pos 2 *ℤ negℤ p *ℤ negatedIf (not b) u) scale -ℤ negatedIf b v ≡ negatedIf (not (not b)) (near (pos 2 *ℤ p *ℤ u) scale -ℤ v)
     step true p u v =
         ap (λ n. near n scale -ℤ negℤ v) (other-sign p u)
         ∙ ap (λ c. c -ℤ negℤ v) (near-opposite (pos 2 *ℤ p *ℤ u) scale (omega arith))
-        ∙ turn (near (pos 2 *ℤ p *ℤ u) scale) v
+        ∙ opposites (near (pos 2 *ℤ p *ℤ u) scale) v
     step false p u v = ap (λ n. near n scale -ℤ v) (same-sign p u)
 
 pointSum-mirrored : (p : ℤ) (k : ℕ) (cs : List ℤ) → pointSum (negℤ p) k (negatedFrom odd k cs) ≡ pointSum p k cs

@@ -30,17 +30,19 @@ pub examples : Examples
 unfolding conversion goodSeries seriesModel expandedFrom expansionRow neighbourSums addLists scaleList rounded roundingLoss near floor upℕ passing tooLarge weight zeroModel
 examples = (refl, refl, refl)
 
--- 3·x² is 3/2 + 3/2·T_2, and 6·x³ is 9/2·T_1 + 3/2·T_3, which mirrored is negated
+-- 3·x² + 6·x³ is 3/2 + 9/2·T_1 + 3/2·T_2 + 3/2·T_3, all ties
+abbrev tied : Series
+tied = series 3 (pos 0 ∷ pos 0 ∷ pos 3 ∷ pos 6 ∷ [])
+
 abbrev pub Ties : Type 0
 Ties =
-    (conversion (series 2 (pos 0 ∷ pos 0 ∷ pos 3 ∷ [])) ≡ accepted (makeModel 2 (padded (pos 2 ∷ pos 0 ∷ pos 2 ∷ [])) 1))
-    × (conversion (negatedSeries (series 2 (pos 0 ∷ pos 0 ∷ pos 3 ∷ []))) ≡ accepted (makeModel 2 (padded (negsuc 1 ∷ pos 0 ∷ negsuc 1 ∷ [])) 1))
-    × (conversion (series 3 (pos 0 ∷ pos 0 ∷ pos 0 ∷ pos 6 ∷ [])) ≡ accepted (makeModel 3 (padded (pos 0 ∷ pos 4 ∷ pos 0 ∷ pos 2 ∷ [])) 1))
-    × (conversion (mirroredSeries (series 3 (pos 0 ∷ pos 0 ∷ pos 0 ∷ pos 6 ∷ []))) ≡ accepted (makeModel 3 (padded (pos 0 ∷ negsuc 3 ∷ pos 0 ∷ negsuc 1 ∷ [])) 1))
+    (conversion tied ≡ accepted (makeModel 3 (padded (pos 2 ∷ pos 4 ∷ pos 2 ∷ pos 2 ∷ [])) 2))
+    × (conversion (negatedSeries tied) ≡ accepted (makeModel 3 (padded (negsuc 1 ∷ negsuc 3 ∷ negsuc 1 ∷ negsuc 1 ∷ [])) 2))
+    × (conversion (mirroredSeries tied) ≡ accepted (makeModel 3 (padded (pos 2 ∷ negsuc 3 ∷ pos 2 ∷ negsuc 1 ∷ [])) 2))
 
 pub ties : Ties
 unfolding conversion goodSeries seriesModel expandedFrom expansionRow neighbourSums addLists scaleList rounded roundingLoss near floor upℕ passing tooLarge weight zeroModel odd negatedFrom
-ties = (refl, refl, refl, refl)
+ties = (refl, refl, refl)
 
 -- a coefficient −2^31, whose negation 32 bits do not hold, is refused on both sides
 abbrev lowest : Series

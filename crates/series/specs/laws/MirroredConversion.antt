@@ -14,17 +14,17 @@ use Rattle.integer.specs.definitions.Integer.{ℤ-ring}
 use Rattle.integer.specs.definitions.Rounding.{upℕ}
 use Rattle.chebyshev.specs.definitions.Coefficients.{addLists, scaleList}
 use Rattle.chebyshev.specs.definitions.Negation.{every, odd, negatedIf, negatedFrom}
-use Rattle.chebyshev.specs.laws.NegationLaws.{negated-left, take-negated, drop-negated, weight-negated, negated-append-zeros, negated-sum, odd-twice}
+use Rattle.chebyshev.specs.laws.NegationLaws.{negated-zero, negated-left, take-negated, negated-append-zeros, negated-sum, odd-twice}
 use Rattle.model.specs.definitions.Mirror.{negatedWhere, negated, mirrored, mapOutcome}
 use Rattle.model.specs.definitions.Models.{maxDegree, coefficientCount, makeModel, zeroModel}
 use Rattle.model.specs.definitions.Outcomes.{refused}
 use Rattle.model.specs.definitions.Round.{rounded, roundingLoss}
-use Rattle.model.specs.laws.MirrorLaws.{rounded-negated, roundingLoss-negated, tooLarge-negated, zero-negated, outcome-mapped}
-use Rattle.series.specs.definitions.Convert.{seriesTerms, seriesBeyond, goodSeries, expandedFrom, expanded, seriesModel, conversionPlaces, conversion}
+use Rattle.model.specs.laws.MirrorLaws.{rounded-negated, roundingLoss-negated, good-negated, tooLarge-negated, zero-negated, outcome-mapped}
+use Rattle.series.specs.definitions.Convert.{seriesTerms, goodSeries, expandedFrom, expanded, seriesModel, conversionPlaces, conversion}
 use Rattle.series.specs.definitions.Mirror.{negatedSeriesWhere, negatedSeries, mirroredSeries}
 use Rattle.series.specs.definitions.Table.{expansionUnit, expansionRow}
 use Rattle.series.specs.declared.types.Series.{Series}
-use Rattle.series.specs.laws.ConversionLaws.{limits, conversion-of-bad}
+use Rattle.series.specs.laws.ConversionLaws.{series-good, limits, conversion-of-bad}
 use Rattle.series.specs.laws.RowLaws.{length-row, row-alternate}
 
 -- ---- the rows: what stands in row k is negated or not as p_k is
@@ -66,11 +66,7 @@ module _ (chosen : ℕ → Bool) where
       here = omega arith
 
       nothing : (c : Bool) → negatedIf b p *ℤ pos 0 ≡ negatedIf c (p *ℤ pos 0)
-      nothing c = rw (*ℤ-comm (negatedIf b p) (pos 0), *ℤ-comm p (pos 0), zero-*ℤ (negatedIf b p), zero-*ℤ p) (zero-negated c)
-        where
-          zero-negated : (c : Bool) → pos 0 ≡ negatedIf c (pos 0)
-          zero-negated true = refl
-          zero-negated false = refl
+      nothing c = rw (*ℤ-comm (negatedIf b p) (pos 0), *ℤ-comm p (pos 0), zero-*ℤ (negatedIf b p), zero-*ℤ p, negated-zero c)
 
       first : (x ≡ pos 0) ⊎ (chosen (j + 0) ≡ b) → negatedIf b p *ℤ x ≡ negatedIf (chosen j) (p *ℤ x)
       first (inl z) = rw z (nothing (chosen j))
@@ -89,9 +85,8 @@ module _ (chosen : ℕ → Bool) (fits : Fits chosen) where
       start i = omega arith
 
   goodSeries-negated : (s : Series) → goodSeries (negatedSeriesWhere chosen s) ≡ goodSeries s
-  unfolding goodSeries
   goodSeries-negated s =
-      rw (weight-negated chosen 0 (s .coefficients), drop-negated chosen (suc (s .degree)) 0 (s .coefficients), weight-negated chosen (0 + suc (s .degree)) (seriesBeyond s))
+      sym (series-good (negatedSeriesWhere chosen s)) ∙ good-negated chosen (makeModel (s .degree) (s .coefficients) 0) ∙ series-good s
 
   module _ (s : Series) (good : goodSeries s ≡ true) where
     expanded-is : expanded (negatedSeriesWhere chosen s) ≡ negatedFrom chosen 0 (expanded s)
@@ -110,9 +105,9 @@ module _ (chosen : ℕ → Bool) (fits : Fits chosen) where
         (ap (λ c. upℕ (roundingLoss expansionUnit c) expansionUnit) expanded-is
         ∙ ap (λ (n : ℕ). upℕ n expansionUnit) (roundingLoss-negated chosen expansionUnit (omega arith) 0 (expanded s)))
 
-    good-negated : conversion (negatedSeriesWhere chosen s) ≡ mapOutcome (negatedWhere chosen) (conversion s)
+    conversion-of-good-negated : conversion (negatedSeriesWhere chosen s) ≡ mapOutcome (negatedWhere chosen) (conversion s)
     unfolding conversion
-    good-negated =
+    conversion-of-good-negated =
         rw (goodSeries-negated s, seriesModel-negated, tooLarge-negated chosen (seriesModel s))
         (outcome-mapped (negatedWhere chosen) (conversionPlaces s) (seriesModel s) zeroModel (zero-negated chosen))
 
@@ -120,7 +115,7 @@ module _ (chosen : ℕ → Bool) (fits : Fits chosen) where
   conversion-mapped s = pick (goodSeries s) refl
     where
       pick : (t : Bool) → goodSeries s ≡ t → conversion (negatedSeriesWhere chosen s) ≡ mapOutcome (negatedWhere chosen) (conversion s)
-      pick true e = good-negated s e
+      pick true e = conversion-of-good-negated s e
       pick false e =
           sym (conversion-of-bad (negatedSeriesWhere chosen s) (goodSeries-negated s ∙ e))
           ∙ ap (refused 14) (sym (zero-negated chosen))
