@@ -27,25 +27,24 @@ selection-fits f g scratch answer e =
     (q .0, q .1, p .1)
 
 module _ (f g first second scratch : List ℤ) (answer : List ℕ) (fit : selectionFits f g scratch answer ≡ true) where
-  -- f and g are read from their areas; n, c and e are the lent numbers, l the area of the answer afterwards
-  module _ {a b : Model} (is-f : a ≡ areaModel f) (is-g : b ≡ areaModel g) (n c e : ℕ) {l : List ℕ}
-      (selects : selectedIn n c e ≡ selection (length scratch) a b first second) (stored : l ≡ areaOut selectionSize (c ∷ e ∷ []) answer) where
-    same : selectedIn n c e ≡ selection (length scratch) (areaModel f) (areaModel g) first second
-    same = selects ∙ (λ k. selection (length scratch) (is-f k) (is-g k) first second)
-
-    pub selection-given : {s : List ℤ} → s ≡ scratchAfter scratch → selectionAnswer n s l ≡ quotientOfTwoAnswer f g first second scratch answer
-    unfolding selectionIn
-    selection-given cleared =
-        let number = sym (selected-number n c e) in
-        let numbers = stored ∙ ap (λ (x : Selected). areaOut selectionSize (x .chosen ∷ x .radius ∷ []) answer) (sym (selected-payload n c e)) in
-        rw fit ((λ k. selectionAnswer (number k) (cleared k) (numbers k)) ∙ ap (λ (o : Outcome Selected). selectionIn o scratch answer) same)
-
-    pub selection-claim : n ≡ 0 → QuotientAllowed (areaModel f) (areaModel g) (partNumbers (getD l 0 0) first second) (getD l 1 0)
-    selection-claim zero =
-        let accepts : accepted (makeSelected c e) ≡ selection (length scratch) (areaModel f) (areaModel g) first second =
-        ap (λ (m : ℕ). selectedIn m c e) (sym zero) ∙ same in
-        rw (stored ∙ sym (filled selectionSize (c ∷ e ∷ []) answer (selection-fits f g scratch answer fit .2)))
-        (selection-allowed (length scratch) (areaModel f) (areaModel g) first second (sym accepts))
+  -- f and g are read from their areas; n, c and e are the lent numbers, s and l the scratch and the area of the answer afterwards
+  pub selection-answered : {a b : Model} → a ≡ areaModel f → b ≡ areaModel g → (n c e : ℕ) {s : List ℤ} {l : List ℕ}
+      → selectedIn n c e ≡ selection (length scratch) a b first second → s ≡ scratchAfter scratch → l ≡ areaOut selectionSize (c ∷ e ∷ []) answer
+      → (selectionAnswer n s l ≡ quotientOfTwoAnswer f g first second scratch answer)
+      × (n ≡ 0 → QuotientAllowed (areaModel f) (areaModel g) (partNumbers (getD l 0 0) first second) (getD l 1 0))
+  unfolding selectionIn
+  selection-answered is-f is-g n c e selects cleared stored =
+      let same : selectedIn n c e ≡ selection (length scratch) (areaModel f) (areaModel g) first second =
+      selects ∙ (λ k. selection (length scratch) (is-f k) (is-g k) first second) in
+      let number = sym (selected-number n c e) in
+      let numbers = stored ∙ ap (λ (x : Selected). areaOut selectionSize (x .chosen ∷ x .radius ∷ []) answer) (sym (selected-payload n c e)) in (
+        rw fit ((λ k. selectionAnswer (number k) (cleared k) (numbers k)) ∙ ap (λ (o : Outcome Selected). selectionIn o scratch answer) same),
+        λ zero.
+            let accepts : accepted (makeSelected c e) ≡ selection (length scratch) (areaModel f) (areaModel g) first second =
+            ap (λ (m : ℕ). selectedIn m c e) (sym zero) ∙ same in
+            rw (stored ∙ sym (filled selectionSize (c ∷ e ∷ []) answer (selection-fits f g scratch answer fit .2)))
+            (selection-allowed (length scratch) (areaModel f) (areaModel g) first second (sym accepts)),
+      )
 
 -- refusal 1 has its number
 pub short-number : (scratch : List ℤ) (answer : List ℕ) {n : ℕ} {s : List ℤ} {l : List ℕ}

@@ -23,7 +23,7 @@ proposedAnswer s = areaCandidate s
 abbrev pub proposedHelper : List ℤ → Candidate
 proposedHelper s = areaCandidate (drop candidateSize s)
 
--- "A shorter one fails with 1, by itself": before the models, and whatever the other proposal is. len is the length of the scratch.
+-- "A shorter one fails with 1, by itself": before the models, and whatever the other proposal is. `len` is that of the scratch.
 unfoldable pub proposalTest : ℕ → Model → Model → List ℤ → Outcome Certificate
 proposalTest len f g s =
     cond (ltb (length s) proposalSize) (refused 1 zeroCertificate) (quotientTest len f g (proposedAnswer s) (proposedHelper s))

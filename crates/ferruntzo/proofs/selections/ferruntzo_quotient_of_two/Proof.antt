@@ -6,7 +6,7 @@ use denote.Ref.{now}
 use lib.ListN.{length}
 use Rattle.model.specs.definitions.Area.{modelSize}
 use Rattle.ferruntzo.specs.definitions.Areas.{selectionSize}
-use Rattle.ferruntzo.proofs.SelectionAnswering.{selection-fits, selection-given, selection-claim, short-number}
+use Rattle.ferruntzo.proofs.SelectionAnswering.{selection-fits, selection-answered, short-number}
 use Rattle.ferruntzo.proofs.selections.ferruntzo_quotient_of_two.Statement.{statement}
 use Rattle.ferruntzo.proofs.selections.ferruntzo_quotient_of_two.Tie as tie
 
@@ -22,11 +22,9 @@ returns c =
     let d = g .before .before in
     let a = d .before .before .args in
     let l = q .quotient-of-two .last .1 .1 .1 .1 .1 in
-    let given = selection-given (now (a .f)) (now (a .g)) (now (a .first)) (now (a .second)) (now (a .scratch)) (now (a .answer)) (d .if1 .taken)
-    (g .before .model-in .ensures) (g .model-in2 .ensures) (l .0) (l .1 .0) (l .1 .1 .0) (q .quotient-of-two .ensures .0) (t .store-selected .ensures) in
-    let claim = selection-claim (now (a .f)) (now (a .g)) (now (a .first)) (now (a .second)) (now (a .scratch)) (now (a .answer)) (d .if1 .taken)
-    (g .before .model-in .ensures) (g .model-in2 .ensures) (l .0) (l .1 .0) (l .1 .1 .0) (q .quotient-of-two .ensures .0) (t .store-selected .ensures) in
-    (given (q .quotient-of-two .ensures .1 .1 .0), claim)
+    selection-answered (now (a .f)) (now (a .g)) (now (a .first)) (now (a .second)) (now (a .scratch)) (now (a .answer)) (d .if1 .taken)
+    (g .before .model-in .ensures) (g .model-in2 .ensures) (l .0) (l .1 .0) (l .1 .1 .0)
+    (q .quotient-of-two .ensures .0) (q .quotient-of-two .ensures .1 .1 .0) (t .store-selected .ensures)
 
 returns-2 : tie.Need-returns-2
 returns-2 c =
