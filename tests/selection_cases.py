@@ -177,7 +177,7 @@ def failing(rng, g, h, w):
 
 
 def random_selection(rng):
-    draw = rng.choice((exact_quotient, zero_quotient, solved_quotient, solved_quotient))
+    draw, = rng.choices((exact_quotient, zero_quotient, solved_quotient), (2, 1, 5))
     f, g, pairs = draw(rng) or exact_quotient(rng)
     row = []
     for h, w in rng.sample(pairs, 2):
