@@ -233,9 +233,9 @@ struct passed {
     int64_t radius, m, n, b;
 };
 
-/* The quotient test; f and g are good. */
-static uint32_t judge_quotient(const int32_t *f, const int32_t *g, const int32_t *h,
-                               const int32_t *w, int64_t *c, struct passed *passed)
+/* The quotient test; f and g are good.  inline: -O3 puts it into both of its callers. */
+static inline uint32_t judge_quotient(const int32_t *f, const int32_t *g, const int32_t *h,
+                                      const int32_t *w, int64_t *c, struct passed *passed)
 {
     if (!good_candidate(h) || !good_candidate(w))
         return BAD_MODEL;
