@@ -1,4 +1,4 @@
-//! Tests of two proposals for one quotient: which is chosen, that its coefficients are the caller's own, every refusal, every length.
+//! Two proposals for one quotient: which is chosen, that its coefficients are the caller's own, every refusal, every length.
 use super::*;
 
 /// A proposal of constants: h and w.
@@ -143,11 +143,14 @@ fn call_two(first: &[i32], second: &[i32], lengths: [usize; 4], otherwise: Resul
     }
 }
 
+/// Two proposals, and the radius of the second or the refusal.
+type Call<'a> = (&'a [i32], &'a [i32], Result<u32, Refusal>);
+
 #[test]
 fn areas_of_two() {
     let sizes = [MODEL_SIZE, MODEL_SIZE, SCRATCH_SIZE, CHOICE_SIZE];
     let (long, short) = (off_by(3), &off_by(3)[..PROPOSAL_SIZE - 1]);
-    let calls: [(&[i32], &[i32], Result<u32, Refusal>); 6] = [
+    let calls: [Call; 6] = [
         (&off_by(4), &long, Ok(3)),
         (short, &long, Ok(3)),
         (&[], &long, Ok(3)),
