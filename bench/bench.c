@@ -149,7 +149,7 @@ static void geometric(int32_t *model, int degree, double first, double term, dou
         model[1 + k] = (int32_t)lround(term * FERRUNTZO_S * pow(ratio, k));
 }
 
-/* Multiply, integrate, evaluate, both tests, the conversion of a series and the choice between
+/* Multiply, integrate, evaluate, both tests, the conversion of a series and the selection of
    two proposals, every polynomial of one degree; the integrand has one less, so that its integral
    has that degree. */
 static void add_degree(int degree)
@@ -235,7 +235,7 @@ static struct areas {
     uint64_t numbers[FERRUNTZO_NUMBERS_SIZE];
     int32_t work[FERRUNTZO_WORK_SIZE];
     uint32_t answer[FERRUNTZO_ANSWER_SIZE];
-    uint32_t choice[FERRUNTZO_CHOICE_SIZE];
+    uint32_t selected[FERRUNTZO_SELECTION_SIZE];
 } lent;
 static volatile double deviation;
 static int logged;              /* whether each call is written down, for mode count */
@@ -278,7 +278,7 @@ static void call(int v, const struct bench_case *c)
     case QUOTIENT_OF_TWO:
         lent.number = version->quotient_of_two(WHOLE(c->f), WHOLE(c->g), WHOLE(c->first),
                                                WHOLE(c->second), WHOLE(lent.scratch),
-                                               WHOLE(lent.choice));
+                                               WHOLE(lent.selected));
         break;
     case CHECK:
         lent.number = version->check(c->job, c->job_len, WHOLE(lent.work), WHOLE(lent.scratch),
@@ -304,7 +304,7 @@ static void compare_versions(void)
             call(v, &cases[i]);
             if (lent.number != 0)
                 fail("refused", cases[i].name);
-            if (cases[i].kind == QUOTIENT_OF_TWO && lent.choice[0] != FERRUNTZO_CHOSEN_SECOND)
+            if (cases[i].kind == QUOTIENT_OF_TWO && lent.selected[0] != FERRUNTZO_CHOSEN_SECOND)
                 fail("the first is chosen", cases[i].name);
             if (v == LIBRARY)
                 first = lent;

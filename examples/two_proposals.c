@@ -29,13 +29,13 @@ int main(void)
         11, 605396, -324431, 86931, -23293, 6241, -1672, 448, -120, 32, -9, 2, -1,
         [W] = 11, 605396, -324431, 86931, -23293, 6241, -1672, 448, -120, 32, -9, 2, -1};
     int64_t scratch[FERRUNTZO_SCRATCH_SIZE];
-    uint32_t answer[FERRUNTZO_CHOICE_SIZE];
+    uint32_t answer[FERRUNTZO_SELECTION_SIZE];
 
     uint32_t refusal = ferruntzo_quotient_of_two(f, FERRUNTZO_MODEL_SIZE, g, FERRUNTZO_MODEL_SIZE,
                                                  first, FERRUNTZO_PROPOSAL_SIZE,
                                                  second, FERRUNTZO_PROPOSAL_SIZE,
                                                  scratch, FERRUNTZO_SCRATCH_SIZE,
-                                                 answer, FERRUNTZO_CHOICE_SIZE);
+                                                 answer, FERRUNTZO_SELECTION_SIZE);
     if (refusal != FERRUNTZO_ACCEPTED) {
         printf("refused %u\n", (unsigned)refusal);
         return 1;

@@ -120,7 +120,7 @@ extern "C" {
 #define FERRUNTZO_REPORT_SIZE FERRUNTZO_NUMBERS_SIZE  /* its former name */
 #define FERRUNTZO_WORK_SIZE 1120      /* int32_t: 32 models */
 #define FERRUNTZO_ANSWER_SIZE 2       /* uint32_t: count, command */
-#define FERRUNTZO_CHOICE_SIZE 2       /* uint32_t: chosen, radius */
+#define FERRUNTZO_SELECTION_SIZE 2    /* uint32_t: chosen, radius */
 
 /* ---- Places inside a model area (also of a candidate and a series, which have no radius) ---- */
 

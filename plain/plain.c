@@ -21,7 +21,7 @@
 #define MAX_RESULTS 32
 #define WORK_SIZE (MAX_RESULTS * MODEL_SIZE)
 #define ANSWER_SIZE 2
-#define CHOICE_SIZE 2
+#define SELECTION_SIZE 2
 #define DEFAULT_KEPT 255
 #define EXPANSION_UNIT ((int64_t)1 << 32)
 
@@ -429,7 +429,7 @@ uint32_t plain_quotient_of_two(const int32_t *f, size_t f_len, const int32_t *g,
                                uint32_t *answer, size_t answer_len)
 {
     uint32_t number = SHORT_AREA;
-    if (CLEAR(answer, CHOICE_SIZE) && f_len >= MODEL_SIZE && g_len >= MODEL_SIZE
+    if (CLEAR(answer, SELECTION_SIZE) && f_len >= MODEL_SIZE && g_len >= MODEL_SIZE
         && scratch_len >= SCRATCH_SIZE)
         number = choose(f, g, first, first_len, second, second_len, scratch, answer);
     CLEAR(scratch, SCRATCH_SIZE);

@@ -8,7 +8,7 @@ from cases import Case
 from examples_of_01 import example_job
 from header import (
     ACCEPTED, ANSWER_SIZE, BAD_MODEL, BAD_SERIES, BAD_VALUE, BOUNDS_SIZE, BYTES_AFTER_END,
-    CANDIDATE_SIZE, CHOICE_SIZE, HELPER_NOT_POSITIVE, JOB_ENDS, LARGE_RESIDUAL, LARGE_RESULT, MAX_DEGREE,
+    CANDIDATE_SIZE, SELECTION_SIZE, HELPER_NOT_POSITIVE, JOB_ENDS, LARGE_RESIDUAL, LARGE_RESULT, MAX_DEGREE,
     MAX_RESULTS, MODEL_SIZE, NEGATIVE_DISCRIMINANT, NOT_A_RESULT, NOT_CONTRACTING, NUMBERS_SIZE, POINT_OUTSIDE,
     SCRATCH_SIZE, SERIES_SIZE, TOO_MANY_RESULTS, WORK_SIZE)
 from oracle import LIMIT, S, constant, model, power, series, term
@@ -32,7 +32,7 @@ AREAS = {
     'root': (MODEL_IN, CANDIDATE_IN, CANDIDATE_IN, SCRATCH, OUT, NUMBERS),
     'check': (('B', 0, 'job'), ('i', WORK_SIZE, 'work'), SCRATCH, ('I', ANSWER_SIZE, 'answer')),
     'from_series': (SERIES_IN, OUT),
-    'quotient_of_two': (MODEL_IN, MODEL_IN, PROPOSAL, PROPOSAL, SCRATCH, ('I', CHOICE_SIZE, 'answer')),
+    'quotient_of_two': (MODEL_IN, MODEL_IN, PROPOSAL, PROPOSAL, SCRATCH, ('I', SELECTION_SIZE, 'answer')),
 }
 # What an entry answers in; each is zero after every refusal if it is itself long enough.
 ANSWERS = ('out', 'bounds', 'numbers', 'answer')

@@ -74,8 +74,8 @@ def oracle_answer(case):
         number, result, *numbers = getattr(o, entry)(*inputs)
         return number, {'scratch': [0] * SCRATCH_SIZE, 'out': flat(result), 'numbers': numbers}
     if entry == 'quotient_of_two':
-        number, *choice = o.quotient_of_two(*inputs)
-        return number, {'scratch': [0] * SCRATCH_SIZE, 'answer': choice}
+        number, *selected = o.quotient_of_two(*inputs)
+        return number, {'scratch': [0] * SCRATCH_SIZE, 'answer': selected}
     if entry == 'check':
         verdict, first, second = o.check_job(*inputs)
         contents = {'work': [0] * WORK_SIZE, 'scratch': [0] * SCRATCH_SIZE}

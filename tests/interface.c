@@ -24,7 +24,7 @@ static int32_t curve[FERRUNTZO_SERIES_SIZE] = {2, S, 0, 2 * S};      /* 1 + 2 x^
 static int32_t out[FERRUNTZO_MODEL_SIZE], work[FERRUNTZO_WORK_SIZE];
 static int64_t scratch[FERRUNTZO_SCRATCH_SIZE], bounds[FERRUNTZO_BOUNDS_SIZE];
 static uint64_t numbers[FERRUNTZO_NUMBERS_SIZE];
-static uint32_t answer[FERRUNTZO_ANSWER_SIZE], choice[FERRUNTZO_CHOICE_SIZE];
+static uint32_t answer[FERRUNTZO_ANSWER_SIZE], choice[FERRUNTZO_SELECTION_SIZE];
 /* h = w = 1, and h two units off. */
 static int32_t exact[FERRUNTZO_PROPOSAL_SIZE] = {0, S, [FERRUNTZO_CANDIDATE_SIZE] = 0, S};
 static int32_t rough[FERRUNTZO_PROPOSAL_SIZE] = {0, S + 2, [FERRUNTZO_CANDIDATE_SIZE] = 0, S};
@@ -134,7 +134,7 @@ static void power_series(void)
 static int chooses(const int32_t *first, size_t first_len, const int32_t *second, size_t second_len,
                    uint32_t number, uint32_t chosen, uint32_t radius)
 {
-    uint32_t given[FERRUNTZO_CHOICE_SIZE + 1] = {9, 9, 9};
+    uint32_t given[FERRUNTZO_SELECTION_SIZE + 1] = {9, 9, 9};
     for (size_t i = 0; i < COUNT(scratch); i++)
         scratch[i] = 7;
     if (ferruntzo_quotient_of_two(WHOLE(one), WHOLE(one), first, first_len, second, second_len,
@@ -143,7 +143,7 @@ static int chooses(const int32_t *first, size_t first_len, const int32_t *second
     for (size_t i = 0; i < COUNT(scratch); i++)
         if (scratch[i] != 0)
             return 0;
-    return given[0] == chosen && given[1] == radius && given[FERRUNTZO_CHOICE_SIZE] == 9;
+    return given[0] == chosen && given[1] == radius && given[FERRUNTZO_SELECTION_SIZE] == 9;
 }
 
 /* Each proposal is tested by itself; both may be one area, or overlap. */
@@ -196,7 +196,7 @@ static void alignment(void)
     static int32_t room[2 * FERRUNTZO_MODEL_SIZE + 3];
     static int64_t wide[FERRUNTZO_SCRATCH_SIZE + 3];
     static int32_t pair[FERRUNTZO_PROPOSAL_SIZE + 3];
-    static uint32_t given[FERRUNTZO_CHOICE_SIZE + 3];
+    static uint32_t given[FERRUNTZO_SELECTION_SIZE + 3];
     const size_t size = FERRUNTZO_MODEL_SIZE;
     for (int shift = 0; shift < 4; shift++) {
         int32_t *a = room + shift, *b = a + size;
@@ -211,7 +211,7 @@ static void alignment(void)
         memcpy(pair + shift, exact, sizeof exact);
         EXPECT(ferruntzo_quotient_of_two(a, size, a, size, WHOLE(rough), pair + shift, COUNT(exact),
                                          wide + shift, FERRUNTZO_SCRATCH_SIZE, given + shift,
-                                         FERRUNTZO_CHOICE_SIZE) == 0);
+                                         FERRUNTZO_SELECTION_SIZE) == 0);
         EXPECT(given[shift] == FERRUNTZO_CHOSEN_SECOND && given[shift + 1] == 0);
     }
 }

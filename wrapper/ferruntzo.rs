@@ -64,7 +64,7 @@ pub const WORK_SIZE: usize = 1120;
 /// Numbers in the answer of a job: count, command.
 pub const ANSWER_SIZE: usize = 2;
 /// Numbers in the answer of two proposals: chosen, radius.
-pub const CHOICE_SIZE: usize = 2;
+pub const SELECTION_SIZE: usize = 2;
 
 const RADIUS: usize = 34;
 
@@ -462,7 +462,7 @@ pub fn quotient_of_two<'a>(
     second: &'a [i32],
 ) -> Result<Selection<'a>, Refusal> {
     let mut scratch = [0; SCRATCH_SIZE];
-    let mut answer = [0; CHOICE_SIZE];
+    let mut answer = [0; SELECTION_SIZE];
     let (tested, coefficients) =
         areas::quotient_of_two(&f.0, &g.0, first, second, &mut scratch, &mut answer);
     tested?;

@@ -127,18 +127,18 @@ fn call_two(first: &[i32], second: &[i32], lengths: [usize; 4], otherwise: Resul
     let (tested, part) = areas::quotient_of_two(&f, &g, first, second, &mut scratch, &mut answer);
     let fit = f_len >= MODEL_SIZE && g_len >= MODEL_SIZE && scratch_len >= SCRATCH_SIZE;
     let expected =
-        if fit && answer_len >= CHOICE_SIZE { otherwise } else { Err(Refusal::ShortArea) };
+        if fit && answer_len >= SELECTION_SIZE { otherwise } else { Err(Refusal::ShortArea) };
     assert_eq!(tested, expected.map(|_| ()), "lengths {lengths:?}");
     assert_eq!(scratch, zeroed(WIDE, scratch_len, SCRATCH_SIZE), "lengths {lengths:?}");
     match expected {
         Ok(radius) => {
             assert_eq!((part.as_ptr(), part.len()), (second[1..].as_ptr(), COEFFICIENTS));
-            assert_eq!(answer[..CHOICE_SIZE], [Chosen::Second as u32, radius]);
-            assert_eq!(answer[CHOICE_SIZE..], vec![9; answer_len - CHOICE_SIZE]);
+            assert_eq!(answer[..SELECTION_SIZE], [Chosen::Second as u32, radius]);
+            assert_eq!(answer[SELECTION_SIZE..], vec![9; answer_len - SELECTION_SIZE]);
         }
         Err(_) => {
             assert_eq!((part.as_ptr(), part.len()), (first.as_ptr(), 0));
-            assert_eq!(answer, zeroed(9, answer_len, CHOICE_SIZE), "lengths {lengths:?}");
+            assert_eq!(answer, zeroed(9, answer_len, SELECTION_SIZE), "lengths {lengths:?}");
         }
     }
 }
@@ -148,7 +148,7 @@ type Call<'a> = (&'a [i32], &'a [i32], Result<u32, Refusal>);
 
 #[test]
 fn areas_of_two() {
-    let sizes = [MODEL_SIZE, MODEL_SIZE, SCRATCH_SIZE, CHOICE_SIZE];
+    let sizes = [MODEL_SIZE, MODEL_SIZE, SCRATCH_SIZE, SELECTION_SIZE];
     let (long, short) = (off_by(3), &off_by(3)[..PROPOSAL_SIZE - 1]);
     let calls: [Call; 6] = [
         (&off_by(4), &long, Ok(3)),

@@ -266,7 +266,7 @@ fn header_agrees() {
         ("NUMBERS_SIZE", NUMBERS_SIZE),
         ("WORK_SIZE", WORK_SIZE),
         ("ANSWER_SIZE", ANSWER_SIZE),
-        ("CHOICE_SIZE", CHOICE_SIZE),
+        ("SELECTION_SIZE", SELECTION_SIZE),
         ("CHOSEN_FIRST", Chosen::First as usize),
         ("CHOSEN_SECOND", Chosen::Second as usize),
         ("COEFFICIENTS", COEFFICIENTS),
