@@ -8,10 +8,12 @@ use borrow.Author.Tests.{ltb-true, ltb-false, le-ltb, lt-ltb, eqb-true}
 use lib.Dec.{eqb, ltb}
 use Rattle.model.specs.definitions.Outcomes.{Outcome, accepted, refused, number, payload}
 use Rattle.model.specs.laws.PlaceLaws.{refused-not-accepted}
-use Rattle.model.specs.laws.OutcomeLaws.{judged-injective}
+use Rattle.model.specs.laws.OutcomeLaws.{judged-injective, numberOf-injective}
 use Rattle.selection.specs.definitions.Proposal.{proposalOf}
-use Rattle.selection.specs.definitions.Select.{Selected, makeSelected, tighter, selectedIn}
+use Rattle.selection.specs.definitions.Select.{Selected, makeSelected, tighter, selectionOf, selectedIn}
 use Rattle.selection.specs.declared.types.ProposalOutcome.{ProposalOutcome}
+use Rattle.selection.specs.declared.types.Selection.{Selection}
+use Rattle.selection.specs.declared.types.Selection.the-variants.{First, Second, Neither}
 
 -- ---- both pass
 
@@ -90,3 +92,14 @@ selectedIn-injective n c e m d r h =
 pub proposalOf-injective : (r s : ProposalOutcome) → proposalOf r ≡ proposalOf s → r ≡ s
 proposalOf-injective r s e =
     let (v, x) = judged-injective (r .verdict) (s .verdict) (r .radius) (s .radius) e in λ i. record { verdict = v i; radius = x i }
+
+pub selectionOf-injective : (r s : Selection) → selectionOf r ≡ selectionOf s → r ≡ s
+selectionOf-injective (First e) (First d) h = ap (λ (o : Outcome Selected). First (payload o .radius)) h
+selectionOf-injective (First e) (Second d) h = absurd (omega (arith, ap (λ (o : Outcome Selected). payload o .chosen) h))
+selectionOf-injective (First e) (Neither v) h = absurd (refused-not-accepted (sym h))
+selectionOf-injective (Second e) (First d) h = absurd (omega (arith, ap (λ (o : Outcome Selected). payload o .chosen) h))
+selectionOf-injective (Second e) (Second d) h = ap (λ (o : Outcome Selected). Second (payload o .radius)) h
+selectionOf-injective (Second e) (Neither v) h = absurd (refused-not-accepted (sym h))
+selectionOf-injective (Neither v) (First d) h = absurd (refused-not-accepted h)
+selectionOf-injective (Neither v) (Second d) h = absurd (refused-not-accepted h)
+selectionOf-injective (Neither v) (Neither u) h = ap Neither (numberOf-injective v u (ap number h))
