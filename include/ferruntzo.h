@@ -282,11 +282,12 @@ uint32_t ferruntzo_root(const int32_t *f, size_t f_len,
    is allowed by these coefficients with this radius.
 
    Refused, 1 included: answer is FERRUNTZO_CHOSEN_NONE and 0; it is left as it was
-   if it is itself too short.  scratch is zero after every call, also if both
-   proposals are short, unless it is itself too short.
+   if it is itself too short.  The 65 numbers of scratch are zero after every call,
+   also if both proposals are short, unless it is itself too short.
 
    Refusals: 1 (f, g, scratch or answer); then, if neither proposal passes, what the
-   first fails with: 1 (first), 2 (f, g, h or w), 5, 6, 3 (the radius). */
+   first fails with: 1 (first), 2 (f, g, h or w), 5, 6, 3 (the radius).  Both kinds
+   of 1 are the same answer; the lengths tell a caller which it is. */
 uint32_t ferruntzo_quotient_of_two(const int32_t *f, size_t f_len,
                                    const int32_t *g, size_t g_len,
                                    const int32_t *first, size_t first_len,

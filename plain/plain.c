@@ -284,8 +284,10 @@ static uint32_t test_proposal(int good, const int32_t *f, const int32_t *g,
 }
 
 /* The tighter of two proposals; answer is zero so far. */
-static uint32_t choose(const int32_t *f, const int32_t *g, const int32_t *first, size_t first_len,
-                       const int32_t *second, size_t second_len, int64_t *c, uint32_t *answer)
+static uint32_t select_proposal(const int32_t *f, const int32_t *g,
+                                const int32_t *first, size_t first_len,
+                                const int32_t *second, size_t second_len,
+                                int64_t *c, uint32_t *answer)
 {
     struct passed one, two;
     int good = good_model(f) && good_model(g);
@@ -431,7 +433,7 @@ uint32_t plain_quotient_of_two(const int32_t *f, size_t f_len, const int32_t *g,
     uint32_t number = SHORT_AREA;
     if (CLEAR(answer, SELECTION_SIZE) && f_len >= MODEL_SIZE && g_len >= MODEL_SIZE
         && scratch_len >= SCRATCH_SIZE)
-        number = choose(f, g, first, first_len, second, second_len, scratch, answer);
+        number = select_proposal(f, g, first, first_len, second, second_len, scratch, answer);
     CLEAR(scratch, SCRATCH_SIZE);
     return number;
 }

@@ -45,7 +45,7 @@ SOUNDNESS_SAMPLE = 0.04
 ANSWERED = ('from_series', 'quotient_of_two')       # checked for soundness as the library answered, each of them
 # Accepted cases in which some near rounds a tie: in the whole comparison at least so many of at least so many.
 TIED, TIED_OF = 2000, 75000
-PAIRS = 4000                # of proposals in such a comparison, at least
+PAIRS = 7000                # of proposals in such a comparison, at least
 ROUNDING = ('multiply', 'integrate', 'evaluate', 'from_series', 'check')        # the entries that use near
 
 

@@ -30,7 +30,7 @@ SCRATCH_SIZE = 65
 NUMBERS_SIZE = 3                        # m, N, b
 WORK_SIZE = MAX_RESULTS * MODEL_SIZE
 ANSWER_SIZE = 2                         # count, command
-SELECTION_SIZE = 2                         # chosen, radius
+SELECTION_SIZE = 2                      # chosen, radius
 BLOCK_BYTES = 1 + 4 * COEFFICIENTS      # degree byte, coefficients
 
 # ---- Which of two proposals is chosen

@@ -24,7 +24,7 @@ static int32_t curve[FERRUNTZO_SERIES_SIZE] = {2, S, 0, 2 * S};      /* 1 + 2 x^
 static int32_t out[FERRUNTZO_MODEL_SIZE], work[FERRUNTZO_WORK_SIZE];
 static int64_t scratch[FERRUNTZO_SCRATCH_SIZE], bounds[FERRUNTZO_BOUNDS_SIZE];
 static uint64_t numbers[FERRUNTZO_NUMBERS_SIZE];
-static uint32_t answer[FERRUNTZO_ANSWER_SIZE], choice[FERRUNTZO_SELECTION_SIZE];
+static uint32_t answer[FERRUNTZO_ANSWER_SIZE], selected[FERRUNTZO_SELECTION_SIZE];
 /* h = w = 1, and h two units off. */
 static int32_t exact[FERRUNTZO_PROPOSAL_SIZE] = {0, S, [FERRUNTZO_CANDIDATE_SIZE] = 0, S};
 static int32_t rough[FERRUNTZO_PROPOSAL_SIZE] = {0, S + 2, [FERRUNTZO_CANDIDATE_SIZE] = 0, S};
@@ -53,11 +53,11 @@ static void null_pointers(void)
     EXPECT(ferruntzo_quotient(WHOLE(one), WHOLE(one), CANDIDATE(one), CANDIDATE(one), WHOLE(scratch),
                               WHOLE(out), NONE) == FERRUNTZO_SHORT_AREA);
     EXPECT(ferruntzo_quotient_of_two(NONE, NONE, NONE, NONE, NONE, NONE) == FERRUNTZO_SHORT_AREA);
-    EXPECT(ferruntzo_quotient_of_two(WHOLE(one), WHOLE(one), NONE, NONE, WHOLE(scratch), WHOLE(choice))
+    EXPECT(ferruntzo_quotient_of_two(WHOLE(one), WHOLE(one), NONE, NONE, WHOLE(scratch), WHOLE(selected))
            == FERRUNTZO_SHORT_AREA);
     EXPECT(ferruntzo_quotient_of_two(WHOLE(one), WHOLE(one), NONE, WHOLE(exact), WHOLE(scratch),
-                                     WHOLE(choice)) == FERRUNTZO_ACCEPTED);
-    EXPECT(choice[0] == FERRUNTZO_CHOSEN_SECOND && choice[1] == 0);
+                                     WHOLE(selected)) == FERRUNTZO_ACCEPTED);
+    EXPECT(selected[0] == FERRUNTZO_CHOSEN_SECOND && selected[1] == 0);
     EXPECT(ferruntzo_root(NONE, NONE, NONE, NONE, NONE, NONE) == FERRUNTZO_SHORT_AREA);
     EXPECT(ferruntzo_check(NONE, NONE, NONE, NONE) == FERRUNTZO_SHORT_AREA);
     answer[0] = answer[1] = 9;
@@ -131,7 +131,7 @@ static void power_series(void)
 }
 
 /* Whether a call with f = g = 1 answers this and leaves scratch at zero, and 9 behind answer. */
-static int chooses(const int32_t *first, size_t first_len, const int32_t *second, size_t second_len,
+static int selects(const int32_t *first, size_t first_len, const int32_t *second, size_t second_len,
                    uint32_t number, uint32_t chosen, uint32_t radius)
 {
     uint32_t given[FERRUNTZO_SELECTION_SIZE + 1] = {9, 9, 9};
@@ -149,45 +149,45 @@ static int chooses(const int32_t *first, size_t first_len, const int32_t *second
 /* Each proposal is tested by itself; both may be one area, or overlap. */
 static void two_proposals(void)
 {
-    enum { NOBODY = FERRUNTZO_CHOSEN_NONE, FIRST = FERRUNTZO_CHOSEN_FIRST, SECOND = FERRUNTZO_CHOSEN_SECOND };
+    enum { NEITHER = FERRUNTZO_CHOSEN_NONE, FIRST = FERRUNTZO_CHOSEN_FIRST, SECOND = FERRUNTZO_CHOSEN_SECOND };
     static int32_t bad[FERRUNTZO_PROPOSAL_SIZE] = {-1};
     static int32_t room[FERRUNTZO_PROPOSAL_SIZE + FERRUNTZO_CANDIDATE_SIZE];
-    EXPECT(chooses(WHOLE(exact), WHOLE(rough), 0, FIRST, 0));
-    EXPECT(chooses(WHOLE(rough), WHOLE(exact), 0, SECOND, 0));
-    EXPECT(chooses(WHOLE(rough), WHOLE(rough), 0, FIRST, 2));
-    EXPECT(chooses(WHOLE(bad), WHOLE(rough), 0, SECOND, 2));
-    EXPECT(chooses(WHOLE(rough), WHOLE(bad), 0, FIRST, 2));
-    EXPECT(chooses(SHORT(exact), WHOLE(rough), 0, SECOND, 2));
-    EXPECT(chooses(WHOLE(rough), SHORT(exact), 0, FIRST, 2));
-    EXPECT(chooses(WHOLE(rough), NONE, 0, FIRST, 2));
-    EXPECT(chooses(SHORT(exact), SHORT(exact), FERRUNTZO_SHORT_AREA, NOBODY, 0));
-    EXPECT(chooses(NONE, WHOLE(bad), FERRUNTZO_SHORT_AREA, NOBODY, 0));
-    EXPECT(chooses(WHOLE(bad), NONE, FERRUNTZO_BAD_MODEL, NOBODY, 0));
+    EXPECT(selects(WHOLE(exact), WHOLE(rough), 0, FIRST, 0));
+    EXPECT(selects(WHOLE(rough), WHOLE(exact), 0, SECOND, 0));
+    EXPECT(selects(WHOLE(rough), WHOLE(rough), 0, FIRST, 2));
+    EXPECT(selects(WHOLE(bad), WHOLE(rough), 0, SECOND, 2));
+    EXPECT(selects(WHOLE(rough), WHOLE(bad), 0, FIRST, 2));
+    EXPECT(selects(SHORT(exact), WHOLE(rough), 0, SECOND, 2));
+    EXPECT(selects(WHOLE(rough), SHORT(exact), 0, FIRST, 2));
+    EXPECT(selects(WHOLE(rough), NONE, 0, FIRST, 2));
+    EXPECT(selects(SHORT(exact), SHORT(exact), FERRUNTZO_SHORT_AREA, NEITHER, 0));
+    EXPECT(selects(NONE, WHOLE(bad), FERRUNTZO_SHORT_AREA, NEITHER, 0));
+    EXPECT(selects(WHOLE(bad), NONE, FERRUNTZO_BAD_MODEL, NEITHER, 0));
     EXPECT(exact[1] == S && rough[1] == S + 2 && rough[FERRUNTZO_CANDIDATE_SIZE + 1] == S);
 
     /* Three candidates in a row: the middle one is w of the first proposal and h of the second. */
     for (int i = 0; i < 3; i++)
         memcpy(room + FERRUNTZO_CANDIDATE_SIZE * i, exact, FERRUNTZO_CANDIDATE_SIZE * sizeof *room);
     room[1] = S + 3;
-    EXPECT(chooses(room, FERRUNTZO_PROPOSAL_SIZE, room + FERRUNTZO_CANDIDATE_SIZE, FERRUNTZO_PROPOSAL_SIZE,
+    EXPECT(selects(room, FERRUNTZO_PROPOSAL_SIZE, room + FERRUNTZO_CANDIDATE_SIZE, FERRUNTZO_PROPOSAL_SIZE,
                    0, SECOND, 0));
-    EXPECT(chooses(WHOLE(room), room + FERRUNTZO_CANDIDATE_SIZE, FERRUNTZO_PROPOSAL_SIZE - 1, 0, FIRST, 3));
+    EXPECT(selects(WHOLE(room), room + FERRUNTZO_CANDIDATE_SIZE, FERRUNTZO_PROPOSAL_SIZE - 1, 0, FIRST, 3));
 
     /* 1 of the call itself. */
-    choice[0] = choice[1] = 9;
+    selected[0] = selected[1] = 9;
     scratch[0] = 7;
     EXPECT(ferruntzo_quotient_of_two(WHOLE(one), SHORT(one), WHOLE(exact), WHOLE(exact), WHOLE(scratch),
-                                     WHOLE(choice)) == FERRUNTZO_SHORT_AREA);
-    EXPECT(choice[0] == 0 && choice[1] == 0 && scratch[0] == 0);
-    choice[0] = 9;
+                                     WHOLE(selected)) == FERRUNTZO_SHORT_AREA);
+    EXPECT(selected[0] == 0 && selected[1] == 0 && scratch[0] == 0);
+    selected[0] = 9;
     scratch[0] = 7;
     EXPECT(ferruntzo_quotient_of_two(WHOLE(one), WHOLE(one), WHOLE(exact), WHOLE(exact), WHOLE(scratch),
-                                     SHORT(choice)) == FERRUNTZO_SHORT_AREA);
-    EXPECT(choice[0] == 9 && scratch[0] == 0);
+                                     SHORT(selected)) == FERRUNTZO_SHORT_AREA);
+    EXPECT(selected[0] == 9 && scratch[0] == 0);
     scratch[0] = 7;
     EXPECT(ferruntzo_quotient_of_two(WHOLE(one), WHOLE(one), WHOLE(exact), WHOLE(exact), SHORT(scratch),
-                                     WHOLE(choice)) == FERRUNTZO_SHORT_AREA);
-    EXPECT(choice[0] == 0 && scratch[0] == 7);
+                                     WHOLE(selected)) == FERRUNTZO_SHORT_AREA);
+    EXPECT(selected[0] == 0 && scratch[0] == 7);
 }
 
 /* Models and candidates may stand at any multiple of 4, long numbers at any multiple of 8. */

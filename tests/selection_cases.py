@@ -10,12 +10,12 @@ import oracle as o
 from candidates import quotient_candidates
 from cases import BAD_DEGREES, BORDER_MODELS, HIGHEST, LOWEST, Case, perhaps_spoiled, random_radius, random_total, signed, spoiled
 from certificate_cases import divisor, nudged, realistic_quotient
-from header import (ACCEPTED, BAD_MODEL, CANDIDATE_SIZE, SELECTION_SIZE, CHOSEN_FIRST, CHOSEN_NONE, CHOSEN_SECOND, LARGE_RESIDUAL,
-                    LARGE_RESULT, MAX_DEGREE, MODEL_SIZE, NOT_CONTRACTING, PROPOSAL_SIZE, S, SCRATCH_SIZE, SHORT_AREA)
+from header import (ACCEPTED, BAD_MODEL, CANDIDATE_SIZE, CHOSEN_FIRST, CHOSEN_NONE, CHOSEN_SECOND, LARGE_RESIDUAL, LARGE_RESULT,
+                    MAX_DEGREE, MODEL_SIZE, NOT_CONTRACTING, PROPOSAL_SIZE, S, SCRATCH_SIZE, SELECTION_SIZE, SHORT_AREA)
 from oracle import LIMIT, constant, model, term
 
 NUMBERS = (ACCEPTED, SHORT_AREA, BAD_MODEL, NOT_CONTRACTING, LARGE_RESIDUAL, LARGE_RESULT)     # of one proposal
-AREA_SIZES = (MODEL_SIZE, MODEL_SIZE, 0, 0, SCRATCH_SIZE, SELECTION_SIZE)                          # f, g, proposals, scratch, answer
+AREA_SIZES = (MODEL_SIZE, MODEL_SIZE, 0, 0, SCRATCH_SIZE, SELECTION_SIZE)    # f, g, proposals, scratch, answer
 SIZES = {name: (i, AREA_SIZES[i]) for i, name in ((0, 'f'), (1, 'g'), (4, 'scratch'), (5, 'answer'))}
 LENGTHS = (0, 1, CANDIDATE_SIZE, PROPOSAL_SIZE - 1, PROPOSAL_SIZE, PROPOSAL_SIZE + 1)           # of a proposal
 HALVES = slice(CANDIDATE_SIZE), slice(CANDIDATE_SIZE, PROPOSAL_SIZE)                            # h, w
@@ -264,7 +264,7 @@ def refused_if_short(tests):
     return (SHORT_AREA, CHOSEN_NONE, 0) if SHORT_AREA in next(zip(*tests)) else selected(tests)
 
 
-WRONG_CHOICES = {
+WRONG_SELECTIONS = {
     'ties to the second': partial(selected, prefers=lt), 'the larger radius': partial(selected, prefers=ge),
     'the first if it passes': partial(selected, prefers=lambda *_: True), 'the refusal of the second': partial(selected, refusal=1),
     'a short one refuses the call': refused_if_short,
@@ -282,11 +282,11 @@ def check_cases():
         tests = [o.proposal_test(f, g, p) for p in proposals]
         right = o.quotient_of_two(*one.inputs)
         assert selected(tests) == right
-        shown.update(name for name, rule in WRONG_CHOICES.items() if rule(tests) != right)
+        shown.update(name for name, rule in WRONG_SELECTIONS.items() if rule(tests) != right)
         if tests[0][0] == tests[1][0] == ACCEPTED and tests[0][1] != tests[1][1]:
             assert (f, g, *reversed(proposals)) in inputs, 'a pair in one order alone'
-    assert all(shown[name] >= SHOWN for name in WRONG_CHOICES), shown
-    return counted(found), ', '.join(f'{name} shows in {shown[name]}' for name in WRONG_CHOICES)
+    assert all(shown[name] >= SHOWN for name in WRONG_SELECTIONS), shown
+    return counted(found), ', '.join(f'{name} shows in {shown[name]}' for name in WRONG_SELECTIONS)
 
 
 FIXED = {'quotient_of_two': fixed_selections}

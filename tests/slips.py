@@ -17,7 +17,7 @@ N_LINE = 'int64_t n = up(weight(c, PRODUCT_SIZE) + 2 * (int64_t)UNIT * f[RADIUS]
 B_LINE = '    if (b > (UNIT - m) * (UNIT - m) / (8 * m_weight))'
 P_LINE = 'int64_t p = (int64_t)a[1 + i] * b[1 + j];'
 SECOND_TEST = '    uint32_t other = test_proposal(good, f, g, second, second_len, c, &two);'
-CHOOSE_END = '        answer[1] = (uint32_t)one.radius;\n    }\n    return number;'
+SELECT_END = '        answer[1] = (uint32_t)one.radius;\n    }\n    return number;'
 SHORT_FIRST = '    if (length < PROPOSAL_SIZE)\n        return SHORT_AREA;\n    if (!good)\n        return BAD_MODEL;'
 BAD_FIRST = '    if (!good)\n        return BAD_MODEL;\n    if (length < PROPOSAL_SIZE)\n        return SHORT_AREA;'
 SCRATCH_END = '    CLEAR(scratch, SCRATCH_SIZE);\n    return number;\n}\n\n/* ---- Jobs'
@@ -161,8 +161,8 @@ SLIPS += [(f'two: {name}', 'quotient_of_two', old, new) for name, old, new in (
     ('the first if it passes', '(number != 0 || two.radius < one.radius)', 'number != 0'),
     ('the second if it passes', '(number != 0 || two.radius < one.radius)', '1'),
     ('the second alone does not win', 'if (other == 0 && ', 'if (other == 0 && number == 0 && '),
-    ('the refusal of the second', CHOOSE_END, CHOOSE_END.replace('return number', 'return number == 0 ? 0 : other')),
-    ('the smaller refusal', CHOOSE_END, CHOOSE_END.replace('return number', 'return number < other ? number : other')),
+    ('the refusal of the second', SELECT_END, SELECT_END.replace('return number', 'return number == 0 ? 0 : other')),
+    ('the smaller refusal', SELECT_END, SELECT_END.replace('return number', 'return number < other ? number : other')),
     ('67 numbers', 'length < PROPOSAL_SIZE', 'length < PROPOSAL_SIZE - 1'),
     ('69 numbers', 'length < PROPOSAL_SIZE', 'length < PROPOSAL_SIZE + 1'),
     ('68 numbers and no more', 'length < PROPOSAL_SIZE', 'length != PROPOSAL_SIZE'),

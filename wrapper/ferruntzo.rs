@@ -72,7 +72,7 @@ const RADIUS: usize = 34;
 #[derive(Clone, Copy, Debug, PartialEq, Eq, Hash)]
 #[repr(u32)]
 pub enum Refusal {
-    /// An area is shorter than needed.
+    /// An area, or a proposal, is shorter than needed.
     ShortArea = 1,
     /// A model's or candidate's degree, weight or radius, or a nonzero coefficient beyond its degree.
     BadModel = 2,
@@ -135,7 +135,7 @@ impl Refusal {
 impl fmt::Display for Refusal {
     fn fmt(&self, f: &mut fmt::Formatter<'_>) -> fmt::Result {
         let reason = match self {
-            Refusal::ShortArea => "an area is too short",
+            Refusal::ShortArea => "an area or a proposal is too short",
             Refusal::BadModel => "bad model or candidate",
             Refusal::LargeResult => "result too large",
             Refusal::PointOutside => "point outside -S..S",
@@ -417,17 +417,16 @@ pub struct Selection<'a> {
     pub chosen: Chosen,
     /// The degree of its h.
     pub degree: i32,
-    /// The 33 coefficients of its h, in units: a part of the caller's proposal.
-    pub coefficients: &'a [i32],
+    /// The coefficients of its h, in units: a part of the caller's proposal.
+    pub coefficients: &'a [i32; COEFFICIENTS],
     /// The radius that the test gives, in units.
-    pub radius: u32,
+    pub radius: i32,
 }
 
 impl Selection<'_> {
     /// The model with this degree, these coefficients and this radius.
     pub fn model(&self) -> Model {
-        let coefficients = self.coefficients.first_chunk().expect("33 coefficients");
-        Model::new(self.degree, *coefficients, self.radius as i32)
+        Model::new(self.degree, *self.coefficients, self.radius)
     }
 }
 
@@ -463,11 +462,13 @@ pub fn quotient_of_two<'a>(
 ) -> Result<Selection<'a>, Refusal> {
     let mut scratch = [0; SCRATCH_SIZE];
     let mut answer = [0; SELECTION_SIZE];
-    let (tested, coefficients) =
+    let (tested, part) =
         areas::quotient_of_two(&f.0, &g.0, first, second, &mut scratch, &mut answer);
     tested?;
     let (chosen, proposal) = chosen_of(answer[0], first, second);
-    Ok(Selection { chosen, degree: proposal[0], coefficients, radius: answer[1] })
+    let coefficients = part.first_chunk().expect("a part of 33 numbers");
+    // An accepted radius is at most 2^28.
+    Ok(Selection { chosen, degree: proposal[0], coefficients, radius: answer[1] as i32 })
 }
 
 /// The proposal that the library's answer names.

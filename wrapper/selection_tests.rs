@@ -27,7 +27,7 @@ fn one_over_two<'a>(first: &'a [i32], second: &'a [i32]) -> Result<Selection<'a>
 }
 
 /// The selection, whose coefficients must be the part of the proposal that is chosen.
-fn chosen(first: &[i32], second: &[i32]) -> (Chosen, u32) {
+fn chosen(first: &[i32], second: &[i32]) -> (Chosen, i32) {
     let found = one_over_two(first, second).unwrap();
     let proposal = if found.chosen == Chosen::First { first } else { second };
     assert_eq!(found.coefficients.as_ptr(), proposal[1..].as_ptr());

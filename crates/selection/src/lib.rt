@@ -2,4 +2,4 @@
 // own numbers.
 pub mod proposal;
 pub mod select;
-pub mod types;
+mod types;

@@ -15,7 +15,12 @@ use model::types::Verdict;
 pub const PROPOSAL_SIZE: usize = 68;
 
 // One that is too short is refused before the models are looked at.
-pub fn test_proposal(f: Model, g: Model, proposal: &[i32], scratch: &mut [i64]) -> ProposalOutcome
+pub(crate) fn test_proposal(
+    f: Model,
+    g: Model,
+    proposal: &[i32],
+    scratch: &mut [i64],
+) -> ProposalOutcome
     ensures { λ (r : ProposalOutcome).
         ⌜ proposalOf r ≡ proposalRadius (length (now (scratch .entry))) f g (now (proposal .entry)) ⌝ }
     ensures { λ _. ⌜ now (scratch .exit) ≡ scratchAfter (now (scratch .entry)) ⌝ }

@@ -3,7 +3,7 @@ ghost use mathlib.Core.Path.{_≡_};
 ghost use lib.ListN.{length};
 ghost use Rattle.certificate.specs.definitions.Tests.{scratchAfter};
 ghost use Rattle.selection.specs.definitions.Proposal.{proposalOf};
-ghost use Rattle.selection.specs.definitions.Select.{tighter, selection, selectionOf, selectedIn, IsPart};
+ghost use Rattle.selection.specs.definitions.Select.{tighter, selection, selectionOf, selectedOf, IsPart};
 ghost use Rattle.selection.specs.definitions.Promise.{QuotientAllowed};
 use crate::proposal::test_proposal;
 use crate::types::ProposalOutcome;
@@ -49,7 +49,7 @@ pub fn quotient_of_two<'a>(
     chosen: &mut u32,
     radius: &mut u32,
 ) -> &'a [i32]
-    ensures { λ _. ⌜ selectedIn (now (number .exit)) (now (chosen .exit)) (now (radius .exit))
+    ensures { λ _. ⌜ selectedOf (now (number .exit)) (now (chosen .exit)) (now (radius .exit))
         ≡ selection (length (now (scratch .entry))) f g (now (first .entry)) (now (second .entry)) ⌝ }
     ensures { λ r. ⌜ IsPart (now (chosen .exit)) (first .entry) (second .entry) r ⌝ }
     ensures { λ _. ⌜ now (scratch .exit) ≡ scratchAfter (now (scratch .entry)) ⌝ }

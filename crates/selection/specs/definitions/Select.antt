@@ -41,9 +41,9 @@ selectionOf (First e) = accepted (makeSelected 1 e)
 selectionOf (Second d) = accepted (makeSelected 2 d)
 selectionOf (Neither v) = refused (numberOf v) (makeSelected 0 0)
 
--- what the lent numbers mean: 0 beside the chosen proposal and its radius, or a refusal's number beside zeros
-abbrev pub selectedIn : ℕ → ℕ → ℕ → Outcome Selected
-selectedIn n c e = cond (eqb n 0) (accepted (makeSelected c e)) (refused n (makeSelected c e))
+-- what the lent numbers mean: 0 beside the chosen proposal and its radius, or a refusal's number beside both
+abbrev pub selectedOf : ℕ → ℕ → ℕ → Outcome Selected
+selectedOf n c e = cond (eqb n 0) (accepted (makeSelected c e)) (refused n (makeSelected c e))
 
 -- ---- the part
 
@@ -55,14 +55,14 @@ byChosen c none first second = cond (eqb c 1) first (cond (eqb c 2) second none)
 abbrev pub partNumbers : ℕ → List ℤ → List ℤ → List ℤ
 partNumbers c first second = byChosen c [] (proposedAnswer first .coefficients) (proposedAnswer second .coefficients)
 
--- where coefficients begin in memory, a block and a byte in it: behind the degree, which takes 4 bytes
+-- a pointer is a block of memory and a byte in it; the coefficients begin behind the degree, which takes 4 bytes
 abbrev pub behindDegree : ℕ × ℕ → ℕ × ℕ
 behindDegree p = (p .0, 4 + p .1)
 
--- where the part begins; the empty part is one "of the first"
-abbrev pub partPlace : ℕ → ℕ × ℕ → ℕ × ℕ → ℕ × ℕ
-partPlace c first second = byChosen c first (behindDegree first) (behindDegree second)
+-- the pointer of the part; the empty part is one "of the first"
+abbrev pub partPointer : ℕ → ℕ × ℕ → ℕ × ℕ → ℕ × ℕ
+partPointer c first second = byChosen c first (behindDegree first) (behindDegree second)
 
--- "that part of the caller's own numbers": its place in memory, and its numbers
+-- "that part of the caller's own numbers": its pointer, and its numbers
 abbrev pub IsPart : ℕ → RefT (List ℤ) → RefT (List ℤ) → RefT (List ℤ) → Type 0
-IsPart c first second r = (ptr r ≡ partPlace c (ptr first) (ptr second)) × (now r ≡ partNumbers c (now first) (now second))
+IsPart c first second r = (ptr r ≡ partPointer c (ptr first) (ptr second)) × (now r ≡ partNumbers c (now first) (now second))

@@ -14,7 +14,7 @@ use Rattle.model.specs.declared.types.Model.{Model}
 use Rattle.certificate.specs.definitions.Tests.{displacement}
 use Rattle.certificate.specs.definitions.Quotient.{quotientOutcome, quotientContraction, quotientResidual, quotientModel}
 use Rattle.selection.specs.definitions.Proposal.{proposalTest}
-use Rattle.selection.specs.definitions.Select.{Selected, makeSelected, tighter, selection, partNumbers, partPlace}
+use Rattle.selection.specs.definitions.Select.{Selected, makeSelected, tighter, selection, partNumbers, partPointer}
 
 -- a constant, as a candidate's 34 numbers
 abbrev constantCandidate : ℤ → List ℤ
@@ -36,7 +36,8 @@ w = 349525
 abbrev pair : List ℤ → List ℤ → Outcome Selected
 pair first second = selection 65 f g first second
 
--- radii of 699051, 699052 and 699050: 2, 3 and 2. A helper 0 does not contract; a degree −1 is bad; 67 numbers are short.
+-- Radii of 699051, 699052 and 699050: 2, 3 and 2. A helper 0 does not contract; 134916779 leaves a residual above 2^28, 90177536 with the helper
+-- 600000 a radius above 2^28, which is no pass; a degree −1 is bad; 67 numbers are short.
 abbrev pub Selections : Type 0
 Selections =
     (pair (proposal 699051 w) (proposal 699052 w) ≡ accepted (makeSelected 1 2))
@@ -46,6 +47,9 @@ Selections =
     × (pair (take 67 (proposal 699051 w)) (proposal 699052 w ++ (pos 7 ∷ [])) ≡ accepted (makeSelected 2 3))
     × (pair (proposal 699051 0) (take 67 (proposal 699051 w)) ≡ refused 5 (makeSelected 0 0))
     × (pair (take 67 (proposal 699051 w)) (proposal 699051 0) ≡ refused 1 (makeSelected 0 0))
+    × (pair (proposal 134916779 w) [] ≡ refused 6 (makeSelected 0 0))
+    × (pair (proposal 90177536 600000) [] ≡ refused 3 (makeSelected 0 0))
+    × (pair (proposal 90177536 600000) (proposal 699052 w) ≡ accepted (makeSelected 2 3))
     × (pair (negsuc 0 ∷ []) (negsuc 0 ∷ proposal 699051 w) ≡ refused 1 (makeSelected 0 0))
     × (pair (negsuc 0 ∷ proposal 699051 w) [] ≡ refused 2 (makeSelected 0 0))
     × (selection 65 (constantModel (pos 268435457)) g (take 67 (proposal 699051 w)) (proposal 699051 w) ≡ refused 1 (makeSelected 0 0))
@@ -54,7 +58,7 @@ Selections =
 
 pub selections : Selections
 unfolding tighter proposalTest quotientOutcome quotientContraction quotientResidual quotientModel displacement productList passing good tooLarge constantModel zeroModel weight addLists subtractLists scaleList addAt addPair addTerm addTerms product upℕ
-selections = (refl, refl, refl, refl, refl, refl, refl, refl, refl, refl, refl, refl)
+selections = (refl, refl, refl, refl, refl, refl, refl, refl, refl, refl, refl, refl, refl, refl, refl)
 
 -- h's coefficients behind the degree, in the chosen slice; of none an empty part where the first begins
 abbrev pub Parts : Type 0
@@ -62,9 +66,9 @@ Parts =
     (partNumbers 1 (proposal 5 6) (proposal 7 8) ≡ pos 5 ∷ replicate 32 (pos 0))
     × (partNumbers 2 (proposal 5 6) (proposal 7 8) ≡ pos 7 ∷ replicate 32 (pos 0))
     × (partNumbers 0 (proposal 5 6) (proposal 7 8) ≡ [])
-    × (partPlace 1 (3, 40) (9, 80) ≡ (3, 44))
-    × (partPlace 2 (3, 40) (9, 80) ≡ (9, 84))
-    × (partPlace 0 (3, 40) (9, 80) ≡ (3, 40))
+    × (partPointer 1 (3, 40) (9, 80) ≡ (3, 44))
+    × (partPointer 2 (3, 40) (9, 80) ≡ (9, 84))
+    × (partPointer 0 (3, 40) (9, 80) ≡ (3, 40))
 
 pub parts : Parts
 parts = (refl, refl, refl, refl, refl, refl)

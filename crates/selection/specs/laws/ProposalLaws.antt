@@ -8,14 +8,13 @@ use borrow.Author.Tests.{ltb-true, ltb-false, le-ltb, lt-ltb}
 use lib.Dec.{ltb}
 use lib.IntN.{ℤ}
 use lib.ListN.{length, take, drop}
-use Rattle.integer.specs.definitions.Fraction.{ℚ}
 use Rattle.model.specs.definitions.Models.{candidateModel, makeModel, zeroModel}
 use Rattle.model.specs.definitions.Area.{candidateSize, areaCandidate}
 use Rattle.model.specs.laws.AreaLaws.{candidate-front}
 use Rattle.model.specs.definitions.Outcomes.{accepted, refused, mapOutcome, judged}
 use Rattle.model.specs.laws.PlaceLaws.{refused-not-accepted}
 use Rattle.model.specs.laws.OutcomeLaws.{judged-mapped}
-use Rattle.model.specs.definitions.Allowed.{position, AllowsAt, Allows}
+use Rattle.model.specs.definitions.Allowed.{position, AllowsAt}
 use Rattle.model.specs.declared.types.Model.{Model}
 use Rattle.model.specs.declared.types.Candidate.{Candidate}
 use Rattle.certificate.specs.definitions.Tests.{Certificate, zeroCertificate, testOf}
@@ -24,7 +23,7 @@ use Rattle.certificate.specs.definitions.Quotient.{quotientTest, quotientModel}
 use Rattle.certificate.specs.laws.QuotientConditions.{quotient-passes}
 use Rattle.certificate.specs.laws.QuotientSound.{quotient-nonzero, quotient-sound}
 use Rattle.selection.specs.definitions.Proposal.{proposalSize, proposedAnswer, proposedHelper, proposalTest, resultRadius, proposalRadius}
-use Rattle.selection.specs.definitions.Promise.{partModel, QuotientAllowed}
+use Rattle.selection.specs.definitions.Promise.{QuotientAllowed}
 
 -- ---- short and long
 

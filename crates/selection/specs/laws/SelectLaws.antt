@@ -10,12 +10,12 @@ use Rattle.model.specs.definitions.Outcomes.{Outcome, accepted, refused, number
 use Rattle.model.specs.laws.PlaceLaws.{refused-not-accepted}
 use Rattle.model.specs.laws.OutcomeLaws.{judged-injective, numberOf-injective}
 use Rattle.selection.specs.definitions.Proposal.{proposalOf}
-use Rattle.selection.specs.definitions.Select.{Selected, makeSelected, tighter, selectionOf, selectedIn}
+use Rattle.selection.specs.definitions.Select.{Selected, makeSelected, tighter, selectionOf, selectedOf}
 use Rattle.selection.specs.declared.types.ProposalOutcome.{ProposalOutcome}
 use Rattle.selection.specs.declared.types.Selection.{Selection}
 use Rattle.selection.specs.declared.types.Selection.the-variants.{First, Second, Neither}
 
--- ---- both pass
+-- ---- the cases, as the code meets them
 
 pub smaller-second : (e d : ℕ) → d < e → tighter (accepted e) (accepted d) ≡ accepted (makeSelected 2 d)
 unfolding tighter
@@ -25,15 +25,27 @@ pub first-not-larger : (e d : ℕ) → e ≤ d → tighter (accepted e) (accepte
 unfolding tighter
 first-not-larger e d h = rw (le-ltb d e h)
 
+pub only-first : (e m z : ℕ) → tighter (accepted e) (refused m z) ≡ accepted (makeSelected 1 e)
+unfolding tighter
+only-first e m z = refl
+
+pub only-second : (n z d : ℕ) → tighter (refused n z) (accepted d) ≡ accepted (makeSelected 2 d)
+unfolding tighter
+only-second n z d = refl
+
+pub neither : (n z m y : ℕ) → tighter (refused n z) (refused m y) ≡ refused n (makeSelected 0 0)
+unfolding tighter
+neither n z m y = refl
+
 -- ---- the chosen proposal
 
 -- it passes with the radius of the selection, and no proposal that passes has a smaller one
-pub record Chosen (a b : Outcome ℕ) (c : Selected) : Type 0 where
+pub record IsLeast (a b : Outcome ℕ) (c : Selected) : Type 0 where
   pub passes : ((c .chosen ≡ 1) × (a ≡ accepted (c .radius))) ⊎ ((c .chosen ≡ 2) × (b ≡ accepted (c .radius)))
   pub least-first : (e : ℕ) → a ≡ accepted e → c .radius ≤ e
   pub least-second : (d : ℕ) → b ≡ accepted d → c .radius ≤ d
 
-both : (e d : ℕ) (t : Bool) → ltb d e ≡ t → Chosen (accepted e) (accepted d) (cond t (makeSelected 2 d) (makeSelected 1 e))
+both : (e d : ℕ) (t : Bool) → ltb d e ≡ t → IsLeast (accepted e) (accepted d) (cond t (makeSelected 2 d) (makeSelected 1 e))
 both e d true h = record {
   passes = inr (refl, refl);
   least-first = λ x i. omega (arith, ltb-true d e h, ap payload i);
@@ -45,16 +57,16 @@ both e d false h = record {
   least-second = λ x i. omega (arith, ltb-false d e h, ap payload i);
 }
 
-pub tighter-chosen : (a b : Outcome ℕ) {c : Selected} → tighter a b ≡ accepted c → Chosen a b c
+pub tighter-is-least : (a b : Outcome ℕ) {c : Selected} → tighter a b ≡ accepted c → IsLeast a b c
 unfolding tighter
-tighter-chosen (accepted e) (accepted d) h = rw (sym (ap payload h)) (both e d (ltb d e) refl)
-tighter-chosen (accepted e) (refused m z) h =
+tighter-is-least (accepted e) (accepted d) h = rw (sym (ap payload h)) (both e d (ltb d e) refl)
+tighter-is-least (accepted e) (refused m z) h =
     rw (sym (ap payload h))
     (record { passes = inl (refl, refl); least-first = λ x i. omega (arith, ap payload i); least-second = λ x i. absurd (refused-not-accepted i) })
-tighter-chosen (refused n z) (accepted d) h =
+tighter-is-least (refused n z) (accepted d) h =
     rw (sym (ap payload h))
     (record { passes = inr (refl, refl); least-first = λ x i. absurd (refused-not-accepted i); least-second = λ x i. omega (arith, ap payload i) })
-tighter-chosen (refused n z) (refused m y) h = absurd (refused-not-accepted h)
+tighter-is-least (refused n z) (refused m y) h = absurd (refused-not-accepted h)
 
 -- nothing is chosen only where neither passes; the number is then that of the first
 pub none-passes : (a b : Outcome ℕ) {n : ℕ} {c : Selected} → tighter a b ≡ refused n c
@@ -67,22 +79,22 @@ none-passes (refused n z) (refused m y) h = (ap (λ (k : ℕ). refused k z) (ap 
 
 -- ---- two answers with one meaning are the same answer
 
-pub selected-number : (n c e : ℕ) → number (selectedIn n c e) ≡ n
+pub selected-number : (n c e : ℕ) → number (selectedOf n c e) ≡ n
 selected-number n c e = go (eqb n 0) refl
   where
     go : (t : Bool) → eqb n 0 ≡ t → number (cond t (accepted (makeSelected c e)) (refused n (makeSelected c e))) ≡ n
     go true h = sym (eqb-true n 0 h)
     go false h = refl
 
-pub selected-payload : (n c e : ℕ) → payload (selectedIn n c e) ≡ makeSelected c e
+pub selected-payload : (n c e : ℕ) → payload (selectedOf n c e) ≡ makeSelected c e
 selected-payload n c e = go (eqb n 0)
   where
     go : (t : Bool) → payload (cond t (accepted (makeSelected c e)) (refused n (makeSelected c e))) ≡ makeSelected c e
     go true = refl
     go false = refl
 
-pub selectedIn-injective : (n c e m d r : ℕ) → selectedIn n c e ≡ selectedIn m d r → (n ≡ m) × (c ≡ d) × (e ≡ r)
-selectedIn-injective n c e m d r h =
+pub selectedOf-injective : (n c e m d r : ℕ) → selectedOf n c e ≡ selectedOf m d r → (n ≡ m) × (c ≡ d) × (e ≡ r)
+selectedOf-injective n c e m d r h =
     let p = sym (selected-payload n c e) ∙ ap payload h ∙ selected-payload m d r in (
       sym (selected-number n c e) ∙ ap number h ∙ selected-number m d r,
       ap (λ (s : Selected). s .chosen) p,

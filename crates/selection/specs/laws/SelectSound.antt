@@ -1,7 +1,7 @@
 -- The claim of S-14: where a proposal is accepted, no value that g allows is 0, and the quotient of what f and g allow is allowed by
 -- the part with its radius.
-use mathlib.Core.Path.{_≡_, sym, _∙_, ap}
-use mathlib.Core.Logic.{_⊎_, inl, inr, ⊎-elim}
+use mathlib.Core.Path.{_≡_, sym}
+use mathlib.Core.Logic.{⊎-elim}
 use mathlib.Core.List.{List}
 use Prim.Native.Nat.{ℕ, _≤_}
 use native.Mathlib.Omega.{arith}
@@ -11,14 +11,14 @@ use lib.Seq.{length-take-le}
 use Rattle.integer.specs.definitions.Fraction.{ℚ, whole, _/ℚ_}
 use Rattle.model.specs.definitions.Models.{coefficientCount, makeModel}
 use Rattle.model.specs.definitions.Allowed.{position, AllowsAt, Allows, OnInterval}
-use Rattle.model.specs.definitions.Outcomes.{accepted, mapOutcome}
+use Rattle.model.specs.definitions.Outcomes.{accepted}
 use Rattle.model.specs.laws.PlaceLaws.{mapped-accepted}
 use Rattle.model.specs.declared.types.Model.{Model}
 use Rattle.selection.specs.definitions.Proposal.{proposalSize, proposedAnswer, proposalTest, resultRadius, proposalRadius}
-use Rattle.selection.specs.definitions.Select.{Selected, makeSelected, selection, partNumbers}
+use Rattle.selection.specs.definitions.Select.{Selected, selection, partNumbers}
 use Rattle.selection.specs.definitions.Promise.{QuotientAllowed}
 use Rattle.selection.specs.laws.ProposalLaws.{passes-long, proposal-allowed}
-use Rattle.selection.specs.laws.SelectLaws.{tighter-chosen}
+use Rattle.selection.specs.laws.SelectLaws.{IsLeast, tighter-is-least}
 
 module _ (len : ℕ) (f g : Model) (s : List ℤ) {e : ℕ} (passes : proposalRadius len f g s ≡ accepted e) where
   radius-long : proposalSize ≤ length s
@@ -30,12 +30,15 @@ module _ (len : ℕ) (f g : Model) (s : List ℤ) {e : ℕ} (passes : proposalRa
       rw (sym (m .1 .1)) (proposal-allowed len f g s (m .1 .0))
 
 module _ (len : ℕ) (f g : Model) (first second : List ℤ) {c : Selected} (accepts : selection len f g first second ≡ accepted c) where
+  least : IsLeast (proposalRadius len f g first) (proposalRadius len f g second) c
+  least = tighter-is-least (proposalRadius len f g first) (proposalRadius len f g second) accepts
+
   pub selection-allowed : QuotientAllowed f g (partNumbers (c .chosen) first second) (c .radius)
   selection-allowed =
       ⊎-elim
       (λ p. rw (p .0) (radius-allowed len f g first (p .1)))
       (λ p. rw (p .0) (radius-allowed len f g second (p .1)))
-      (tighter-chosen (proposalRadius len f g first) (proposalRadius len f g second) accepts .passes)
+      (least .passes)
 
   -- the chosen proposal has all its numbers
   pub first-long : c .chosen ≡ 1 → proposalSize ≤ length first
@@ -43,21 +46,21 @@ module _ (len : ℕ) (f g : Model) (first second : List ℤ) {c : Selected} (acc
       ⊎-elim
       (λ p. radius-long len f g first (p .1))
       (λ p. absurd (omega (arith, h, p .0)))
-      (tighter-chosen (proposalRadius len f g first) (proposalRadius len f g second) accepts .passes)
+      (least .passes)
 
   pub second-long : c .chosen ≡ 2 → proposalSize ≤ length second
   second-long h =
       ⊎-elim
       (λ p. absurd (omega (arith, h, p .0)))
       (λ p. radius-long len f g second (p .1))
-      (tighter-chosen (proposalRadius len f g first) (proposalRadius len f g second) accepts .passes)
+      (least .passes)
 
   pub part-length : length (partNumbers (c .chosen) first second) ≡ coefficientCount
   part-length =
       ⊎-elim
       (λ p. rw (p .0) (count first (radius-long len f g first (p .1))))
       (λ p. rw (p .0) (count second (radius-long len f g second (p .1))))
-      (tighter-chosen (proposalRadius len f g first) (proposalRadius len f g second) accepts .passes)
+      (least .passes)
     where
       count : (s : List ℤ) → proposalSize ≤ length s → length (proposedAnswer s .coefficients) ≡ coefficientCount
       count s h = length-take-le coefficientCount (drop 1 s) (omega (arith, h, length-drop 1 s))

@@ -8,7 +8,6 @@ use Rattle.certificate.specs.definitions.Tests.{scratchAfter}
 use Rattle.selection.specs.definitions.Select.{selection, selectionOf}
 use Rattle.selection.specs.laws.SelectSound.{selection-allowed, first-long, second-long}
 use Rattle.selection.specs.declared.types.Selection.{Selection}
-use Rattle.selection.specs.declared.types.Selection.the-variants.{First, Second, Neither}
 use Rattle.selection.proofs.Selecting.{two-tests, not-zero, none-selected}
 use Rattle.selection.proofs.select.quotient_of_two.Statement.{statement}
 use Rattle.selection.proofs.select.quotient_of_two.Tie as tie

@@ -1,8 +1,7 @@
 -- `select::select` meets its contract, case by case.
 use borrow.Author.Needs.{needs}
 use mathlib.Core.Path.{sym}
-use Rattle.selection.specs.definitions.Select.{tighter}
-use Rattle.selection.specs.laws.SelectLaws.{smaller-second, first-not-larger}
+use Rattle.selection.specs.laws.SelectLaws.{smaller-second, first-not-larger, only-first, only-second, neither}
 use Rattle.selection.proofs.select.select.Statement.{statement}
 use Rattle.selection.proofs.select.select.Tie as tie
 
@@ -19,16 +18,13 @@ returns-2 c =
     rw (t .enum-told .given .1, s .enum-told2 .given .1) (sym (first-not-larger _ _ (c .if1 .left)))
 
 returns-3 : tie.Need-returns-3
-unfolding tighter
-returns-3 c = rw (c .before .before .enum-told .given .1, c .enum-told3 .given .1)
+returns-3 c = rw (c .before .before .enum-told .given .1, c .enum-told3 .given .1) (sym (only-first _ _ _))
 
 returns-4 : tie.Need-returns-4
-unfolding tighter
-returns-4 c = rw (c .before .before .before .of-first .given .1, c .enum-told4 .given .1)
+returns-4 c = rw (c .before .before .before .of-first .given .1, c .enum-told4 .given .1) (sym (only-second _ _ _))
 
 returns-5 : tie.Need-returns-5
-unfolding tighter
-returns-5 c = rw (c .before .before .before .of-first .given .1, c .enum-told5 .given .1)
+returns-5 c = rw (c .before .before .before .of-first .given .1, c .enum-told5 .given .1) (sym (neither _ _ _ _))
 
 pub select-spec : {M : Type 1} → statement M
 select-spec =
