@@ -26,8 +26,8 @@ fn refuse_selection(scratch: &mut [i64], answer: &mut [u32]) -> u32
     number_of(Refusal::ShortArea)
 }
 
-// Which of two proposals for f/g is accepted with the smaller radius? One lifetime for both, since quotient_of_two asks for it. The
-// last clause is what is promised of the chosen one.
+// Which of two proposals for f/g is accepted with the smaller radius? Both have one lifetime, as quotient_of_two asks. The last
+// clause is what is promised of the chosen one.
 #[no_mangle]
 pub extern "C" fn ferruntzo_quotient_of_two<'a>(
     f: &[i32],
