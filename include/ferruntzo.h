@@ -80,7 +80,8 @@
    - An area that is itself shorter than needed is not touched.
    - out, bounds and numbers, and the answer of ferruntzo_quotient_of_two, are
      zero after every refusal, 1 included.
-   - The 65 numbers of scratch are zero after every call of a test, or of two.
+   - The 65 numbers of scratch are zero after every call of ferruntzo_quotient,
+     ferruntzo_root and ferruntzo_quotient_of_two.
    ferruntzo_check says what holds of its work, scratch and answer. */
 #ifndef FERRUNTZO_H
 #define FERRUNTZO_H

@@ -3,6 +3,7 @@
   compare.py                            plain.c against the oracle
   compare.py --library libferruntzo.a   the product against the oracle
   compare.py --plant multiply           a planted wrong answer must be found
+  compare.py --plant quotient_of_two --exchange   so must the other proposal, chosen
   compare.py --leave multiply           an area left as it was by refusal 1 must be found
 
 Exits with 0 when all answers agree, 1 when any answer differs, 2 when something
@@ -43,9 +44,9 @@ SHARE = {'add': 2, 'subtract': 2, 'multiply': 3, 'integrate': 3, 'evaluate': 3,
 BATCH = 2000
 SOUNDNESS_SAMPLE = 0.04
 ANSWERED = ('from_series', 'quotient_of_two')       # checked for soundness as the library answered, each of them
-# Accepted cases in which some near rounds a tie: in the whole comparison at least so many of at least so many.
-TIED, TIED_OF = 2000, 75000
-PAIRS = 7000                # of proposals in such a comparison, at least
+WHOLE = 75000               # calls of the whole comparison; at least so many of them
+TIED = 2000                 # are accepted where some near rounds a tie
+PAIRS, CHOSEN = 7000, 4000  # have two proposals; have one chosen and put to random fractions
 ROUNDING = ('multiply', 'integrate', 'evaluate', 'from_series', 'check')        # the entries that use near
 
 
@@ -279,16 +280,17 @@ def check_ties(ties, total):
     for entry in rounding:
         assert ties[entry][True] and ties[entry][False], f'{entry}: no tie above zero, or none below'
     tied = sum(ties[entry]['cases'] for entry in ties)
-    assert set(ties) != set(ENTRIES) or tied * TIED_OF >= TIED * min(total, TIED_OF), f'{tied} cases with a tie'
+    assert set(ties) != set(ENTRIES) or tied * WHOLE >= TIED * min(total, WHOLE), f'{tied} cases with a tie'
     return ', '.join([*(f'{entry} {ties[entry]["cases"]} ({ties[entry][True]} with one above zero, '
                         f'{ties[entry][False]} below)' for entry in rounding), f'{tied} in all'])
 
 
 def check_pairs(pairs, entries, total):
     """The counts of pairs of proposals, in words: each kind, enough in the whole comparison."""
-    drawn = pairs['pairs']
-    assert set(entries) != set(ENTRIES) or drawn * TIED_OF >= PAIRS * min(total, TIED_OF), f'{drawn} pairs'
-    return selection_cases.counted(pairs)
+    drawn, chosen, part = pairs['pairs'], pairs['chosen'], min(total, WHOLE)
+    enough = drawn * WHOLE >= PAIRS * part and chosen * WHOLE >= CHOSEN * part
+    assert set(entries) != set(ENTRIES) or enough, f'{drawn} pairs, {chosen} chosen proposals checked'
+    return f'{selection_cases.counted(pairs)}; {chosen} chosen proposals checked for soundness'
 
 
 def main():
@@ -340,6 +342,7 @@ def main():
                 if expected == found and case.entry in ANSWERED and number == 0:
                     soundness.check_answered(sound_rng, case, answered_model(case, areas, found))
                     sound += 1
+                    pairs['chosen'] += case.entry == 'quotient_of_two'
                 if expected != found:
                     differences += 1
                     if differences <= 10:

@@ -7,8 +7,8 @@
 //! ```
 //!
 //! The typed functions ([`Model::add`], [`Model::from_series`], [`quotient`], [`quotient_of_two`],
-//! [`check`], ...) lend the library areas of the right size. The functions in [`areas`] take the caller's own slices of
-//! every length.
+//! [`check`], ...) lend the library areas of the right size. The functions in [`areas`] take the
+//! caller's own slices of every length.
 //! The crate needs `core` alone, allocates nothing and has no state.
 //!
 //! ```
