@@ -5,7 +5,8 @@
      bench count JOB..          calls each case with each version and writes down each
                                 call (entry, case, version); for callgrind
      bench alone JOB..          the same with the library only, which may be an earlier one
-                                with other answers: it is compared with nothing
+                                with other answers: it is compared with nothing.  Built with
+                                -DWITHOUT_QUOTIENT_OF_TWO for one that has no such function
      bench time MILLISECONDS JOB..   best time of a call, versions taken in turn
      bench stack JOB..          bytes of stack that a call writes to
      bench former JOB..         the largest deviation that the former check finds
@@ -36,6 +37,9 @@ typedef uint32_t root_entry(const int32_t *, size_t, const int32_t *, size_t,
 typedef uint32_t check_entry(const uint8_t *, size_t, int32_t *, size_t, int64_t *, size_t,
                              uint32_t *, size_t);
 typedef uint32_t from_series_entry(const int32_t *, size_t, int32_t *, size_t);
+typedef uint32_t quotient_of_two_entry(const int32_t *, size_t, const int32_t *, size_t,
+                                       const int32_t *, size_t, const int32_t *, size_t,
+                                       int64_t *, size_t, uint32_t *, size_t);
 multiply_entry plain2_multiply, plain3_multiply;
 integrate_entry plain2_integrate, plain3_integrate;
 evaluate_entry plain2_evaluate, plain3_evaluate;
@@ -43,6 +47,11 @@ quotient_entry plain2_quotient, plain3_quotient;
 root_entry plain2_root, plain3_root;
 check_entry plain2_check, plain3_check;
 from_series_entry plain2_from_series, plain3_from_series;
+quotient_of_two_entry plain2_quotient_of_two, plain3_quotient_of_two;
+
+#ifdef WITHOUT_QUOTIENT_OF_TWO
+#define ferruntzo_quotient_of_two NULL
+#endif
 
 struct version {
     const char *name;
@@ -53,24 +62,25 @@ struct version {
     root_entry *root;
     check_entry *check;
     from_series_entry *from_series;
+    quotient_of_two_entry *quotient_of_two;
 };
 
 enum { LIBRARY, PLAIN_O2, PLAIN_O3, FORMER, VERSIONS };
 
 static const struct version versions[VERSIONS] = {
     {"library", ferruntzo_multiply, ferruntzo_integrate, ferruntzo_evaluate, ferruntzo_quotient,
-     ferruntzo_root, ferruntzo_check, ferruntzo_from_series},
+     ferruntzo_root, ferruntzo_check, ferruntzo_from_series, ferruntzo_quotient_of_two},
     {"O2", plain2_multiply, plain2_integrate, plain2_evaluate, plain2_quotient, plain2_root,
-     plain2_check, plain2_from_series},
+     plain2_check, plain2_from_series, plain2_quotient_of_two},
     {"O3", plain3_multiply, plain3_integrate, plain3_evaluate, plain3_quotient, plain3_root,
-     plain3_check, plain3_from_series},
-    {"former", NULL, NULL, NULL, NULL, NULL, NULL, NULL},
+     plain3_check, plain3_from_series, plain3_quotient_of_two},
+    {"former", NULL, NULL, NULL, NULL, NULL, NULL, NULL, NULL},
 };
 
-enum kind { MULTIPLY, INTEGRATE, EVALUATE, QUOTIENT, ROOT, CHECK, FROM_SERIES };
+enum kind { MULTIPLY, INTEGRATE, EVALUATE, QUOTIENT, ROOT, CHECK, FROM_SERIES, QUOTIENT_OF_TWO };
 
 static const char *const kind_names[] = {"multiply", "integrate", "evaluate", "quotient",
-                                         "root", "check", "from_series"};
+                                         "root", "check", "from_series", "quotient_of_two"};
 
 struct bench_case {
     enum kind kind;
@@ -78,6 +88,7 @@ struct bench_case {
     int32_t f[FERRUNTZO_MODEL_SIZE], g[FERRUNTZO_MODEL_SIZE];
     int32_t h[FERRUNTZO_CANDIDATE_SIZE], w[FERRUNTZO_CANDIDATE_SIZE];
     int32_t series[FERRUNTZO_SERIES_SIZE];
+    int32_t first[FERRUNTZO_PROPOSAL_SIZE], second[FERRUNTZO_PROPOSAL_SIZE];
     const uint8_t *job;
     size_t job_len;
     int with_former;
@@ -138,8 +149,9 @@ static void geometric(int32_t *model, int degree, double first, double term, dou
         model[1 + k] = (int32_t)lround(term * FERRUNTZO_S * pow(ratio, k));
 }
 
-/* Multiply, integrate, evaluate, both tests and the conversion of a series, every polynomial of
-   one degree; the integrand has one less, so that its integral has that degree. */
+/* Multiply, integrate, evaluate, both tests, the conversion of a series and the selection of
+   two proposals, every polynomial of one degree; the integrand has one less, so that its integral
+   has that degree. */
 static void add_degree(int degree)
 {
     struct bench_case *product = new_case(MULTIPLY, "multiply", degree);
@@ -159,6 +171,15 @@ static void add_degree(int degree)
     project(values, degree, quotient->h);
     project(inverse, degree, quotient->w);
     quotient->with_former = degree == FERRUNTZO_MAX_DEGREE;
+
+    /* Both pass; the second is the quotient's own proposal, the first is worse. */
+    struct bench_case *two = new_case(QUOTIENT_OF_TWO, "quotient_of_two", degree);
+    memcpy(two->f, quotient->f, sizeof two->f);
+    memcpy(two->g, quotient->g, sizeof two->g);
+    memcpy(two->second, quotient->h, sizeof quotient->h);
+    memcpy(two->second + FERRUNTZO_CANDIDATE_SIZE, quotient->w, sizeof quotient->w);
+    memcpy(two->first, two->second, sizeof two->first);
+    two->first[1] += 1000;
 
     struct bench_case *root = new_case(ROOT, "root", degree);
     memcpy(root->f, product->g, sizeof root->f);
@@ -214,6 +235,7 @@ static struct areas {
     uint64_t numbers[FERRUNTZO_NUMBERS_SIZE];
     int32_t work[FERRUNTZO_WORK_SIZE];
     uint32_t answer[FERRUNTZO_ANSWER_SIZE];
+    uint32_t selected[FERRUNTZO_SELECTION_SIZE];
 } lent;
 static volatile double deviation;
 static int logged;              /* whether each call is written down, for mode count */
@@ -253,6 +275,11 @@ static void call(int v, const struct bench_case *c)
     case FROM_SERIES:
         lent.number = version->from_series(WHOLE(c->series), WHOLE(lent.out));
         break;
+    case QUOTIENT_OF_TWO:
+        lent.number = version->quotient_of_two(WHOLE(c->f), WHOLE(c->g), WHOLE(c->first),
+                                               WHOLE(c->second), WHOLE(lent.scratch),
+                                               WHOLE(lent.selected));
+        break;
     case CHECK:
         lent.number = version->check(c->job, c->job_len, WHOLE(lent.work), WHOLE(lent.scratch),
                                      WHOLE(lent.answer));
@@ -260,7 +287,12 @@ static void call(int v, const struct bench_case *c)
     }
 }
 
-static int has_version(int v, const struct bench_case *c) { return v != FORMER || c->with_former; }
+static int has_version(int v, const struct bench_case *c)
+{
+    if (v == FORMER)
+        return c->with_former;
+    return c->kind != QUOTIENT_OF_TWO || versions[v].quotient_of_two != NULL;
+}
 
 /* Every case must be accepted, and all versions must leave the same in every area. */
 static void compare_versions(void)
@@ -272,6 +304,8 @@ static void compare_versions(void)
             call(v, &cases[i]);
             if (lent.number != 0)
                 fail("refused", cases[i].name);
+            if (cases[i].kind == QUOTIENT_OF_TWO && lent.selected[0] != FERRUNTZO_CHOSEN_SECOND)
+                fail("the first is chosen", cases[i].name);
             if (v == LIBRARY)
                 first = lent;
             else if (memcmp(&first, &lent, sizeof lent) != 0)

@@ -3,17 +3,19 @@
    The library checks Chebyshev certificates.  Polynomials in the Chebyshev
    basis are added, subtracted, multiplied, integrated and evaluated with a
    proved error radius; models are made of power series; a proposed quotient or
-   square root is accepted with a proved radius or refused; and a whole job of
-   such commands is checked.
+   square root is accepted with a proved radius or refused; of two proposals for
+   one quotient the tighter is chosen; and a whole job of such commands is
+   checked.
 
    Link with libferruntzo.a, which scripts/build_library makes (x86-64, System V
    calling convention):
 
      cc -Iinclude program.c target/staticlib/libferruntzo.a
 
-   examples/check_job.c is a program to copy, docs/FORMAT.md the format of
-   jobs.  "01" below is the scope document that fixes every number but those of
-   power series, which change request S-3 fixes.
+   examples/check_job.c and examples/two_proposals.c are programs to copy,
+   docs/FORMAT.md the format of jobs.  "01" below is the scope document that fixes
+   every number but those of power series and of two proposals, which change
+   requests S-3 and S-14 fix.
 
    NUMBERS
 
@@ -28,6 +30,9 @@
      | v - (a_0 T_0(x) + .. + a_n T_n(x)) / S |  <=  e / S.
 
    A candidate area holds 34 numbers: a model without its radius.
+
+   A proposal holds 68 numbers: a candidate h for a quotient and, from place
+   FERRUNTZO_CANDIDATE_SIZE on, its helper w.
 
    A series area holds 34 numbers: the degree n (0 to 32) and 33 coefficients
    p_0 .. p_32, in units, of the power series (p_0 + p_1 x + .. + p_n x^n) / S.
@@ -67,13 +72,16 @@
    Each function returns FERRUNTZO_ACCEPTED (0) or the number of a refusal.  It
    lists its refusals in the order in which they are tested; the first that
    applies is returned.  FERRUNTZO_SHORT_AREA (1), an area shorter than needed,
-   comes before everything else.
+   comes before everything else.  A short proposal is not such an area: it fails
+   with 1 by itself, and the other proposal is tested nonetheless.
 
    What an area that is written holds afterwards depends on its own length, not
    on that of any other area:
    - An area that is itself shorter than needed is not touched.
-   - out, bounds and numbers are zero after every refusal, 1 included.
-   - The 65 numbers of a test's scratch are zero after every call.
+   - out, bounds and numbers, and the answer of ferruntzo_quotient_of_two, are
+     zero after every refusal, 1 included.
+   - The 65 numbers of scratch are zero after every call of ferruntzo_quotient,
+     ferruntzo_root and ferruntzo_quotient_of_two.
    ferruntzo_check says what holds of its work, scratch and answer. */
 #ifndef FERRUNTZO_H
 #define FERRUNTZO_H
@@ -88,9 +96,9 @@ extern "C" {
 /* ---- Version ---- */
 
 #define FERRUNTZO_VERSION_MAJOR 2
-#define FERRUNTZO_VERSION_MINOR 0
+#define FERRUNTZO_VERSION_MINOR 1
 #define FERRUNTZO_VERSION_PATCH 0
-#define FERRUNTZO_VERSION "2.0.0"
+#define FERRUNTZO_VERSION "2.1.0"
 
 /* ---- Limits ---- */
 
@@ -105,6 +113,7 @@ extern "C" {
 
 #define FERRUNTZO_MODEL_SIZE 35       /* int32_t: degree, coefficients, radius */
 #define FERRUNTZO_CANDIDATE_SIZE 34   /* int32_t: degree, coefficients */
+#define FERRUNTZO_PROPOSAL_SIZE 68    /* int32_t: degree, coefficients of h, then of w */
 #define FERRUNTZO_SERIES_SIZE 34      /* int32_t: degree, coefficients of x^0 .. x^32 */
 #define FERRUNTZO_BOUNDS_SIZE 2       /* int64_t: low, high */
 #define FERRUNTZO_SCRATCH_SIZE 65     /* int64_t */
@@ -112,6 +121,7 @@ extern "C" {
 #define FERRUNTZO_REPORT_SIZE FERRUNTZO_NUMBERS_SIZE  /* its former name */
 #define FERRUNTZO_WORK_SIZE 1120      /* int32_t: 32 models */
 #define FERRUNTZO_ANSWER_SIZE 2       /* uint32_t: count, command */
+#define FERRUNTZO_SELECTION_SIZE 2    /* uint32_t: chosen, radius */
 
 /* ---- Places inside a model area (also of a candidate and a series, which have no radius) ---- */
 
@@ -122,6 +132,12 @@ extern "C" {
 
 /* A kept degree of a product that leaves the choice open: 32. */
 #define FERRUNTZO_DEFAULT_KEPT 255
+
+/* ---- Which of two proposals is chosen ---- */
+
+#define FERRUNTZO_CHOSEN_NONE 0
+#define FERRUNTZO_CHOSEN_FIRST 1
+#define FERRUNTZO_CHOSEN_SECOND 2
 
 /* ---- Bytes of a job (docs/FORMAT.md) ---- */
 
@@ -144,7 +160,7 @@ extern "C" {
 
 enum ferruntzo_refusal {
     FERRUNTZO_ACCEPTED = 0,
-    FERRUNTZO_SHORT_AREA = 1,             /* an area is shorter than needed */
+    FERRUNTZO_SHORT_AREA = 1,             /* an area, or a proposal, is shorter than needed */
     FERRUNTZO_BAD_MODEL = 2,              /* degree, weight, radius, or a nonzero beyond the degree */
     FERRUNTZO_LARGE_RESULT = 3,           /* the result's weight or radius above 2^28, its degree above 32 */
     FERRUNTZO_POINT_OUTSIDE = 4,          /* p is not from -S to S */
@@ -249,6 +265,36 @@ uint32_t ferruntzo_root(const int32_t *f, size_t f_len,
                         int64_t *scratch, size_t scratch_len,
                         int32_t *out, size_t out_len,
                         uint64_t *numbers, size_t numbers_len);
+
+/* ---- Two proposals for one quotient ----
+
+   first and second are proposals for f/g, of any length.  Each is tested by itself,
+   as ferruntzo_quotient tests h and w; numbers behind the 68 play no part.  One
+   shorter than 68 numbers fails with 1, before f and g are looked at.  If both
+   pass, the one with the smaller radius is chosen, if the radii are equal the
+   first; if just one passes, that one.
+   Sizes: f and g 35, scratch 65, answer 2.
+
+   Accepted: answer[0] is FERRUNTZO_CHOSEN_FIRST or FERRUNTZO_CHOSEN_SECOND,
+   answer[1] the radius.  The coefficients are a part of the caller's own numbers:
+   the FERRUNTZO_COEFFICIENTS (33) at first + FERRUNTZO_PLACE_COEFFICIENTS, or at
+   second + FERRUNTZO_PLACE_COEFFICIENTS; their degree stands before them.  At every
+   x from -1 to 1 no value that g allows is zero, and each value of f over one of g
+   is allowed by these coefficients with this radius.
+
+   Refused, 1 included: answer is FERRUNTZO_CHOSEN_NONE and 0; it is left as it was
+   if it is itself too short.  The 65 numbers of scratch are zero after every call,
+   also if both proposals are short, unless it is itself too short.
+
+   Refusals: 1 (f, g, scratch or answer); then, if neither proposal passes, what the
+   first fails with: 1 (first), 2 (f, g, h or w), 5, 6, 3 (the radius).  Both kinds
+   of 1 are the same answer; the lengths tell a caller which it is. */
+uint32_t ferruntzo_quotient_of_two(const int32_t *f, size_t f_len,
+                                   const int32_t *g, size_t g_len,
+                                   const int32_t *first, size_t first_len,
+                                   const int32_t *second, size_t second_len,
+                                   int64_t *scratch, size_t scratch_len,
+                                   uint32_t *answer, size_t answer_len);
 
 /* ---- Jobs ----
 

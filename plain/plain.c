@@ -12,6 +12,7 @@
 #define RADIUS 34                /* place of the radius in a model area */
 #define MODEL_SIZE 35
 #define CANDIDATE_SIZE 34
+#define PROPOSAL_SIZE (2 * CANDIDATE_SIZE)
 #define SERIES_SIZE 34
 #define BOUNDS_SIZE 2
 #define PRODUCT_SIZE 65          /* the list C */
@@ -20,6 +21,7 @@
 #define MAX_RESULTS 32
 #define WORK_SIZE (MAX_RESULTS * MODEL_SIZE)
 #define ANSWER_SIZE 2
+#define SELECTION_SIZE 2
 #define DEFAULT_KEPT 255
 #define EXPANSION_UNIT ((int64_t)1 << 32)
 
@@ -29,6 +31,8 @@ enum {
     JOB_ENDS = 10, BYTES_AFTER_END = 11, NOT_A_RESULT = 12, TOO_MANY_RESULTS = 13,
     BAD_SERIES = 14
 };
+
+enum { CHOSEN_FIRST = 1, CHOSEN_SECOND = 2 };
 
 /* ---- Rounding and weights ---- */
 
@@ -224,10 +228,16 @@ static void accept_candidate(const int32_t *h, int64_t radius, int64_t m, int64_
     numbers[2] = (uint64_t)b;
 }
 
-static uint32_t test_quotient(const int32_t *f, const int32_t *g, const int32_t *h,
-                              const int32_t *w, int64_t *c, int32_t *out, uint64_t *numbers)
+/* What a quotient test gives that passes. */
+struct passed {
+    int64_t radius, m, n, b;
+};
+
+/* The quotient test; f and g are good.  inline: -O3 puts it into both of its callers. */
+static inline uint32_t judge_quotient(const int32_t *f, const int32_t *g, const int32_t *h,
+                                      const int32_t *w, int64_t *c, struct passed *passed)
 {
-    if (!good_model(f) || !good_model(g) || !good_candidate(h) || !good_candidate(w))
+    if (!good_candidate(h) || !good_candidate(w))
         return BAD_MODEL;
     int64_t m_weight = model_weight(w), h_weight = model_weight(h), e_g = g[RADIUS];
     product_list(w, g, c);
@@ -245,8 +255,54 @@ static uint32_t test_quotient(const int32_t *f, const int32_t *g, const int32_t 
     int64_t radius = up(b * UNIT, UNIT - m);
     if (radius > LIMIT)
         return LARGE_RESULT;
-    accept_candidate(h, radius, m, n, b, out, numbers);
+    *passed = (struct passed){radius, m, n, b};
     return 0;
+}
+
+static uint32_t test_quotient(const int32_t *f, const int32_t *g, const int32_t *h,
+                              const int32_t *w, int64_t *c, int32_t *out, uint64_t *numbers)
+{
+    struct passed p;
+    if (!good_model(f) || !good_model(g))
+        return BAD_MODEL;
+    uint32_t number = judge_quotient(f, g, h, w, c, &p);
+    if (number == 0)
+        accept_candidate(h, p.radius, p.m, p.n, p.b, out, numbers);
+    return number;
+}
+
+/* The test of one proposal, h and then w; good says whether f and g are. */
+static uint32_t test_proposal(int good, const int32_t *f, const int32_t *g,
+                              const int32_t *proposal, size_t length, int64_t *c,
+                              struct passed *passed)
+{
+    if (length < PROPOSAL_SIZE)
+        return SHORT_AREA;
+    if (!good)
+        return BAD_MODEL;
+    return judge_quotient(f, g, proposal, proposal + CANDIDATE_SIZE, c, passed);
+}
+
+/* The tighter of two proposals; answer is zero so far. */
+static uint32_t select_proposal(const int32_t *f, const int32_t *g,
+                                const int32_t *first, size_t first_len,
+                                const int32_t *second, size_t second_len,
+                                int64_t *c, uint32_t *answer)
+{
+    struct passed one, two;
+    int good = good_model(f) && good_model(g);
+    uint32_t number = test_proposal(good, f, g, first, first_len, c, &one);
+    uint32_t other = test_proposal(good, f, g, second, second_len, c, &two);
+    if (other == 0 && (number != 0 || two.radius < one.radius)) {
+        answer[0] = CHOSEN_SECOND;
+        answer[1] = (uint32_t)two.radius;
+        return 0;
+    }
+    if (number == 0) {
+        answer[0] = CHOSEN_FIRST;
+        answer[1] = (uint32_t)one.radius;
+    }
+    return number;
 }
 
 static uint32_t test_root(const int32_t *f, const int32_t *h, const int32_t *w,
@@ -364,6 +420,20 @@ uint32_t plain_root(const int32_t *f, size_t f_len, const int32_t *h, size_t h_l
     if (fit && f_len >= MODEL_SIZE && h_len >= CANDIDATE_SIZE && w_len >= CANDIDATE_SIZE
         && scratch_len >= SCRATCH_SIZE)
         number = test_root(f, h, w, scratch, out, numbers);
+    CLEAR(scratch, SCRATCH_SIZE);
+    return number;
+}
+
+uint32_t plain_quotient_of_two(const int32_t *f, size_t f_len, const int32_t *g, size_t g_len,
+                               const int32_t *first, size_t first_len,
+                               const int32_t *second, size_t second_len,
+                               int64_t *scratch, size_t scratch_len,
+                               uint32_t *answer, size_t answer_len)
+{
+    uint32_t number = SHORT_AREA;
+    if (CLEAR(answer, SELECTION_SIZE) && f_len >= MODEL_SIZE && g_len >= MODEL_SIZE
+        && scratch_len >= SCRATCH_SIZE)
+        number = select_proposal(f, g, first, first_len, second, second_len, scratch, answer);
     CLEAR(scratch, SCRATCH_SIZE);
     return number;
 }

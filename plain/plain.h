@@ -38,6 +38,14 @@ uint32_t plain_root(const int32_t *f, size_t f_len,
                     int32_t *out, size_t out_len,
                     uint64_t *numbers, size_t numbers_len);
 
+/* answer: 1 or 2 for the proposal chosen, and its radius; 0 and 0 when refused.  A proposal
+   is 68 numbers, h and then w; a shorter one fails by itself. */
+uint32_t plain_quotient_of_two(const int32_t *f, size_t f_len, const int32_t *g, size_t g_len,
+                               const int32_t *first, size_t first_len,
+                               const int32_t *second, size_t second_len,
+                               int64_t *scratch, size_t scratch_len,
+                               uint32_t *answer, size_t answer_len);
+
 /* answer: count and 0 when accepted, 0 and the command when refused. */
 uint32_t plain_check(const uint8_t *job, size_t job_len,
                      int32_t *work, size_t work_len,

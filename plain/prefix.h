@@ -9,5 +9,6 @@
 #define plain_evaluate PREFIXED(PREFIX, evaluate)
 #define plain_from_series PREFIXED(PREFIX, from_series)
 #define plain_quotient PREFIXED(PREFIX, quotient)
+#define plain_quotient_of_two PREFIXED(PREFIX, quotient_of_two)
 #define plain_root PREFIXED(PREFIX, root)
 #define plain_check PREFIXED(PREFIX, check)

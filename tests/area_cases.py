@@ -8,13 +8,16 @@ from cases import Case
 from examples_of_01 import example_job
 from header import (
     ACCEPTED, ANSWER_SIZE, BAD_MODEL, BAD_SERIES, BAD_VALUE, BOUNDS_SIZE, BYTES_AFTER_END,
-    CANDIDATE_SIZE, HELPER_NOT_POSITIVE, JOB_ENDS, LARGE_RESIDUAL, LARGE_RESULT, MAX_DEGREE, MAX_RESULTS,
-    MODEL_SIZE, NEGATIVE_DISCRIMINANT, NOT_A_RESULT, NOT_CONTRACTING, NUMBERS_SIZE, POINT_OUTSIDE,
-    SCRATCH_SIZE, SERIES_SIZE, TOO_MANY_RESULTS, WORK_SIZE)
+    CANDIDATE_SIZE, HELPER_NOT_POSITIVE, JOB_ENDS, LARGE_RESIDUAL, LARGE_RESULT, MAX_DEGREE,
+    MAX_RESULTS, MODEL_SIZE, NEGATIVE_DISCRIMINANT, NOT_A_RESULT, NOT_CONTRACTING, NUMBERS_SIZE, POINT_OUTSIDE,
+    SCRATCH_SIZE, SELECTION_SIZE, SERIES_SIZE, TOO_MANY_RESULTS, WORK_SIZE)
 from oracle import LIMIT, S, constant, model, power, series, term
+from selection_cases import DIVIDEND, DIVISOR, TESTED
 from series_cases import GROWN
 
-# Areas of each entry: array type code, size in numbers, and what it is.
+# Areas of each entry: array type code, size in numbers, and what it is.  A job and a proposal are never too short an area.
+ANY_LENGTH = ('job', 'proposal')
+PROPOSAL = ('i', 0, 'proposal')
 MODEL_IN, CANDIDATE_IN = ('i', MODEL_SIZE, 'in'), ('i', CANDIDATE_SIZE, 'in')
 SERIES_IN = ('i', SERIES_SIZE, 'in')
 OUT, BOUNDS = ('i', MODEL_SIZE, 'out'), ('q', BOUNDS_SIZE, 'bounds')
@@ -29,6 +32,7 @@ AREAS = {
     'root': (MODEL_IN, CANDIDATE_IN, CANDIDATE_IN, SCRATCH, OUT, NUMBERS),
     'check': (('B', 0, 'job'), ('i', WORK_SIZE, 'work'), SCRATCH, ('I', ANSWER_SIZE, 'answer')),
     'from_series': (SERIES_IN, OUT),
+    'quotient_of_two': (MODEL_IN, MODEL_IN, PROPOSAL, PROPOSAL, SCRATCH, ('I', SELECTION_SIZE, 'answer')),
 }
 # What an entry answers in; each is zero after every refusal if it is itself long enough.
 ANSWERS = ('out', 'bounds', 'numbers', 'answer')
@@ -75,6 +79,7 @@ WITNESSES = {
     }.items()},
     'from_series': {ACCEPTED: (series([S, -7, S // 3, 5]),), LARGE_RESULT: (GROWN[0],),
                     BAD_SERIES: (power(MAX_DEGREE, LIMIT + 1),)},
+    'quotient_of_two': {number: (DIVIDEND, DIVISOR, tested[0], tested[-1]) for number, tested in TESTED.items()},
 }
 
 
@@ -88,13 +93,18 @@ def witness(entry, number):
 
 # ---- Lengths
 
+def sized(entry):
+    """Number and size of each area that can be too short."""
+    return [(i, size) for i, (_, size, what) in enumerate(AREAS[entry]) if what not in ANY_LENGTH]
+
+
 def lengths_around(size):
     """None, one, one too few, as many as needed, one more, many more."""
     return sorted({0, 1, size - 1, size, size + 1, size + 9})
 
 
 def area_cases(entry):
-    sizes = [(i, size) for i, (_, size, what) in enumerate(AREAS[entry]) if what != 'job']
+    sizes = sized(entry)
     for number in WITNESSES[entry]:
         case = witness(entry, number)
         for i, size in sizes:

@@ -3,12 +3,13 @@
   compare.py                            plain.c against the oracle
   compare.py --library libferruntzo.a   the product against the oracle
   compare.py --plant multiply           a planted wrong answer must be found
+  compare.py --plant quotient_of_two --exchange   so must the other proposal, chosen
   compare.py --leave multiply           an area left as it was by refusal 1 must be found
 
 Exits with 0 when all answers agree, 1 when any answer differs, 2 when something
 could not be built or run or the oracle's own checks failed.  A sample of the
 accepted cases is also put through the soundness checks; of the models that are
-made of series, each as it was answered.
+made of series and of the chosen proposals, each as it was answered.
 """
 
 import argparse
@@ -26,11 +27,12 @@ import cases
 import certificate_cases
 import job_cases
 import oracle as o
+import selection_cases
 import series_cases
 import soundness
-from area_cases import ANSWERS, AREAS, WITNESSES, area_cases, witness
+from area_cases import ANSWERS, ANY_LENGTH, AREAS, WITNESSES, area_cases, sized, witness
 from examples_of_01 import check_examples
-from header import MODEL_SIZE, PLACE_RADIUS, SCRATCH_SIZE, SHORT_AREA, WORK_SIZE, check_header
+from header import CANDIDATE_SIZE, MODEL_SIZE, PLACE_RADIUS, SCRATCH_SIZE, SHORT_AREA, WORK_SIZE, check_header
 
 HERE = Path(__file__).resolve().parent
 ROOT = HERE.parent
@@ -38,11 +40,13 @@ PLAIN = ROOT / 'plain' / 'plain.c'
 ENTRIES = list(AREAS)
 # Shares of the random cases.
 SHARE = {'add': 2, 'subtract': 2, 'multiply': 3, 'integrate': 3, 'evaluate': 3,
-         'quotient': 4, 'root': 4, 'check': 5, 'from_series': 3}
+         'quotient': 4, 'root': 4, 'check': 5, 'from_series': 3, 'quotient_of_two': 3}
 BATCH = 2000
 SOUNDNESS_SAMPLE = 0.04
-# Accepted cases in which some near rounds a tie: in the whole comparison at least so many of at least so many.
-TIED, TIED_OF = 2000, 75000
+ANSWERED = ('from_series', 'quotient_of_two')       # checked for soundness as the library answered, each of them
+WHOLE = 75000               # calls of the whole comparison; at least so many of them
+TIED = 2000                 # are accepted where some near rounds a tie
+PAIRS, CHOSEN = 7000, 4000  # have two proposals; have one chosen and put to random fractions
 ROUNDING = ('multiply', 'integrate', 'evaluate', 'from_series', 'check')        # the entries that use near
 
 
@@ -70,6 +74,9 @@ def oracle_answer(case):
     if entry in ('quotient', 'root'):
         number, result, *numbers = getattr(o, entry)(*inputs)
         return number, {'scratch': [0] * SCRATCH_SIZE, 'out': flat(result), 'numbers': numbers}
+    if entry == 'quotient_of_two':
+        number, *selected = o.quotient_of_two(*inputs)
+        return number, {'scratch': [0] * SCRATCH_SIZE, 'answer': selected}
     if entry == 'check':
         verdict, first, second = o.check_job(*inputs)
         contents = {'work': [0] * WORK_SIZE, 'scratch': [0] * SCRATCH_SIZE}
@@ -111,8 +118,8 @@ def lent_areas(case, rng, guards):
     areas = []
     for i, (code, size, what) in enumerate(AREAS[case.entry]):
         width = array(code).itemsize
-        if what == 'job':
-            content, length = array(code, case.inputs[0]), len(case.inputs[0])
+        if what in ANY_LENGTH:
+            content, length = array(code, case.inputs[i]), len(case.inputs[i])
         else:
             length = told.get(i, size + rng.choice((0, 0, 1, 3)))
             content = array(code, rng.randbytes(width * length))
@@ -157,7 +164,7 @@ def differing_place(case, areas, expected, found):
         rows = [array(code, x[start:end]) for x in (expected, found)]
         for k, (want, got) in enumerate(zip(*rows)):
             if want != got:
-                place = '' if k < size or what == 'job' else ' (behind the area used)'
+                place = '' if k < size or what in ANY_LENGTH else ' (behind the area used)'
                 return f'{what}[{k}]{place} is {got} instead of {want}'
         start = end
     return 'nothing'
@@ -180,16 +187,15 @@ def perhaps_shortened(rng, case):
     """Some cases with one or two areas too short."""
     if rng.random() >= 0.02:
         return case
-    sizes = [(i, size) for i, (_, size, what) in enumerate(AREAS[case.entry]) if what != 'job']
-    chosen = rng.sample(sizes, rng.choice((1, 1, 2)))
+    chosen = rng.sample(sized(case.entry), rng.choice((1, 1, 2)))
     return case._replace(lengths=tuple((i, rng.choice((size - 1, rng.randrange(size)))) for i, size in chosen))
 
 
 def make_cases(entries, wanted, rng):
     """All fixed cases of the entries, then random ones up to the number wanted."""
-    fixed = {**cases.FIXED, **certificate_cases.FIXED, **job_cases.FIXED, **series_cases.FIXED}
+    fixed = {**cases.FIXED, **certificate_cases.FIXED, **job_cases.FIXED, **series_cases.FIXED, **selection_cases.FIXED}
     drawn = {**cases.RANDOM, **certificate_cases.RANDOM, 'check': job_cases.RandomJobs(),
-             **series_cases.RANDOM}
+             **series_cases.RANDOM, **selection_cases.RANDOM}
     made = 0
     for entry in entries:
         for case in (*area_cases(entry), *fixed[entry]()):
@@ -228,25 +234,30 @@ def place_of(case, areas, wanted):
 
 
 def answered_model(case, areas, answer):
-    """The model in the area out of an answer."""
-    start, _ = place_of(case, areas, ('out',))
-    row = array('i', answer[start:start + 4 * MODEL_SIZE])
+    """The model in the area out of an answer; or the chosen proposal's h with the radius answered."""
+    start, area = place_of(case, areas, ('out', 'answer'))
+    code, size, what = AREAS[case.entry][area]
+    row = array(code, answer[start:start + array(code).itemsize * size])
+    if what == 'answer':
+        chosen, radius = row
+        row = [*case.inputs[1 + chosen][:CANDIDATE_SIZE], radius]
     return o.Model(row[0], tuple(row[1:PLACE_RADIUS]), row[PLACE_RADIUS])
 
 
-def plant(batch, answers, entry):
+def plant(batch, answers, entry, exchange):
     """Puts one off-by-one into the middle one of the entry's accepted answers: into the radius,
-    the high bound, the radius of the first result."""
+    the high bound, the radius of the first result; or exchanges which proposal is chosen there."""
     fits = [i for i, (case, _, number, _) in enumerate(batch)
             if case.entry == entry and number == 0]
     if not fits:
         return False
     i = fits[len(fits) // 2]
     case, areas, _, _ = batch[i]
-    start, area = place_of(case, areas, ('out', 'bounds', 'work'))
+    start, area = place_of(case, areas, ('out', 'bounds', 'work', 'answer'))
     code, _, what = AREAS[entry][area]
+    place = 0 if exchange else 1 if what in ('bounds', 'answer') else PLACE_RADIUS
     spoiled = bytearray(answers[i])
-    spoiled[start + array(code).itemsize * (1 if what == 'bounds' else PLACE_RADIUS)] ^= 1
+    spoiled[start + array(code).itemsize * place] ^= 3 if exchange else 1
     answers[i] = bytes(spoiled)
     return True
 
@@ -269,9 +280,17 @@ def check_ties(ties, total):
     for entry in rounding:
         assert ties[entry][True] and ties[entry][False], f'{entry}: no tie above zero, or none below'
     tied = sum(ties[entry]['cases'] for entry in ties)
-    assert set(ties) != set(ENTRIES) or tied * TIED_OF >= TIED * min(total, TIED_OF), f'{tied} cases with a tie'
+    assert set(ties) != set(ENTRIES) or tied * WHOLE >= TIED * min(total, WHOLE), f'{tied} cases with a tie'
     return ', '.join([*(f'{entry} {ties[entry]["cases"]} ({ties[entry][True]} with one above zero, '
                         f'{ties[entry][False]} below)' for entry in rounding), f'{tied} in all'])
+
+
+def check_pairs(pairs, entries, total):
+    """The counts of pairs of proposals, in words: each kind, enough in the whole comparison."""
+    drawn, chosen, part = pairs['pairs'], pairs['chosen'], min(total, WHOLE)
+    enough = drawn * WHOLE >= PAIRS * part and chosen * WHOLE >= CHOSEN * part
+    assert set(entries) != set(ENTRIES) or enough, f'{drawn} pairs, {chosen} chosen proposals checked'
+    return f'{selection_cases.counted(pairs)}; {chosen} chosen proposals checked for soundness'
 
 
 def main():
@@ -282,6 +301,7 @@ def main():
     parser.add_argument('--cases', type=int, default=30000)
     parser.add_argument('--seed', type=int, default=1)
     parser.add_argument('--plant', choices=ENTRIES, help='spoil one answer of this entry')
+    parser.add_argument('--exchange', action='store_true', help='with --plant quotient_of_two: the other proposal chosen')
     parser.add_argument('--leave', choices=ENTRIES, help='leave one area of this entry on refusal 1')
     parser.add_argument('--link', default='', help='more linker flags, separated by blanks')
     parser.add_argument('--runner', default='', help='run the harness under this command')
@@ -292,15 +312,19 @@ def main():
         parser.error(f'entries are {",".join(ENTRIES)}')
     if not {options.plant, options.leave} <= {None, *entries}:
         parser.error('the planted entry is not among the entries')
+    if options.exchange and options.plant != 'quotient_of_two':
+        parser.error('only the chosen proposal can be exchanged')
     check_header()
     check_examples()
     check_witnesses()
     cases.check_border_models()
     series_cases.check_series()
+    selection_cases.check_selection()
 
     rng, sound_rng = Random(options.seed), Random(options.seed)
     began = time.perf_counter()
     oracle_time, differences, planted, sound = 0.0, 0, False, 0
+    pairs = Counter()
     counts, ties = ({entry: Counter() for entry in entries} for _ in range(2))
     with tempfile.TemporaryDirectory() as folder:
         program = build_harness(folder, entries, options.library, options.plain,
@@ -311,14 +335,14 @@ def main():
             nonlocal differences, planted, sound
             answers = run_harness(program, [one[:2] for one in batch], options.runner.split())
             if options.plant and not planted:
-                planted = plant(batch, answers, options.plant)
+                planted = plant(batch, answers, options.plant, options.exchange)
             if options.leave and not planted:
                 planted = leave(batch, answers, options.leave)
             for (case, areas, number, expected), found in zip(batch, answers):
-                if expected == found and case.entry == 'from_series' and number == 0:
-                    soundness.soundness_from_series(sound_rng, *case.inputs,
-                                                    answered_model(case, areas, found))
+                if expected == found and case.entry in ANSWERED and number == 0:
+                    soundness.check_answered(sound_rng, case, answered_model(case, areas, found))
                     sound += 1
+                    pairs['chosen'] += case.entry == 'quotient_of_two'
                 if expected != found:
                     differences += 1
                     if differences <= 10:
@@ -334,8 +358,10 @@ def main():
             if number == 0 and o.TIES != ties_before:
                 ties[case.entry].update(['cases', *(above for above in o.TIES if o.TIES[above] > ties_before[above])])
             counts[case.entry][number] += 1
+            if case.entry == 'quotient_of_two':
+                pairs.update(selection_cases.kinds(case, [length for _, length, _ in areas]))
             batch.append((case, areas, number, expected))
-            if number == 0 and case.entry != 'from_series' and sound_rng.random() < SOUNDNESS_SAMPLE:
+            if number == 0 and case.entry not in ANSWERED and sound_rng.random() < SOUNDNESS_SAMPLE:
                 soundness.check(sound_rng, case)
                 sound += 1
             if len(batch) == BATCH:
@@ -347,6 +373,8 @@ def main():
         print(f'{entry}: {sum(counts[entry].values())} cases (number:cases {numbers})')
     total = sum(sum(c.values()) for c in counts.values())
     print('accepted cases with a tie:', check_ties(ties, total))
+    if 'quotient_of_two' in entries:
+        print('pairs of proposals:', check_pairs(pairs, entries, total))
     print(f'{total} cases, {differences} differences, {time.perf_counter() - began:.1f} s '
           f'(oracle {oracle_time:.1f} s), '
           f'{sound} checked for soundness, seed {options.seed}')

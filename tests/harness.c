@@ -32,6 +32,9 @@ uint32_t ENTRY(root)(const int32_t *, size_t, const int32_t *, size_t,
 uint32_t ENTRY(check)(const uint8_t *, size_t, int32_t *, size_t, int64_t *, size_t,
                       uint32_t *, size_t);
 uint32_t ENTRY(from_series)(const int32_t *, size_t, int32_t *, size_t);
+uint32_t ENTRY(quotient_of_two)(const int32_t *, size_t, const int32_t *, size_t,
+                                const int32_t *, size_t, const int32_t *, size_t,
+                                int64_t *, size_t, uint32_t *, size_t);
 
 #define MAX_AREAS 8
 
@@ -106,6 +109,9 @@ static uint32_t call(int entry, struct area *x, uint32_t scalar)
 #endif
 #ifdef WITH_FROM_SERIES
     case 8: return ENTRY(from_series)(AREA(0), AREA(1));
+#endif
+#ifdef WITH_QUOTIENT_OF_TWO
+    case 9: return ENTRY(quotient_of_two)(AREA(0), AREA(1), AREA(2), AREA(3), AREA(4), AREA(5));
 #endif
     default: fail("an entry that was not compiled in");
     }

@@ -22,6 +22,7 @@ PROGRAM_JOB_BYTES = 65536
 COEFFICIENTS = MAX_DEGREE + 1
 MODEL_SIZE = 1 + COEFFICIENTS + 1       # degree, coefficients, radius
 CANDIDATE_SIZE = 1 + COEFFICIENTS       # degree, coefficients
+PROPOSAL_SIZE = 2 * CANDIDATE_SIZE      # h, w
 SERIES_SIZE = 1 + COEFFICIENTS          # degree, coefficients of x^0 .. x^32
 PLACE_RADIUS = MODEL_SIZE - 1
 BOUNDS_SIZE = 2                         # low, high
@@ -29,7 +30,12 @@ SCRATCH_SIZE = 65
 NUMBERS_SIZE = 3                        # m, N, b
 WORK_SIZE = MAX_RESULTS * MODEL_SIZE
 ANSWER_SIZE = 2                         # count, command
+SELECTION_SIZE = 2                      # chosen, radius
 BLOCK_BYTES = 1 + 4 * COEFFICIENTS      # degree byte, coefficients
+
+# ---- Which of two proposals is chosen
+
+CHOSEN_NONE, CHOSEN_FIRST, CHOSEN_SECOND = range(3)
 
 # ---- Refusals
 

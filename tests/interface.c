@@ -1,5 +1,6 @@
 /* What the header promises of null pointers, of areas that are too short, of inputs that
-   are the same area, of series, and of areas that need no alignment beyond their type's.
+   are the same area, of series, of two proposals, and of areas that need no alignment beyond
+   their type's.
    Exit status 0 when all holds. */
 #include "ferruntzo.h"
 
@@ -23,7 +24,10 @@ static int32_t curve[FERRUNTZO_SERIES_SIZE] = {2, S, 0, 2 * S};      /* 1 + 2 x^
 static int32_t out[FERRUNTZO_MODEL_SIZE], work[FERRUNTZO_WORK_SIZE];
 static int64_t scratch[FERRUNTZO_SCRATCH_SIZE], bounds[FERRUNTZO_BOUNDS_SIZE];
 static uint64_t numbers[FERRUNTZO_NUMBERS_SIZE];
-static uint32_t answer[FERRUNTZO_ANSWER_SIZE];
+static uint32_t answer[FERRUNTZO_ANSWER_SIZE], selected[FERRUNTZO_SELECTION_SIZE];
+/* h = w = 1, and h two units off. */
+static int32_t exact[FERRUNTZO_PROPOSAL_SIZE] = {0, S, [FERRUNTZO_CANDIDATE_SIZE] = 0, S};
+static int32_t rough[FERRUNTZO_PROPOSAL_SIZE] = {0, S + 2, [FERRUNTZO_CANDIDATE_SIZE] = 0, S};
 
 #define NONE NULL, 0
 #define COUNT(area) (sizeof(area) / sizeof(area)[0])
@@ -48,6 +52,12 @@ static void null_pointers(void)
     EXPECT(ferruntzo_quotient(NONE, NONE, NONE, NONE, NONE, NONE, NONE) == FERRUNTZO_SHORT_AREA);
     EXPECT(ferruntzo_quotient(WHOLE(one), WHOLE(one), CANDIDATE(one), CANDIDATE(one), WHOLE(scratch),
                               WHOLE(out), NONE) == FERRUNTZO_SHORT_AREA);
+    EXPECT(ferruntzo_quotient_of_two(NONE, NONE, NONE, NONE, NONE, NONE) == FERRUNTZO_SHORT_AREA);
+    EXPECT(ferruntzo_quotient_of_two(WHOLE(one), WHOLE(one), NONE, NONE, WHOLE(scratch), WHOLE(selected))
+           == FERRUNTZO_SHORT_AREA);
+    EXPECT(ferruntzo_quotient_of_two(WHOLE(one), WHOLE(one), NONE, WHOLE(exact), WHOLE(scratch),
+                                     WHOLE(selected)) == FERRUNTZO_ACCEPTED);
+    EXPECT(selected[0] == FERRUNTZO_CHOSEN_SECOND && selected[1] == 0);
     EXPECT(ferruntzo_root(NONE, NONE, NONE, NONE, NONE, NONE) == FERRUNTZO_SHORT_AREA);
     EXPECT(ferruntzo_check(NONE, NONE, NONE, NONE) == FERRUNTZO_SHORT_AREA);
     answer[0] = answer[1] = 9;
@@ -120,11 +130,73 @@ static void power_series(void)
     EXPECT(ferruntzo_from_series(WHOLE(grown), WHOLE(out)) == FERRUNTZO_ACCEPTED && out[0] == 29);
 }
 
+/* Whether a call with f = g = 1 answers this and leaves scratch at zero, and 9 behind answer. */
+static int selects(const int32_t *first, size_t first_len, const int32_t *second, size_t second_len,
+                   uint32_t number, uint32_t chosen, uint32_t radius)
+{
+    uint32_t given[FERRUNTZO_SELECTION_SIZE + 1] = {9, 9, 9};
+    for (size_t i = 0; i < COUNT(scratch); i++)
+        scratch[i] = 7;
+    if (ferruntzo_quotient_of_two(WHOLE(one), WHOLE(one), first, first_len, second, second_len,
+                                  WHOLE(scratch), WHOLE(given)) != number)
+        return 0;
+    for (size_t i = 0; i < COUNT(scratch); i++)
+        if (scratch[i] != 0)
+            return 0;
+    return given[0] == chosen && given[1] == radius && given[FERRUNTZO_SELECTION_SIZE] == 9;
+}
+
+/* Each proposal is tested by itself; both may be one area, or overlap. */
+static void two_proposals(void)
+{
+    enum { NEITHER = FERRUNTZO_CHOSEN_NONE, FIRST = FERRUNTZO_CHOSEN_FIRST, SECOND = FERRUNTZO_CHOSEN_SECOND };
+    static int32_t bad[FERRUNTZO_PROPOSAL_SIZE] = {-1};
+    static int32_t room[FERRUNTZO_PROPOSAL_SIZE + FERRUNTZO_CANDIDATE_SIZE];
+    EXPECT(selects(WHOLE(exact), WHOLE(rough), 0, FIRST, 0));
+    EXPECT(selects(WHOLE(rough), WHOLE(exact), 0, SECOND, 0));
+    EXPECT(selects(WHOLE(rough), WHOLE(rough), 0, FIRST, 2));
+    EXPECT(selects(WHOLE(bad), WHOLE(rough), 0, SECOND, 2));
+    EXPECT(selects(WHOLE(rough), WHOLE(bad), 0, FIRST, 2));
+    EXPECT(selects(SHORT(exact), WHOLE(rough), 0, SECOND, 2));
+    EXPECT(selects(WHOLE(rough), SHORT(exact), 0, FIRST, 2));
+    EXPECT(selects(WHOLE(rough), NONE, 0, FIRST, 2));
+    EXPECT(selects(SHORT(exact), SHORT(exact), FERRUNTZO_SHORT_AREA, NEITHER, 0));
+    EXPECT(selects(NONE, WHOLE(bad), FERRUNTZO_SHORT_AREA, NEITHER, 0));
+    EXPECT(selects(WHOLE(bad), NONE, FERRUNTZO_BAD_MODEL, NEITHER, 0));
+    EXPECT(exact[1] == S && rough[1] == S + 2 && rough[FERRUNTZO_CANDIDATE_SIZE + 1] == S);
+
+    /* Three candidates in a row: the middle one is w of the first proposal and h of the second. */
+    for (int i = 0; i < 3; i++)
+        memcpy(room + FERRUNTZO_CANDIDATE_SIZE * i, exact, FERRUNTZO_CANDIDATE_SIZE * sizeof *room);
+    room[1] = S + 3;
+    EXPECT(selects(room, FERRUNTZO_PROPOSAL_SIZE, room + FERRUNTZO_CANDIDATE_SIZE, FERRUNTZO_PROPOSAL_SIZE,
+                   0, SECOND, 0));
+    EXPECT(selects(WHOLE(room), room + FERRUNTZO_CANDIDATE_SIZE, FERRUNTZO_PROPOSAL_SIZE - 1, 0, FIRST, 3));
+
+    /* 1 of the call itself. */
+    selected[0] = selected[1] = 9;
+    scratch[0] = 7;
+    EXPECT(ferruntzo_quotient_of_two(WHOLE(one), SHORT(one), WHOLE(exact), WHOLE(exact), WHOLE(scratch),
+                                     WHOLE(selected)) == FERRUNTZO_SHORT_AREA);
+    EXPECT(selected[0] == 0 && selected[1] == 0 && scratch[0] == 0);
+    selected[0] = 9;
+    scratch[0] = 7;
+    EXPECT(ferruntzo_quotient_of_two(WHOLE(one), WHOLE(one), WHOLE(exact), WHOLE(exact), WHOLE(scratch),
+                                     SHORT(selected)) == FERRUNTZO_SHORT_AREA);
+    EXPECT(selected[0] == 9 && scratch[0] == 0);
+    scratch[0] = 7;
+    EXPECT(ferruntzo_quotient_of_two(WHOLE(one), WHOLE(one), WHOLE(exact), WHOLE(exact), SHORT(scratch),
+                                     WHOLE(selected)) == FERRUNTZO_SHORT_AREA);
+    EXPECT(selected[0] == 0 && scratch[0] == 7);
+}
+
 /* Models and candidates may stand at any multiple of 4, long numbers at any multiple of 8. */
 static void alignment(void)
 {
     static int32_t room[2 * FERRUNTZO_MODEL_SIZE + 3];
     static int64_t wide[FERRUNTZO_SCRATCH_SIZE + 3];
+    static int32_t pair[FERRUNTZO_PROPOSAL_SIZE + 3];
+    static uint32_t given[FERRUNTZO_SELECTION_SIZE + 3];
     const size_t size = FERRUNTZO_MODEL_SIZE;
     for (int shift = 0; shift < 4; shift++) {
         int32_t *a = room + shift, *b = a + size;
@@ -136,6 +208,11 @@ static void alignment(void)
         EXPECT(ferruntzo_root(a, size, CANDIDATE(a), CANDIDATE(out), wide + shift,
                               FERRUNTZO_SCRATCH_SIZE, b, size, WHOLE(numbers))
                != FERRUNTZO_SHORT_AREA);
+        memcpy(pair + shift, exact, sizeof exact);
+        EXPECT(ferruntzo_quotient_of_two(a, size, a, size, WHOLE(rough), pair + shift, COUNT(exact),
+                                         wide + shift, FERRUNTZO_SCRATCH_SIZE, given + shift,
+                                         FERRUNTZO_SELECTION_SIZE) == 0);
+        EXPECT(given[shift] == FERRUNTZO_CHOSEN_SECOND && given[shift + 1] == 0);
     }
 }
 
@@ -145,6 +222,7 @@ int main(void)
     short_areas();
     same_inputs();
     power_series();
+    two_proposals();
     alignment();
     EXPECT(ferruntzo_evaluate(WHOLE(one), 0, WHOLE(bounds)) == 0 && bounds[0] == S && bounds[1] == S);
     return failures != 0;

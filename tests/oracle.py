@@ -6,20 +6,22 @@ neither the pair walk nor the primitive rule of the product is used to get
 them.  Power series (document 02, S-3) are expanded by binomials, not by the
 rule of the product's table.  Only the rounding is taken over from document 01 as it stands there,
 with the ties of document 02 (S-11).
-Areas, and refusal 1 for a short one, are compare.py's.
+Areas, and refusal 1 for a short one, are compare.py's; a short proposal (S-14) is tested here.
 
 Run as a program it checks the examples P1 to P11.
 """
 
+from functools import lru_cache
 from math import comb, lcm
 from operator import mul
 from typing import NamedTuple
 
 from header import (
-    BAD_MODEL, BAD_SERIES, BAD_VALUE, BLOCK_BYTES, BYTES_AFTER_END, COEFFICIENTS, DEFAULT_KEPT,
+    BAD_MODEL, BAD_SERIES, BAD_VALUE, BLOCK_BYTES, BYTES_AFTER_END, CANDIDATE_SIZE, CHOSEN_FIRST,
+    CHOSEN_NONE, CHOSEN_SECOND, COEFFICIENTS, DEFAULT_KEPT,
     HELPER_NOT_POSITIVE, JOB_ENDS, LARGE_RESIDUAL, LARGE_RESULT, MAX_DEGREE, MAX_RESULTS,
     MAX_WEIGHT, NEGATIVE_DISCRIMINANT, NOT_A_RESULT, NOT_CONTRACTING, POINT_OUTSIDE,
-    PROGRAM_JOB_BYTES, S, TOO_MANY_RESULTS)
+    PROGRAM_JOB_BYTES, PROPOSAL_SIZE, S, SHORT_AREA, TOO_MANY_RESULTS)
 
 LIMIT = MAX_WEIGHT          # MAX_RADIUS and MAX_RESIDUAL too
 PRODUCT_SIZE = 2 * MAX_DEGREE + 1   # numbers of the list C
@@ -348,6 +350,29 @@ def root(f, h, w):
     radius = up(2 * b * S, S - m)
     assert radius <= 1 << 27, "document 01: at or below 2^27"
     return 0, Model(h.degree, h.coefficients, radius), m, n, b
+
+
+# ---- Two proposals for one quotient (document 02, S-14) -----------------------------
+
+@lru_cache(maxsize=2)                               # the counts of selection_cases.py ask again
+def proposal_test(f, g, proposal):
+    """Number and radius of one proposal: degree and 33 coefficients for h and then for w."""
+    if len(proposal) < PROPOSAL_SIZE:
+        return SHORT_AREA, 0
+    h, w = (Model(proposal[start], tuple(proposal[start + 1:start + CANDIDATE_SIZE]), 0)
+            for start in (0, CANDIDATE_SIZE))
+    number, result, *_ = quotient(f, g, h, w)
+    return number, result.radius
+
+
+def quotient_of_two(f, g, first, second):
+    """Number, which proposal is chosen, its radius."""
+    tests = {CHOSEN_FIRST: proposal_test(f, g, first), CHOSEN_SECOND: proposal_test(f, g, second)}
+    passed = [(radius, chosen) for chosen, (number, radius) in tests.items() if number == 0]
+    if not passed:
+        return tests[CHOSEN_FIRST][0], CHOSEN_NONE, 0
+    radius, chosen = min(passed)                    # equal radii favour the first
+    return 0, chosen, radius
 
 
 # ---- Jobs -----------------------------------------------------------------------

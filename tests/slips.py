@@ -16,6 +16,11 @@ M_LINE = 'int64_t m = up(weight(c, PRODUCT_SIZE) + 2 * m_weight'
 N_LINE = 'int64_t n = up(weight(c, PRODUCT_SIZE) + 2 * (int64_t)UNIT * f[RADIUS],'
 B_LINE = '    if (b > (UNIT - m) * (UNIT - m) / (8 * m_weight))'
 P_LINE = 'int64_t p = (int64_t)a[1 + i] * b[1 + j];'
+SECOND_TEST = '    uint32_t other = test_proposal(good, f, g, second, second_len, c, &two);'
+SELECT_END = '        answer[1] = (uint32_t)one.radius;\n    }\n    return number;'
+SHORT_FIRST = '    if (length < PROPOSAL_SIZE)\n        return SHORT_AREA;\n    if (!good)\n        return BAD_MODEL;'
+BAD_FIRST = '    if (!good)\n        return BAD_MODEL;\n    if (length < PROPOSAL_SIZE)\n        return SHORT_AREA;'
+SCRATCH_END = '    CLEAR(scratch, SCRATCH_SIZE);\n    return number;\n}\n\n/* ---- Jobs'
 NEAR = 'static int64_t near(int64_t n, int64_t d)\n{\n'
 # Wrong rules for near: the expression that it answers with.
 TIES_UP, TIES_DOWN = 'down(2 * n + d, 2 * d)', '-down(d - 2 * n, 2 * d)'
@@ -66,8 +71,8 @@ SLIPS = [
     ('N one more passes', 'quotient', 'if (n > LIMIT)', 'if (n > LIMIT + 1)'),
     ('N narrowed', 'quotient', 'if (n > LIMIT)', 'if ((int32_t)n > LIMIT)'),
     ('m narrowed', 'quotient', 'if (m >= UNIT)', 'if ((int32_t)m >= UNIT)'),
-    ('quotient radius narrowed', 'quotient', '    if (radius > LIMIT)\n        return LARGE_RESULT;\n    accept',
-     '    if ((int32_t)radius > LIMIT)\n        return LARGE_RESULT;\n    accept'),
+    ('quotient radius narrowed', 'quotient', '    if (radius > LIMIT)\n        return LARGE_RESULT;\n    *passed',
+     '    if ((int32_t)radius > LIMIT)\n        return LARGE_RESULT;\n    *passed'),
     ('weight in 32 bits', 'add', '    int64_t sum = 0;\n    for (int k = 1;', '    int32_t sum = 0;\n    for (int k = 1;'),
     ('result weight at the limit', 'add', 'weight(row, degree + 1) > LIMIT', 'weight(row, degree + 1) >= LIMIT'),
     ('result radius one more', 'multiply', 'radius > LIMIT || weight', 'radius > LIMIT + 1 || weight'),
@@ -147,6 +152,50 @@ SLIPS = [
      '    if (out != work && work + 10 * MODEL_SIZE < out) {\n        memcpy(out, h, sizeof h);\n'
      '        return 0;\n    }\n    if (byte == 0x20)\n'),
 ]
+
+# Two proposals for one quotient: what is wrong, old text, new text.
+SLIPS += [(f'two: {name}', 'quotient_of_two', old, new) for name, old, new in (
+    ('ties to the second', 'two.radius < one.radius', 'two.radius <= one.radius'),
+    ('the larger radius', 'two.radius < one.radius', 'two.radius > one.radius'),
+    ('radii one apart are equal', 'two.radius < one.radius', 'two.radius + 1 < one.radius'),
+    ('the first if it passes', '(number != 0 || two.radius < one.radius)', 'number != 0'),
+    ('the second if it passes', '(number != 0 || two.radius < one.radius)', '1'),
+    ('the second alone does not win', 'if (other == 0 && ', 'if (other == 0 && number == 0 && '),
+    ('the refusal of the second', SELECT_END, SELECT_END.replace('return number', 'return number == 0 ? 0 : other')),
+    ('the smaller refusal', SELECT_END, SELECT_END.replace('return number', 'return number < other ? number : other')),
+    ('67 numbers', 'length < PROPOSAL_SIZE', 'length < PROPOSAL_SIZE - 1'),
+    ('69 numbers', 'length < PROPOSAL_SIZE', 'length < PROPOSAL_SIZE + 1'),
+    ('68 numbers and no more', 'length < PROPOSAL_SIZE', 'length != PROPOSAL_SIZE'),
+    ('a short one refuses the call', 'if (CLEAR(answer, SELECTION_SIZE) && ',
+     'if (CLEAR(answer, SELECTION_SIZE) && first_len >= PROPOSAL_SIZE && second_len >= PROPOSAL_SIZE && '),
+    ('2 before 1', SHORT_FIRST, BAD_FIRST),
+    ('h and w exchanged', 'f, g, proposal, proposal + CANDIDATE_SIZE, c', 'f, g, proposal + CANDIDATE_SIZE, proposal, c'),
+    ('w from number 33', 'proposal, proposal + CANDIDATE_SIZE', 'proposal, proposal + COEFFICIENTS'),
+    ('the w of the first', SECOND_TEST, SECOND_TEST + """
+    if (first_len >= PROPOSAL_SIZE && second_len >= PROPOSAL_SIZE)
+        other = good ? judge_quotient(f, g, second, first + CANDIDATE_SIZE, c, &two) : BAD_MODEL;"""),
+    ('the h of the first', SECOND_TEST, SECOND_TEST.replace('second, second_len', 'first, first_len')),
+    ('3 passes', 'if (radius > LIMIT)\n        return LARGE_RESULT;\n    *passed', '*passed'),
+    ('radius 2^28 refused', 'if (radius > LIMIT)\n        return LARGE_RESULT;\n    *passed',
+     'if (radius >= LIMIT)\n        return LARGE_RESULT;\n    *passed'),
+    ('f and g not looked at', 'int good = good_model(f) && good_model(g);', 'int good = 1;'),
+    ('g not looked at', 'int good = good_model(f) && good_model(g);', 'int good = good_model(f);'),
+    ('answer left on refusal', 'if (CLEAR(answer, SELECTION_SIZE) && ', 'if (answer_len >= SELECTION_SIZE && '),
+    ('answer left on 1', 'if (CLEAR(answer, SELECTION_SIZE) && ',
+     'if (f_len >= MODEL_SIZE && g_len >= MODEL_SIZE && scratch_len >= SCRATCH_SIZE && CLEAR(answer, SELECTION_SIZE) && '),
+    ('first kept in answer on refusal', '    if (number == 0) {\n        answer[0]', '    if (1) {\n        answer[0]'),
+    ('scratch left', SCRATCH_END, SCRATCH_END.replace('    CLEAR(scratch, SCRATCH_SIZE);\n', '')),
+    ('scratch left where both are short', SCRATCH_END,
+     f'    if (first_len >= PROPOSAL_SIZE || second_len >= PROPOSAL_SIZE)\n    {SCRATCH_END}'),
+    ('scratch left where one is short', SCRATCH_END,
+     f'    if (first_len >= PROPOSAL_SIZE && second_len >= PROPOSAL_SIZE)\n    {SCRATCH_END}'),
+    ('scratch left on 1', SCRATCH_END, f'    if (number != SHORT_AREA)\n    {SCRATCH_END}'),
+    ('chosen from 0', 'CHOSEN_FIRST = 1, CHOSEN_SECOND = 2', 'CHOSEN_FIRST = 0, CHOSEN_SECOND = 1'),
+    ('chosen exchanged', 'CHOSEN_FIRST = 1, CHOSEN_SECOND = 2', 'CHOSEN_FIRST = 2, CHOSEN_SECOND = 1'),
+    ('radius of the other', 'answer[1] = (uint32_t)two.radius', 'answer[1] = (uint32_t)(number == 0 ? one.radius : two.radius)'),
+    ('radius of the other, first', 'answer[1] = (uint32_t)one.radius',
+     'answer[1] = (uint32_t)(other == 0 ? two.radius : one.radius)'),
+)]
 
 # One near serves four operations and the jobs.
 SLIPS += [(f'{name}, {entry}', entry, NEAR, f'{NEAR}    return {rule};\n')

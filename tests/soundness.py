@@ -3,7 +3,8 @@
 Each soundness_*() takes what was handed in and what came out, draws a fraction
 and allowed values there, and raises AssertionError when a value that the
 result should cover is not covered.  compare.py calls check() on a sample, and
-soundness_from_series() on every model that the library makes of a series.
+check_answered() on every model that the library makes of a series and on every
+proposal that it chooses.
 """
 
 from fractions import Fraction
@@ -270,4 +271,12 @@ def check(rng, case):
         soundness_root(rng, f, o.root(f, h, w)[1])
     elif entry == 'check':
         soundness_job(rng, inputs[0], o.check_job(inputs[0])[2])
-    # evaluate asserts its bounds on every call; models of series are checked as they are answered.
+    # evaluate asserts its bounds on every call.
+
+
+def check_answered(rng, case, result):
+    """Checks one accepted case by the model that the library answered."""
+    if case.entry == 'from_series':
+        soundness_from_series(rng, *case.inputs, result)
+    else:
+        soundness_quotient(rng, *case.inputs[:2], result)

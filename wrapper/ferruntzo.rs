@@ -6,9 +6,9 @@
 //! rustc --edition 2021 -L target/staticlib -L . --extern ferruntzo program.rs
 //! ```
 //!
-//! The typed functions ([`Model::add`], [`Model::from_series`], [`quotient`], [`check`], ...) lend
-//! the library areas of the right size. The functions in [`areas`] take the caller's own slices of
-//! every length.
+//! The typed functions ([`Model::add`], [`Model::from_series`], [`quotient`], [`quotient_of_two`],
+//! [`check`], ...) lend the library areas of the right size. The functions in [`areas`] take the
+//! caller's own slices of every length.
 //! The crate needs `core` alone, allocates nothing and has no state.
 //!
 //! ```
@@ -47,6 +47,8 @@ pub const DEFAULT_KEPT: u32 = 255;
 pub const MODEL_SIZE: usize = 35;
 /// Numbers in a candidate area: degree, coefficients.
 pub const CANDIDATE_SIZE: usize = 34;
+/// Numbers of a proposal for a quotient: degree, coefficients of h, then of w.
+pub const PROPOSAL_SIZE: usize = 68;
 /// Numbers in a series area: degree, coefficients of x^0 to x^32.
 pub const SERIES_SIZE: usize = 34;
 /// Numbers in the area for bounds: low, high.
@@ -61,6 +63,8 @@ pub const REPORT_SIZE: usize = NUMBERS_SIZE;
 pub const WORK_SIZE: usize = 1120;
 /// Numbers in the answer of a job: count, command.
 pub const ANSWER_SIZE: usize = 2;
+/// Numbers in the answer of two proposals: chosen, radius.
+pub const SELECTION_SIZE: usize = 2;
 
 const RADIUS: usize = 34;
 
@@ -68,7 +72,7 @@ const RADIUS: usize = 34;
 #[derive(Clone, Copy, Debug, PartialEq, Eq, Hash)]
 #[repr(u32)]
 pub enum Refusal {
-    /// An area is shorter than needed.
+    /// An area, or a proposal, is shorter than needed.
     ShortArea = 1,
     /// A model's or candidate's degree, weight or radius, or a nonzero coefficient beyond its degree.
     BadModel = 2,
@@ -131,7 +135,7 @@ impl Refusal {
 impl fmt::Display for Refusal {
     fn fmt(&self, f: &mut fmt::Formatter<'_>) -> fmt::Result {
         let reason = match self {
-            Refusal::ShortArea => "an area is too short",
+            Refusal::ShortArea => "an area or a proposal is too short",
             Refusal::BadModel => "bad model or candidate",
             Refusal::LargeResult => "result too large",
             Refusal::PointOutside => "point outside -S..S",
@@ -396,6 +400,86 @@ pub fn quotient(
     Ok(Certificate { model, m, n, b })
 }
 
+/// Which of two proposals is chosen.
+#[derive(Clone, Copy, Debug, PartialEq, Eq, Hash)]
+#[repr(u32)]
+pub enum Chosen {
+    /// The first.
+    First = 1,
+    /// The second.
+    Second = 2,
+}
+
+/// The tighter of two proposals for a quotient.
+#[derive(Clone, Copy, Debug, PartialEq, Eq)]
+pub struct Selection<'a> {
+    /// Which proposal.
+    pub chosen: Chosen,
+    /// The degree of its h.
+    pub degree: i32,
+    /// The coefficients of its h, in units: a part of the caller's proposal.
+    pub coefficients: &'a [i32; COEFFICIENTS],
+    /// The radius that the test gives, in units.
+    pub radius: i32,
+}
+
+impl Selection<'_> {
+    /// The model with this degree, these coefficients and this radius.
+    pub fn model(&self) -> Model {
+        Model::new(self.degree, *self.coefficients, self.radius)
+    }
+}
+
+/// Tests two proposals for f/g, each 68 numbers: degree and coefficients of h, then of w. The one
+/// with the smaller radius is chosen, the first if the radii are equal; if just one passes, that
+/// one. Numbers behind the 68 play no part.
+///
+/// At every x from −1 to 1 no value that g allows is zero, and each value of f over one of g is
+/// allowed by the coefficients of the selection with its radius.
+///
+/// Refusals, if neither passes: what the first fails with, in order `ShortArea` (fewer than 68
+/// numbers), `BadModel`, `NotContracting`, `LargeResidual`, `LargeResult`.
+///
+/// ```
+/// use ferruntzo::{quotient_of_two, Chosen, Model, CANDIDATE_SIZE, PROPOSAL_SIZE, S};
+///
+/// // 1/2 with the helper w = 1/2: the first proposal is three units off, the second is exact.
+/// let mut first = [0; PROPOSAL_SIZE];
+/// first[1] = S / 2 + 3;
+/// first[CANDIDATE_SIZE + 1] = S / 2;
+/// let mut second = first;
+/// second[1] = S / 2;
+/// let (f, g) = (Model::constant(S), Model::constant(2 * S));
+/// let tighter = quotient_of_two(&f, &g, &first, &second).unwrap();
+/// assert_eq!((tighter.chosen, tighter.radius), (Chosen::Second, 0));
+/// assert_eq!(tighter.coefficients.as_ptr(), second[1..].as_ptr());
+/// ```
+pub fn quotient_of_two<'a>(
+    f: &Model,
+    g: &Model,
+    first: &'a [i32],
+    second: &'a [i32],
+) -> Result<Selection<'a>, Refusal> {
+    let mut scratch = [0; SCRATCH_SIZE];
+    let mut answer = [0; SELECTION_SIZE];
+    let (tested, part) =
+        areas::quotient_of_two(&f.0, &g.0, first, second, &mut scratch, &mut answer);
+    tested?;
+    let (chosen, proposal) = chosen_of(answer[0], first, second);
+    let coefficients = part.first_chunk().expect("a part of 33 numbers");
+    // An accepted radius is at most 2^28.
+    Ok(Selection { chosen, degree: proposal[0], coefficients, radius: answer[1] as i32 })
+}
+
+/// The proposal that the library's answer names.
+fn chosen_of<'a>(number: u32, first: &'a [i32], second: &'a [i32]) -> (Chosen, &'a [i32]) {
+    match number {
+        1 => (Chosen::First, first),
+        2 => (Chosen::Second, second),
+        _ => panic!("not this version of libferruntzo.a: it chose {number}"),
+    }
+}
+
 /// Tests the candidate h for the square root of f, with the helper w near 1/(2h).
 ///
 /// Refusals, in order: `BadModel`, `HelperNotPositive`, `NotContracting`, `LargeResidual`,
@@ -471,11 +555,11 @@ pub fn check(job: &[u8]) -> Result<CheckedJob, RefusedJob> {
 /// `Err(Refusal::ShortArea)`: an area is shorter than its size. What a written area holds
 /// afterwards depends on its own length: one that is itself too short is not touched; `out`,
 /// `bounds` and `numbers` are zero in their sizes after every refusal, `ShortArea` included; the
-/// `scratch` of a test is zero in its 65 numbers after every call. [`areas::check`] says what
-/// holds of its areas. Numbers behind the sizes stay.
+/// `scratch` of a test is zero in its 65 numbers after every call. [`areas::quotient_of_two`] and
+/// [`areas::check`] say what holds of their areas. Numbers behind the sizes stay.
 #[rustfmt::skip]
 pub mod areas {
-    use super::{accepted, raw, Refusal};
+    use super::{accepted, chosen_of, raw, Refusal, CANDIDATE_SIZE};
 
     /// a + b; `a`, `b` and `out` have 35 numbers.
     pub fn add(a: &[i32], b: &[i32], out: &mut [i32]) -> Result<(), Refusal> {
@@ -549,6 +633,35 @@ pub mod areas {
         })
     }
 
+    /// The quotient tests of two proposals, and the part that is chosen: the 33 coefficients of h in
+    /// the tighter proposal, or an empty part of `first` when refused. `f` and `g` have 35 numbers,
+    /// `scratch` 65, `answer` 2: chosen (1 or 2), radius.
+    ///
+    /// A proposal of fewer than 68 numbers fails with `ShortArea` by itself. `answer` is 0 and 0
+    /// after every refusal, and `scratch` zero after every call, unless they are too short.
+    pub fn quotient_of_two<'a>(
+        f: &[i32],
+        g: &[i32],
+        first: &'a [i32],
+        second: &'a [i32],
+        scratch: &mut [i64],
+        answer: &mut [u32],
+    ) -> (Result<(), Refusal>, &'a [i32]) {
+        // SAFETY: as in `add`.
+        let tested = accepted(unsafe {
+            raw::ferruntzo_quotient_of_two(
+                f.as_ptr(), f.len(), g.as_ptr(), g.len(),
+                first.as_ptr(), first.len(), second.as_ptr(), second.len(),
+                scratch.as_mut_ptr(), scratch.len(), answer.as_mut_ptr(), answer.len(),
+            )
+        });
+        let part = match tested {
+            Ok(()) => &chosen_of(answer[0], first, second).1[1..CANDIDATE_SIZE],
+            Err(_) => &first[..0],
+        };
+        (tested, part)
+    }
+
     /// The root test; `f` has 35 numbers, `h` and `w` 34, `scratch` 65, `out` 35, `numbers` 3: m, N, b.
     pub fn root(
         f: &[i32],
@@ -617,6 +730,11 @@ mod raw {
             h: *const i32, h_len: usize, w: *const i32, w_len: usize,
             scratch: *mut i64, scratch_len: usize, out: *mut i32, out_len: usize,
             numbers: *mut u64, numbers_len: usize,
+        ) -> u32;
+        pub fn ferruntzo_quotient_of_two(
+            f: *const i32, f_len: usize, g: *const i32, g_len: usize,
+            first: *const i32, first_len: usize, second: *const i32, second_len: usize,
+            scratch: *mut i64, scratch_len: usize, answer: *mut u32, answer_len: usize,
         ) -> u32;
         pub fn ferruntzo_root(
             f: *const i32, f_len: usize, h: *const i32, h_len: usize, w: *const i32, w_len: usize,

@@ -4,6 +4,9 @@ use std::format;
 use std::vec;
 use std::vec::Vec;
 
+#[path = "selection_tests.rs"]
+mod selection;
+
 const HALF: i32 = S / 2;
 
 /// A model from its leading coefficients.
@@ -256,12 +259,16 @@ fn header_agrees() {
         ("MAX_RESULTS", MAX_RESULTS),
         ("MODEL_SIZE", MODEL_SIZE),
         ("CANDIDATE_SIZE", CANDIDATE_SIZE),
+        ("PROPOSAL_SIZE", PROPOSAL_SIZE),
         ("SERIES_SIZE", SERIES_SIZE),
         ("BOUNDS_SIZE", BOUNDS_SIZE),
         ("SCRATCH_SIZE", SCRATCH_SIZE),
         ("NUMBERS_SIZE", NUMBERS_SIZE),
         ("WORK_SIZE", WORK_SIZE),
         ("ANSWER_SIZE", ANSWER_SIZE),
+        ("SELECTION_SIZE", SELECTION_SIZE),
+        ("CHOSEN_FIRST", Chosen::First as usize),
+        ("CHOSEN_SECOND", Chosen::Second as usize),
         ("COEFFICIENTS", COEFFICIENTS),
         ("PLACE_RADIUS", RADIUS),
         ("DEFAULT_KEPT", DEFAULT_KEPT as usize),

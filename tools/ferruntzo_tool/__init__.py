@@ -1,3 +1,3 @@
 """The tool of Ferruntzo: check, explain, list, assemble, show and solve jobs."""
 
-__version__ = '2.0.0'
+__version__ = '2.1.0'

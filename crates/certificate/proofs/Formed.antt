@@ -6,7 +6,6 @@ use native.Mathlib.Omega.{arith}
 use native.Mathlib.Nat.{mul-le-mul}
 use lib.IntN.{ℤ}
 use lib.ListN.{length, take, drop}
-use lib.Seq.{length-take-le}
 use Rattle.integer.specs.definitions.Integer.{ℤ-ring}
 use Rattle.integer.specs.definitions.Lists.{zeros}
 use Rattle.integer.specs.laws.Clearing.{length-zeros}
@@ -55,15 +54,13 @@ lent-after {c} {part} f e =
     let w : length part ≡ length c = ap length e ∙ length-zeros (length c) in
     record { clear = rw w e; long = w ∙ f .width }
 
--- before a test
+-- before a test, or where none runs
 pub lent-scratch : (start : List ℤ) {part : List ℤ} → length start ≡ scratchSize → part ≡ zeros (length start) → Lent part
 lent-scratch start {part} w e =
     let l : length part ≡ length start = ap length e ∙ length-zeros (length start) in
     record { clear = rw l e; long = l ∙ w }
 
 -- after a test: the scratch s, whose first numbers were lent
-pub scratch-after : (s : List ℤ) {part : List ℤ} → scratchSize ≤ length s → Lent part → length part ≡ length (take scratchSize s)
-    → part ++ drop scratchSize s ≡ scratchAfter s
-scratch-after s room l w =
-    ap (λ p. p ++ drop scratchSize s) (l .clear ∙ ap zeros (w ∙ length-take-le scratchSize s room))
-    ∙ sym (scratch-cleared s room)
+pub scratch-after : (s : List ℤ) {part : List ℤ} → scratchSize ≤ length s → Lent part → part ++ drop scratchSize s ≡ scratchAfter s
+scratch-after s room l =
+    ap (λ p. p ++ drop scratchSize s) (l .clear ∙ ap zeros (l .long)) ∙ sym (scratch-cleared s room)

@@ -3,4 +3,5 @@ mod numbers;
 pub mod quotient;
 mod residual;
 pub mod root;
+pub mod scratch;
 pub mod types;

@@ -3,3 +3,4 @@ pub mod Operations
 pub mod Certificates
 pub mod Jobs
 pub mod Conversions
+pub mod Selections

@@ -4,9 +4,7 @@ ghost use mathlib.Core.List.{[], _∷_};
 ghost use Prim.Native.Nat.{_≤_};
 ghost use lib.ListN.{length};
 ghost use Rattle.model.specs.definitions.Area.{modelSize, candidateSize, words, areaModel, areaCandidate, Storable};
-ghost use Rattle.certificate.specs.definitions.Tests.{scratchAfter};
-ghost use Rattle.ferruntzo.specs.definitions.Areas.{boundsSize, areaOut, numbersSize};
-use certificate::types::SCRATCH_SIZE;
+ghost use Rattle.ferruntzo.specs.definitions.Areas.{boundsSize, numbersSize, selectionSize, areaOut};
 use model::area::CANDIDATE_SIZE;
 use model::area::MODEL_SIZE;
 use model::area::read;
@@ -20,6 +18,9 @@ pub(crate) const BOUNDS_SIZE: usize = 2;
 
 // Document 01's m, N and b.
 pub(crate) const NUMBERS_SIZE: usize = 3;
+
+// Which of two proposals is chosen, and its radius.
+pub(crate) const SELECTION_SIZE: usize = 2;
 
 // The model in an area.
 pub(crate) fn model_in(area: &[i32]) -> Model
@@ -71,16 +72,13 @@ pub(crate) fn store_numbers(numbers: &mut [u64], m: u64, n: u64, b: u64)
     numbers[2] = b;
 }
 
-// The numbers of a scratch become zero.
-pub(crate) fn clear_scratch(scratch: &mut [i64])
-    ensures { λ _. ⌜ now (scratch .exit) ≡ scratchAfter (now (scratch .entry)) ⌝ }
+// Stores which of two proposals is chosen, and its radius.
+pub(crate) fn store_selected(answer: &mut [u32], chosen: u32, radius: u32)
+    ensures { λ _. ⌜ now (answer .exit) ≡ areaOut selectionSize (chosen ∷ radius ∷ []) (now (answer .entry)) ⌝ }
 {
-    if scratch.len() < SCRATCH_SIZE {
+    if answer.len() < SELECTION_SIZE {
         return;
     }
-    let mut i: usize = 0;
-    while i < SCRATCH_SIZE {
-        scratch[i] = 0;
-        i += 1;
-    }
+    answer[0] = chosen;
+    answer[1] = radius;
 }

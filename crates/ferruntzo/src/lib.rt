@@ -5,3 +5,4 @@ pub mod certificates;
 pub mod conversions;
 pub mod jobs;
 pub mod operations;
+pub mod selections;

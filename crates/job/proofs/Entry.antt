@@ -9,8 +9,8 @@ use lib.IntN.{ℤ}
 use lib.ListN.{length, drop}
 use lib.Seq.{drop-at}
 use Rattle.model.specs.declared.types.Refusal.the-variants.{ShortArea}
-use Rattle.certificate.specs.definitions.Tests.{scratchSize}
-use Rattle.certificate.specs.laws.Stages.{scratch-cleared}
+use Rattle.certificate.specs.definitions.Tests.{scratchSize, scratchAfter}
+use Rattle.certificate.specs.laws.Stages.{scratch-cleared, scratch-twice}
 use Rattle.integer.specs.definitions.Lists.{zeros}
 use Rattle.integer.specs.laws.Clearing.{length-zeros}
 use Rattle.job.specs.definitions.Outcomes.{jobOutcomeOf, counted}
@@ -32,8 +32,8 @@ module _ (n : ℕ) (w w′ : List ℤ) (e : w′ ≡ zeros n ++ drop n w) where
   pub cleared-is : w′ ≡ zeros n ++ drop n w′
   cleared-is = e ∙ ap (λ (l : List ℤ). zeros n ++ l) (sym cleared-behind)
 
-pub cleared-clear : (s s′ : List ℤ) → s′ ≡ zeros scratchSize ++ drop scratchSize s → scratchSize ≤ length s′ → Clear s′
-cleared-clear s s′ e h = record { long = h; clear = scratch-cleared s′ h ∙ sym (cleared-is scratchSize s s′ e) }
+pub cleared-clear : (s s′ : List ℤ) → s′ ≡ scratchAfter s → scratchSize ≤ length s′ → Clear s′
+cleared-clear s s′ e h = record { long = h; clear = ap scratchAfter e ∙ scratch-twice s ∙ sym e }
 
 module _ (job : List ℕ) (w s : List ℤ) where
   abbrev pub Leaves : CodeOutcome → List ℤ → List ℤ → Type 0
@@ -55,10 +55,10 @@ module _ (job : List ℕ) (w s : List ℤ) where
 
   pub ran-leaves : workSize ≤ length w → scratchSize ≤ length s → (w₁ w₂ s₁ : List ℤ) (r : CodeOutcome)
       → w₁ ≡ zeros workSize ++ drop workSize w → Ran job w₁ r w₂
-      → s₁ ≡ zeros scratchSize ++ drop scratchSize s → Leaves r w₂ s₁
+      → s₁ ≡ scratchAfter s → Leaves r w₂ s₁
   unfolding checkOutcome workAfter scratchAfterJob
   ran-leaves g h w₁ w₂ s₁ r e f es =
       let fit : areasFit w s ≡ true = simp (le-leb _ _ g, le-leb _ _ h) in
       let claim = required-behind (areaPlaces w s) (areas-fit w s fit) (f .claim) in
       simp fit
-      (f .answer, (f .work-is ∙ ap (λ (l : List ℤ). workWith (resultsIn (jobOutcome job)) ++ l) (cleared-behind workSize w w₁ e), (es, claim)))
+      (f .answer, (f .work-is ∙ ap (λ (l : List ℤ). workWith (resultsIn (jobOutcome job)) ++ l) (cleared-behind workSize w w₁ e), (es ∙ scratch-cleared s h, claim)))

@@ -12,8 +12,8 @@ use crate::step::step;
 use crate::types::JobOutcome;
 use crate::types::Step;
 use crate::work::WORK_SIZE;
-use crate::work::clear_scratch;
 use crate::work::clear_work;
+use certificate::scratch::clear_scratch;
 use certificate::types::SCRATCH_SIZE;
 use model::types::Refusal;
 

@@ -4,11 +4,9 @@ ghost use mathlib.Core.List.{_++_};
 ghost use Prim.Native.Nat.{_≤_, _<_};
 ghost use lib.ListN.{length, drop};
 ghost use Rattle.integer.specs.definitions.Lists.{zeros};
-ghost use Rattle.certificate.specs.definitions.Tests.{scratchSize};
 ghost use Rattle.job.specs.definitions.Reading.{maxResults};
 ghost use Rattle.job.specs.definitions.Work.{workSize, storedResult, storedAt};
 ghost use Rattle.job.specs.definitions.InnerContracts.{Storing};
-use certificate::types::SCRATCH_SIZE;
 use model::area::MODEL_SIZE;
 use model::area::read;
 use model::area::write;
@@ -42,18 +40,6 @@ pub(crate) fn clear_work(work: &mut [i32])
     let mut i: usize = 0;
     while i < WORK_SIZE {
         work[i] = 0;
-        i += 1;
-    }
-}
-
-// The first 65 numbers become zero.
-pub(crate) fn clear_scratch(scratch: &mut [i64])
-    requires { ⌜ scratchSize ≤ length (now scratch) ⌝ }
-    ensures { λ _. ⌜ now (scratch .exit) ≡ zeros scratchSize ++ drop scratchSize (now (scratch .entry)) ⌝ }
-{
-    let mut i: usize = 0;
-    while i < SCRATCH_SIZE {
-        scratch[i] = 0;
         i += 1;
     }
 }

@@ -1,5 +1,5 @@
 -- The answers of the two tests by their parts, and what their places share: the scratch, models and candidates, the result.
-use mathlib.Core.Path.{_≡_, refl}
+use mathlib.Core.Path.{_≡_, refl, sym, _∙_, ap}
 use mathlib.Core.Bool.{Bool, true, false, true≢false, not, _&&_, cond, or-false}
 use mathlib.Core.List.{List, _++_}
 use Prim.Native.Nat.{ℕ, _*_, _^_, _≤_, _<_}
@@ -7,11 +7,13 @@ use native.Mathlib.Omega.{arith}
 use native.Mathlib.Nat.{mul-le-mul}
 use lib.Dec.{ltb}
 use lib.IntN.{ℤ}
-use lib.ListN.{length, drop}
-use borrow.Author.Tests.{le-ltb, le-leb, lt-leb}
+use lib.ListN.{length, drop, length-append, length-drop}
+use lib.Seq.{drop-at}
+use borrow.Author.Tests.{ltb-true, ltb-false, le-ltb, le-leb, lt-leb}
 use Rattle.integer.specs.definitions.Lists.{zeros}
 use Rattle.integer.specs.definitions.Rounding.{upℕ}
 use Rattle.integer.specs.laws.RoundingLaws.{upℕ-least}
+use Rattle.integer.specs.laws.Clearing.{length-zeros}
 use Rattle.chebyshev.specs.definitions.Coefficients.{weight}
 use Rattle.model.specs.definitions.Models.{scale, maxDegree, maxWeight, maxRadius, good, tooLarge}
 use Rattle.model.specs.laws.ModelLaws.{good-is}
@@ -43,6 +45,31 @@ scratch-short s e = rw (lt-leb scratchSize (length s) e)
 pub scratch-cleared : (s : List ℤ) → scratchSize ≤ length s → scratchAfter s ≡ zeros scratchSize ++ drop scratchSize s
 unfolding scratchAfter zeros
 scratch-cleared s e = rw (le-leb scratchSize (length s) e)
+
+module _ (s : List ℤ) where
+  -- a scratch stays as long as it was
+  pub scratch-length : length (scratchAfter s) ≡ length s
+  scratch-length = go (ltb (length s) scratchSize) refl
+    where
+      go : (t : Bool) → ltb (length s) scratchSize ≡ t → length (scratchAfter s) ≡ length s
+      go true e = ap length (scratch-short s (ltb-true (length s) scratchSize e))
+      go false e =
+          let room = ltb-false (length s) scratchSize e in
+          ap length (scratch-cleared s room) ∙ length-append (zeros scratchSize) (drop scratchSize s)
+          ∙ omega (arith, room, length-zeros scratchSize, length-drop scratchSize s)
+
+  -- a second call finds it cleared
+  pub scratch-twice : scratchAfter (scratchAfter s) ≡ scratchAfter s
+  scratch-twice = go (ltb (length s) scratchSize) refl
+    where
+      go : (t : Bool) → ltb (length s) scratchSize ≡ t → scratchAfter (scratchAfter s) ≡ scratchAfter s
+      go true e = ap scratchAfter (scratch-short s (ltb-true (length s) scratchSize e))
+      go false e =
+          let room = ltb-false (length s) scratchSize e in
+          scratch-cleared (scratchAfter s) (omega (arith, room, scratch-length))
+          ∙ ap (λ (l : List ℤ). zeros scratchSize ++ drop scratchSize l) (scratch-cleared s room)
+          ∙ ap (λ (l : List ℤ). zeros scratchSize ++ l) (drop-at (zeros scratchSize) (drop scratchSize s) scratchSize (length-zeros scratchSize))
+          ∙ sym (scratch-cleared s room)
 
 -- ---- a scratch that is long enough plays no further part
 

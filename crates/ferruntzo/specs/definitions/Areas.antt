@@ -13,6 +13,10 @@ boundsSize = 2
 abbrev pub numbersSize : ℕ
 numbersSize = 3
 
+-- how many numbers a selection has: which proposal is chosen, and its radius
+abbrev pub selectionSize : ℕ
+selectionSize = 2
+
 -- whether an area has its n numbers
 abbrev pub fits : {A : Type 0} → ℕ → List A → Bool
 fits n s = leb n (length s)

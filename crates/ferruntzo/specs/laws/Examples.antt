@@ -18,6 +18,9 @@ use Rattle.model.specs.definitions.Round.{rounded, roundingLoss}
 use Rattle.model.specs.definitions.Evaluate.{pointTerm, pointSum, pointError, lowBound, highBound, evaluation}
 use Rattle.certificate.specs.definitions.Tests.{scratchAfter, displacement}
 use Rattle.certificate.specs.definitions.Root.{rootOutcome, rootPlaces, rootContraction, rootResidual, rootModel}
+use Rattle.certificate.specs.definitions.Quotient.{quotientOutcome, quotientContraction, quotientResidual, quotientModel}
+use Rattle.selection.specs.definitions.Proposal.{proposalTest}
+use Rattle.selection.specs.definitions.Select.{tighter}
 use Rattle.series.specs.definitions.Convert.{goodSeries, expandedFrom, seriesModel, conversion}
 use Rattle.series.specs.definitions.Table.{expansionRow}
 use Rattle.job.specs.definitions.Bytes.{signedsAt}
@@ -32,6 +35,7 @@ use Rattle.ferruntzo.specs.definitions.Operations.{operationAnswer, outc
 use Rattle.ferruntzo.specs.definitions.Certificates.{testAnswer, testIn, rootAnswer}
 use Rattle.ferruntzo.specs.definitions.Jobs.{jobAnswer, checkAnswer}
 use Rattle.ferruntzo.specs.definitions.Conversions.{seriesAnswer}
+use Rattle.ferruntzo.specs.definitions.Selections.{selectionAnswer, selectionIn, quotientOfTwoAnswer}
 
 -- the numbers of a model, or of a candidate, from its degree, its first coefficients and how many numbers follow
 abbrev area : ℕ → List ℤ → ℕ → List ℤ
@@ -90,6 +94,23 @@ pub tests :
     ≡ testAnswer 1 (nines 64) (zeros 35 ++ nines 1) (0 ∷ 0 ∷ 0 ∷ 9 ∷ []))
 unfolding testIn areaOut scratchAfter rootOutcome rootPlaces rootContraction rootResidual rootModel displacement coefficientSum productList passing good tooLarge zeroModel weight addLists subtractLists scaleList addAt addPair addTerm addTerms product upℕ zeros
 tests = (refl, refl, refl, refl)
+
+-- two proposals for 1/3 with the helper 1/3: the first has 67 numbers, the second is chosen with radius 2; neither passes; a model area of
+-- 34 numbers; a scratch of 64 and short proposals; an answer of 1
+abbrev third : List ℤ
+third = area 0 (pos 349525 ∷ []) 34
+
+pub selections :
+    (quotientOfTwoAnswer one (area 0 (pos 3145728 ∷ []) 35 ++ nines 1) (third ++ drop 1 third) (third ++ (third ++ nines 1)) (nines 66) (9 ∷ 9 ∷ 9 ∷ [])
+    ≡ selectionAnswer 0 (zeros 65 ++ nines 1) (2 ∷ 2 ∷ 9 ∷ []))
+    × (quotientOfTwoAnswer one (area 0 (pos 3145728 ∷ []) 35) (third ++ zeros 34) third (nines 66) (9 ∷ 9 ∷ 9 ∷ [])
+    ≡ selectionAnswer 5 (zeros 65 ++ nines 1) (0 ∷ 0 ∷ 9 ∷ []))
+    × (quotientOfTwoAnswer (drop 1 one) one (third ++ third) (third ++ third) (nines 66) (9 ∷ 9 ∷ 9 ∷ [])
+    ≡ selectionAnswer 1 (zeros 65 ++ nines 1) (0 ∷ 0 ∷ 9 ∷ []))
+    × (quotientOfTwoAnswer one one [] third (nines 64) (9 ∷ 9 ∷ 9 ∷ []) ≡ selectionAnswer 1 (nines 64) (0 ∷ 0 ∷ 9 ∷ []))
+    × (quotientOfTwoAnswer one one (third ++ third) (third ++ third) (nines 65) (9 ∷ []) ≡ selectionAnswer 1 (zeros 65) (9 ∷ []))
+unfolding selectionIn areaOut scratchAfter tighter proposalTest quotientOutcome quotientContraction quotientResidual quotientModel displacement productList passing good tooLarge zeroModel weight addLists subtractLists scaleList addAt addPair addTerm addTerms product upℕ zeros
+selections = (refl, refl, refl, refl, refl)
 
 -- a job refused at command 1, the count before the command; a job accepted with one result; and areas that are too short
 pub checks :

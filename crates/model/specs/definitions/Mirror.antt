@@ -3,7 +3,6 @@ use mathlib.Core.Bool.{Bool}
 use Prim.Native.Nat.{ℕ}
 use Rattle.chebyshev.specs.definitions.Negation.{every, odd, negatedFrom}
 use Rattle.model.specs.definitions.Models.{makeModel}
-use Rattle.model.specs.definitions.Outcomes.{Outcome, accepted, refused}
 use Rattle.model.specs.declared.types.Model.{Model}
 
 -- the model with its coefficients negated at the chosen places; degree and radius stay
@@ -17,8 +16,3 @@ negated m = negatedWhere every m
 -- "Negating … the odd coefficients": the model read from the other end of its stretch
 abbrev pub mirrored : Model → Model
 mirrored m = negatedWhere odd m
-
--- the same number beside other values
-abbrev pub mapOutcome : {A : Type 0} → (A → A) → Outcome A → Outcome A
-mapOutcome f (accepted a) = accepted (f a)
-mapOutcome f (refused n a) = refused n (f a)

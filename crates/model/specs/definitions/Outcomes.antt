@@ -30,6 +30,11 @@ abbrev pub payload : {A : Type 0} → Outcome A → A
 payload (accepted a) = a
 payload (refused n a) = a
 
+-- the same number beside other values
+abbrev pub mapOutcome : {A B : Type 0} → (A → B) → Outcome A → Outcome B
+mapOutcome f (accepted a) = accepted (f a)
+mapOutcome f (refused n a) = refused n (f a)
+
 -- The places of the table that are passed through, in their order: a condition and its number. The first condition that holds
 -- refuses with its number; where none does, a is what comes of it.
 unfoldable pub passing : {A : Type 0} → List (Bool × ℕ) → A → (ℕ → A) → A

@@ -13,8 +13,8 @@ use Rattle.chebyshev.specs.definitions.Coefficients.{weight}
 use Rattle.chebyshev.specs.definitions.Negation.{none, negatedIf, negatedFrom}
 use Rattle.chebyshev.specs.laws.NegationLaws.{abs-negated, take-negated, drop-negated, weight-negated, negated-zeros, negated-none}
 use Rattle.model.specs.definitions.Models.{coefficientCount, terms, beyond, good, tooLarge, makeModel, zeroModel}
-use Rattle.model.specs.definitions.Mirror.{negatedWhere, mapOutcome}
-use Rattle.model.specs.definitions.Outcomes.{refused, outcome, passing}
+use Rattle.model.specs.definitions.Mirror.{negatedWhere}
+use Rattle.model.specs.definitions.Outcomes.{refused, outcome, passing, mapOutcome}
 use Rattle.model.specs.definitions.Round.{rounded, roundingLoss}
 use Rattle.model.specs.declared.types.Model.{Model}
 

@@ -19,7 +19,8 @@ use Rattle.chebyshev.specs.definitions.Product.{product}
 use Rattle.chebyshev.specs.definitions.Negation.{every, odd, negatedIf, negatedFrom}
 use Rattle.chebyshev.specs.laws.NegationLaws.{Signs, signs-left, signs-right, signs-odd, product-negated, length-negated, take-negated, drop-negated, weight-negated, negated-append-zeros, negated-every, negated-sum, negated-difference, abs-negated}
 use Rattle.model.specs.definitions.Models.{scale, coefficientCount, productSize, terms, makeModel, zeroModel}
-use Rattle.model.specs.definitions.Mirror.{negatedWhere, negated, mirrored, mapOutcome}
+use Rattle.model.specs.definitions.Mirror.{negatedWhere, negated, mirrored}
+use Rattle.model.specs.definitions.Outcomes.{mapOutcome}
 use Rattle.model.specs.definitions.Add.{sumModel, differenceModel, additionPlaces, subtractionPlaces, addition, subtraction}
 use Rattle.model.specs.definitions.Multiply.{productList, productDegree, productLoss, productModel, multiplicationPlaces, multiplication}
 use Rattle.model.specs.definitions.Integrate.{doubleFirst, numerators, halved, alternating, integralList, integralModel, integrationPlaces, integration}

@@ -4,7 +4,7 @@ use mathlib.Core.Bool.{cond}
 use Prim.Native.Nat.{ℕ, _<_}
 use native.Mathlib.Omega.{arith}
 use lib.Dec.{eqb}
-use Rattle.model.specs.definitions.Outcomes.{Outcome, accepted, refused, number, payload, numberOf, verdictNumber, judged, outcomeOf}
+use Rattle.model.specs.definitions.Outcomes.{Outcome, accepted, refused, number, payload, mapOutcome, numberOf, verdictNumber, judged, outcomeOf}
 use Rattle.model.specs.definitions.Evaluate.{boundsOf}
 use Rattle.model.specs.declared.types.ModelOutcome.{ModelOutcome}
 use Rattle.model.specs.declared.types.BoundsOutcome.{BoundsOutcome}
@@ -88,6 +88,11 @@ module _ {A : Type 0} where
     sym (verdict-judged u a) ∙ ap verdictIn e ∙ verdict-judged v b,
     sym (payload-judged u a) ∙ ap payload e ∙ payload-judged v b,
   )
+
+-- a verdict beside a part of some values
+pub judged-mapped : {A B : Type 0} (f : A → B) (v : Verdict) (a : A) → judged v (f a) ≡ mapOutcome f (judged v a)
+judged-mapped f Accepted a = refl
+judged-mapped f (Refused r) a = refl
 
 pub outcomeOf-injective : (r s : ModelOutcome) → outcomeOf r ≡ outcomeOf s → r ≡ s
 outcomeOf-injective r s e =

@@ -7,7 +7,7 @@ use Prim.Native.Nat.{ℕ}
 use native.Mathlib.Omega.{arith}
 use borrow.Author.Tests.{not-false}
 use Rattle.model.specs.definitions.Models.{good, zeroModel, badPlace}
-use Rattle.model.specs.definitions.Outcomes.{accepted, refused, number, payload, outcome, passing, Passed, First, here, later}
+use Rattle.model.specs.definitions.Outcomes.{Outcome, accepted, refused, number, payload, mapOutcome, outcome, passing, Passed, First, here, later}
 use Rattle.model.specs.definitions.Add.{sumModel, differenceModel, addition, subtraction}
 use Rattle.model.specs.definitions.Multiply.{productModel, multiplication}
 use Rattle.model.specs.declared.types.Model.{Model}
@@ -60,10 +60,15 @@ none-first f (later t g) = none-first (f .1) g
 
 -- ---- the same of outcomes
 
-module _ {A : Type 0} where
-  pub refused-not-accepted : {n : ℕ} {a b : A} → refused n a ≡ accepted b → ⊥
-  refused-not-accepted e = let z : _≡_ {A = ℕ} 0 1 = cc e in absurd (omega arith)
+pub refused-not-accepted : {A : Type 0} {n : ℕ} {a b : A} → refused n a ≡ accepted b → ⊥
+refused-not-accepted e = let z : _≡_ {A = ℕ} 0 1 = cc e in absurd (omega arith)
 
+-- where a part of the values is accepted, they were
+pub mapped-accepted : {A B : Type 0} (f : A → B) (o : Outcome A) {b : B} → mapOutcome f o ≡ accepted b → (a : A) × ((o ≡ accepted a) × (f a ≡ b))
+mapped-accepted f (accepted a) e = (a, (refl, ap payload e))
+mapped-accepted f (refused n a) e = absurd (refused-not-accepted e)
+
+module _ {A : Type 0} where
   pub outcome-behind : (ps qs : List (Bool × ℕ)) (a z : A) → Passed ps → outcome (ps ++ qs) a z ≡ outcome qs a z
   outcome-behind ps qs a z h = passing-behind ps qs (accepted a) (λ n. refused n z) h
 

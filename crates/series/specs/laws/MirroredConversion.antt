@@ -15,9 +15,9 @@ use Rattle.integer.specs.definitions.Rounding.{upℕ}
 use Rattle.chebyshev.specs.definitions.Coefficients.{addLists, scaleList}
 use Rattle.chebyshev.specs.definitions.Negation.{every, odd, negatedIf, negatedFrom}
 use Rattle.chebyshev.specs.laws.NegationLaws.{negated-zero, negated-left, take-negated, negated-append-zeros, negated-sum, odd-twice}
-use Rattle.model.specs.definitions.Mirror.{negatedWhere, negated, mirrored, mapOutcome}
+use Rattle.model.specs.definitions.Mirror.{negatedWhere, negated, mirrored}
 use Rattle.model.specs.definitions.Models.{maxDegree, coefficientCount, makeModel, zeroModel}
-use Rattle.model.specs.definitions.Outcomes.{refused}
+use Rattle.model.specs.definitions.Outcomes.{refused, mapOutcome}
 use Rattle.model.specs.definitions.Round.{rounded, roundingLoss}
 use Rattle.model.specs.laws.MirrorLaws.{rounded-negated, roundingLoss-negated, good-negated, tooLarge-negated, zero-negated, outcome-mapped}
 use Rattle.series.specs.definitions.Convert.{seriesTerms, goodSeries, expandedFrom, expanded, seriesModel, conversionPlaces, conversion}

@@ -26,7 +26,7 @@ returns-2 : tie.Need-returns-2
 returns-2 c =
     let a = c .before .before .before .before .args in (
       c .before .test-in .ensures .0 ∙ sym (quotient-room (length (a .scratch .now)) (a .f) (a .g) (candidateModel (a .h)) (candidateModel (a .w)) (omega arith)),
-      scratch-after (a .scratch .now) (omega arith) (c .before .test-in .ensures .1) (c .before .test-in .kept .0),
+      scratch-after (a .scratch .now) (omega arith) (c .before .test-in .ensures .1),
     )
 
 pub quotient-spec : {M : Type 1} → statement M

@@ -27,7 +27,7 @@ returns-2 c =
     let r = c .before .numbers-in in
     let a = c .before .before .before .before .args in (
       r .ensures .0 ∙ sym (numbers-room (length (a .scratch .now)) (a .f) (candidateModel (a .h)) (candidateModel (a .w)) (omega arith)),
-      scratch-after (a .scratch .now) (omega arith) (r .ensures .1) (r .kept .0),
+      scratch-after (a .scratch .now) (omega arith) (r .ensures .1),
     )
 
 pub root-numbers-spec : {M : Type 1} → statement M

@@ -1,0 +1,3 @@
+pub mod Proposal
+pub mod Select
+pub mod Promise

@@ -1,0 +1,4 @@
+pub mod ProposalLaws
+pub mod SelectLaws
+pub mod SelectSound
+pub mod Examples

@@ -1,0 +1,79 @@
+-- One proposal: where it is short, where it passes, and what a test that passes says of its coefficients.
+use mathlib.Core.Path.{_≡_, refl, sym, _∙_, ap}
+use mathlib.Core.Bool.{Bool, true, false}
+use mathlib.Core.List.{List}
+use Prim.Native.Nat.{ℕ, _≤_, _<_}
+use native.Mathlib.Omega.{arith}
+use borrow.Author.Tests.{ltb-true, ltb-false, le-ltb, lt-ltb}
+use lib.Dec.{ltb}
+use lib.IntN.{ℤ}
+use lib.ListN.{length, take, drop}
+use Rattle.model.specs.definitions.Models.{candidateModel, makeModel, zeroModel}
+use Rattle.model.specs.definitions.Area.{candidateSize, areaCandidate}
+use Rattle.model.specs.laws.AreaLaws.{candidate-front}
+use Rattle.model.specs.definitions.Outcomes.{accepted, refused, mapOutcome, judged}
+use Rattle.model.specs.laws.PlaceLaws.{refused-not-accepted}
+use Rattle.model.specs.laws.OutcomeLaws.{judged-mapped}
+use Rattle.model.specs.definitions.Allowed.{position, AllowsAt}
+use Rattle.model.specs.declared.types.Model.{Model}
+use Rattle.model.specs.declared.types.Candidate.{Candidate}
+use Rattle.certificate.specs.definitions.Tests.{Certificate, zeroCertificate, testOf}
+use Rattle.certificate.specs.declared.types.TestOutcome.{TestOutcome}
+use Rattle.certificate.specs.definitions.Quotient.{quotientTest, quotientModel}
+use Rattle.certificate.specs.laws.QuotientConditions.{quotient-passes}
+use Rattle.certificate.specs.laws.QuotientSound.{quotient-nonzero, quotient-sound}
+use Rattle.selection.specs.definitions.Proposal.{proposalSize, proposedAnswer, proposedHelper, proposalTest, resultRadius, proposalRadius}
+use Rattle.selection.specs.definitions.Promise.{QuotientAllowed}
+
+-- ---- short and long
+
+module _ (len : ℕ) (f g : Model) (s : List ℤ) where
+  pub proposal-short : length s < proposalSize → proposalTest len f g s ≡ refused 1 zeroCertificate
+  unfolding proposalTest
+  proposal-short e = rw (lt-ltb (length s) proposalSize e)
+
+  pub proposal-long : proposalSize ≤ length s → proposalTest len f g s ≡ quotientTest len f g (proposedAnswer s) (proposedHelper s)
+  unfolding proposalTest
+  proposal-long e = rw (le-ltb (length s) proposalSize e)
+
+  pub short-radius : length s < proposalSize → proposalRadius len f g s ≡ refused 1 0
+  unfolding zeroModel
+  short-radius e = ap (mapOutcome resultRadius) (proposal-short e)
+
+  -- the code's candidates are read from two parts of the proposal, and its radius from the test's result
+  pub proposal-read : (h w : Candidate) → proposalSize ≤ length s → h ≡ areaCandidate (take candidateSize s)
+      → w ≡ areaCandidate (take candidateSize (drop candidateSize s)) → (t : TestOutcome) → testOf t ≡ quotientTest len f g h w
+      → judged (t .verdict) (t .model .radius) ≡ proposalRadius len f g s
+  proposal-read h w long eh ew t et =
+      let i = eh ∙ candidate-front candidateSize s (omega arith) in
+      let j = ew ∙ candidate-front candidateSize (drop candidateSize s) (omega arith) in
+      judged-mapped resultRadius (t .verdict) _ ∙ ap (mapOutcome resultRadius) (et ∙ (λ k. quotientTest len f g (i k) (j k)) ∙ sym (proposal-long long))
+
+-- ---- a proposal that passes
+
+module _ (len : ℕ) (f g : Model) (s : List ℤ) {c : Certificate} (passes : proposalTest len f g s ≡ accepted c) where
+  -- it is not short
+  pub passes-long : proposalSize ≤ length s
+  passes-long = go (ltb (length s) proposalSize) refl
+    where
+      go : (t : Bool) → ltb (length s) proposalSize ≡ t → proposalSize ≤ length s
+      go true e = absurd (refused-not-accepted (sym (proposal-short len f g s (ltb-true (length s) proposalSize e)) ∙ passes))
+      go false e = ltb-false (length s) proposalSize e
+
+  test-passes : quotientTest len f g (proposedAnswer s) (proposedHelper s) ≡ accepted c
+  test-passes = sym (proposal-long len f g s passes-long) ∙ passes
+
+  -- the test's result is the proposed h with the radius
+  pub proposal-result : c .model ≡ makeModel (proposedAnswer s .degree) (proposedAnswer s .coefficients) (c .model .radius)
+  unfolding quotientModel
+  proposal-result =
+      let same = quotient-passes len f g (candidateModel (proposedAnswer s)) (candidateModel (proposedHelper s)) test-passes .1 in rw same
+
+  pub proposal-allowed : QuotientAllowed f g (proposedAnswer s .coefficients) (c .model .radius)
+  unfolding position AllowsAt
+  proposal-allowed = record {
+    divisor = λ x v on hv.
+        quotient-nonzero len f g (candidateModel (proposedAnswer s)) (candidateModel (proposedHelper s)) test-passes x on v hv;
+    quotient = λ x u v on hu hv.
+        rw proposal-result at (quotient-sound len f g (candidateModel (proposedAnswer s)) (candidateModel (proposedHelper s)) test-passes x on u v hu hv);
+  }
