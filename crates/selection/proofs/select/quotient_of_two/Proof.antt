@@ -6,7 +6,7 @@ use lib.ListN.{length}
 use denote.Ref.{now}
 use Rattle.certificate.specs.definitions.Tests.{scratchAfter}
 use Rattle.selection.specs.definitions.Select.{selection, selectionOf}
-use Rattle.selection.specs.laws.SelectSound.{selection-allowed, first-long, second-long}
+use Rattle.selection.specs.laws.SelectSound.{selection-allowed, chosen-long}
 use Rattle.selection.specs.declared.types.Selection.{Selection}
 use Rattle.selection.proofs.Selecting.{two-tests, not-zero, none-selected}
 use Rattle.selection.proofs.select.quotient_of_two.Statement.{statement}
@@ -34,14 +34,14 @@ part-result-end c =
     let m = c .before in
     let d = m .before .before in
     let a = d .before .before .before .before .before .before .before .args in
-    let long = first-long (length (now (a .scratch))) (a .f) (a .g) (now (a .first)) (now (a .second)) (sym (same d _ (m .selection .given .1))) refl in omega (arith, long)
+    let long = chosen-long (length (now (a .scratch))) (a .f) (a .g) (now (a .first)) (now (a .second)) (sym (same d _ (m .selection .given .1))) in omega (arith, long)
 
 part-result-end-2 : tie.Need-part-result-end-2
 part-result-end-2 c =
     let m = c .before in
     let d = m .before .before in
     let a = d .before .before .before .before .before .before .before .args in
-    let long = second-long (length (now (a .scratch))) (a .f) (a .g) (now (a .first)) (now (a .second)) (sym (same d _ (m .selection2 .given .1))) refl in omega (arith, long)
+    let long = chosen-long (length (now (a .scratch))) (a .f) (a .g) (now (a .first)) (now (a .second)) (sym (same d _ (m .selection2 .given .1))) in omega (arith, long)
 
 returns : tie.Need-returns
 returns c =
