@@ -1,4 +1,3 @@
-pub mod Draining
-pub mod Formed
+pub mod PairWalks
+pub mod PlaceSums
 pub mod Ranges
-pub mod TwoParts

@@ -1,4 +1,6 @@
 pub mod TwoSumsLaws
+pub mod GroupLaws
+pub mod Compact
 pub mod TestFits
 pub mod OutcomeLaws
 pub mod Stages

@@ -10,6 +10,7 @@ pub mod NeighbourLaws
 pub mod ProductWeight
 pub mod ProductEnd
 pub mod ProductSums
+pub mod PairSumLaws
 pub mod NegationLaws
 pub mod NegationValues
 pub mod DerivativeLaws

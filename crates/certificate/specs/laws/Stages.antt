@@ -58,6 +58,13 @@ module _ (s : List ℤ) where
           ap length (scratch-cleared s room) ∙ length-append (zeros scratchSize) (drop scratchSize s)
           ∙ omega (arith, room, length-zeros scratchSize, length-drop scratchSize s)
 
+  -- whatever a call has left in its numbers Z
+  pub scratch-again : (Z : List ℤ) → scratchSize ≤ length s → length Z ≡ scratchSize → scratchAfter (Z ++ drop scratchSize s) ≡ scratchAfter s
+  scratch-again Z room e =
+      scratch-cleared (Z ++ drop scratchSize s) (omega (arith, length-append Z (drop scratchSize s)))
+      ∙ ap (λ (l : List ℤ). zeros scratchSize ++ l) (drop-at Z (drop scratchSize s) scratchSize e)
+      ∙ sym (scratch-cleared s room)
+
   -- a second call finds it cleared
   pub scratch-twice : scratchAfter (scratchAfter s) ≡ scratchAfter s
   scratch-twice = go (ltb (length s) scratchSize) refl
@@ -66,10 +73,7 @@ module _ (s : List ℤ) where
       go true e = ap scratchAfter (scratch-short s (ltb-true (length s) scratchSize e))
       go false e =
           let room = ltb-false (length s) scratchSize e in
-          scratch-cleared (scratchAfter s) (omega (arith, room, scratch-length))
-          ∙ ap (λ (l : List ℤ). zeros scratchSize ++ drop scratchSize l) (scratch-cleared s room)
-          ∙ ap (λ (l : List ℤ). zeros scratchSize ++ l) (drop-at (zeros scratchSize) (drop scratchSize s) scratchSize (length-zeros scratchSize))
-          ∙ sym (scratch-cleared s room)
+          ap scratchAfter (scratch-cleared s room) ∙ scratch-again (zeros scratchSize) room (length-zeros scratchSize)
 
 -- ---- a scratch that is long enough plays no further part
 

@@ -29,7 +29,7 @@ at-tabulate zero f k h = absurd (omega arith)
 at-tabulate (suc n) f zero h = refl
 at-tabulate (suc n) f (suc k) h = at-tabulate n (λ k. f (suc k)) k (omega arith)
 
-product-two-sums-list : (a b : List ℤ) → product ℤ-ring productSize a b ≡ twoSumsList a b
+pub product-two-sums-list : (a b : List ℤ) → product ℤ-ring productSize a b ≡ twoSumsList a b
 unfolding twoSumsList
 product-two-sums-list a b =
     let place : ℕ → ℤ = λ k. twoSums ℤ-ring k a b in

@@ -56,6 +56,10 @@ areasFit w s = leb workSize (length w) && leb scratchSize (length s)
 unfoldable pub checkOutcome : List ℕ → List ℤ → List ℤ → JobOutcome (List Model)
 checkOutcome job w s = cond (areasFit w s) (jobOutcome job) (refused 1 0)
 
+-- the same where the scratch had to have `need` numbers; before S-17 it was 65
+unfoldable pub checkNeeding : ℕ → List ℕ → List ℤ → List ℤ → JobOutcome (List Model)
+checkNeeding need job w s = cond (leb workSize (length w) && leb need (length s)) (jobOutcome job) (refused 1 0)
+
 abbrev pub resultsIn : JobOutcome (List Model) → List Model
 resultsIn (accepted rs) = rs
 resultsIn (refused n k) = []
@@ -65,6 +69,6 @@ resultsIn (refused n k) = []
 unfoldable pub workAfter : List ℕ → List ℤ → List ℤ → List ℤ
 workAfter job w s = cond (areasFit w s) (workWith (resultsIn (jobOutcome job)) ++ drop workSize w) w
 
--- the scratch after a job: its 65 numbers are zero unless an area was too short
+-- the scratch after a job: its 16 numbers are zero unless an area was too short
 unfoldable pub scratchAfterJob : List ℤ → List ℤ → List ℤ
 scratchAfterJob w s = cond (areasFit w s) (zeros scratchSize ++ drop scratchSize s) s

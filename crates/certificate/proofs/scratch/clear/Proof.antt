@@ -1,12 +1,12 @@
--- `residual::clear` meets its contract.
+-- `scratch::clear` meets its contract.
 use borrow.Author.Needs.{needs}
 use mathlib.Core.Path.{refl}
 use Prim.Native.Nat.{_-_}
 use native.Mathlib.Omega.{arith}
 use lib.ListN.{length}
 use Rattle.integer.specs.laws.Clearing.{Clearing, clearing-begins, clearing-turn, clearing-ends}
-use Rattle.certificate.proofs.residual.clear.Statement.{statement}
-use Rattle.certificate.proofs.residual.clear.Tie as tie
+use Rattle.certificate.proofs.scratch.clear.Statement.{statement}
+use Rattle.certificate.proofs.scratch.clear.Tie as tie
 
 abbrev Inv-loop : tie.InvT-loop
 Inv-loop part₀ i₀ part i = Clearing (length part₀) part₀ part i

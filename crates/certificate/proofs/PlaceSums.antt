@@ -1,0 +1,82 @@
+-- Where the sums of a place begin, a place by its three walks, and a group of C by its places.
+use mathlib.Core.Path.{_≡_, sym, _∙_, ap}
+use mathlib.Core.List.{List}
+use Prim.Native.Nat.{ℕ, zero, suc, _+_, _-_, _≤_, _<_}
+use native.Mathlib.Omega.{arith}
+use native.Mathlib.Nat.{le-refl}
+use lib.IntN.{ℤ, pos, _+ℤ_, _*ℤ_, +ℤ-idl}
+use lib.ListN.{length, getD, drop, length-drop}
+use lib.Seq.{length-take-le, getD-take, getD-drop}
+use Rattle.integer.specs.definitions.Integer.{ℤ-ring}
+use Rattle.chebyshev.specs.definitions.PairSums.{fallingSum, risingSum}
+use Rattle.chebyshev.specs.laws.PairSumLaws.{falling-skip, falling-step, falling-end, two-sums-zero, two-sums-suc}
+use Rattle.chebyshev.specs.definitions.Product.{product}
+use Rattle.chebyshev.specs.laws.ProductLaws.{length-product}
+use Rattle.chebyshev.specs.definitions.TwoSums.{twoSums}
+use Rattle.chebyshev.specs.laws.ProductSums.{product-two-sums}
+use Rattle.model.specs.definitions.Models.{productSize}
+use Rattle.certificate.specs.definitions.Groups.{group}
+
+module _ (a b : List ℤ) where
+  -- ---- where the sums begin
+
+  pub from-zero : (t : ℕ) → pos 0 +ℤ fallingSum ℤ-ring (t - 0) (drop 0 a) b ≡ fallingSum ℤ-ring t a b
+  from-zero t = let e : t - 0 ≡ t = omega arith in rw e (+ℤ-idl (fallingSum ℤ-ring t a b))
+
+  -- the pairs before place `from` of a meet no element of b
+  skipped : (t from n : ℕ) → t ≡ n + from → length b ≤ n → fallingSum ℤ-ring t a b ≡ fallingSum ℤ-ring n (drop from a) b
+  skipped t from n e h = rw e (falling-skip ℤ-ring from n a b h)
+
+  module _ (k from : ℕ) (meet : from + length b ≡ k + 1) where
+    -- the first pair of the first place, with the last element of b
+    pub first-from : 0 < length b → from < length a → (pair : ℤ) → pair ≡ pos 0 +ℤ getD a from (pos 0) *ℤ getD b (length b - 1) (pos 0)
+        → pair +ℤ fallingSum ℤ-ring (k + 1 - (from + 1)) (drop (from + 1) a) b ≡ fallingSum ℤ-ring (k + 1) a b
+    first-from h l pair e =
+        let n : k + 1 - (from + 1) ≡ length b - 1 = omega arith in
+        let m : length b ≡ suc (length b - 1) = omega arith in
+        rw n (ap (λ z. z +ℤ fallingSum ℤ-ring (length b - 1) (drop (from + 1) a) b) (e ∙ +ℤ-idl (getD a from (pos 0) *ℤ getD b (length b - 1) (pos 0))))
+        ∙ sym (skipped (k + 1) from (length b) (omega arith) (le-refl (length b))
+        ∙ ap (λ (t : ℕ). fallingSum ℤ-ring t (drop from a) b) m ∙ falling-step ℤ-ring (length b - 1) a b from l)
+
+    pub second-from : fallingSum ℤ-ring (k + 2 - (from + 1)) (drop (from + 1) a) b ≡ fallingSum ℤ-ring (k + 2) a b
+    second-from =
+        let n : k + 2 - (from + 1) ≡ length b = omega arith in
+        rw n (sym (skipped (k + 2) (from + 1) (length b) (omega arith) (le-refl (length b))))
+
+    pub none-from : length a ≤ from → (pos 0 ≡ fallingSum ℤ-ring (k + 1) a b) × (pos 0 ≡ fallingSum ℤ-ring (k + 2) a b)
+    none-from h = (
+      sym (skipped (k + 1) from (length b) (omega arith) (le-refl (length b)) ∙ falling-end ℤ-ring (length b) a b from h),
+      sym (skipped (k + 2) (from + 1) (length b) (omega arith) (le-refl (length b)) ∙ falling-end ℤ-ring (length b) a b (from + 1) (omega arith)),
+    )
+
+  -- ---- a place by its three walks
+
+  pub place-zero : (k : ℕ) → k ≡ 0 → (x y : ℤ) → x ≡ fallingSum ℤ-ring (k + 1) a b → y ≡ x +ℤ risingSum ℤ-ring k b a → y ≡ twoSums ℤ-ring k a b
+  place-zero zero h x y e f = f ∙ ap (λ z. z +ℤ risingSum ℤ-ring 0 b a) e ∙ sym (two-sums-zero ℤ-ring a b)
+  place-zero (suc k) h x y e f = absurd (omega arith)
+
+  pub place-positive : (k : ℕ) → 0 < k → (x y z : ℤ) → x ≡ fallingSum ℤ-ring (k + 1) a b → y ≡ x +ℤ risingSum ℤ-ring k b a
+      → z ≡ y +ℤ risingSum ℤ-ring k a b → z ≡ twoSums ℤ-ring k a b
+  place-positive zero h x y z e f g = absurd (omega arith)
+  place-positive (suc k) h x y z e f g =
+      let m : suc k + 1 ≡ suc (suc k) = omega arith in
+      g
+      ∙ ap (λ v. v +ℤ risingSum ℤ-ring (suc k) a b) (f ∙ ap (λ v. v +ℤ risingSum ℤ-ring (suc k) b a) (e ∙ ap (λ (t : ℕ). fallingSum ℤ-ring t a b) m))
+      ∙ sym (two-sums-suc ℤ-ring k a b)
+
+  -- ---- a group of C
+
+  module _ (n start : ℕ) (h : start + n ≤ productSize) where
+    abbrev pub G : List ℤ
+    G = group n start (product ℤ-ring productSize a b)
+
+    pub length-group : length G ≡ n
+    length-group =
+        let c = product ℤ-ring productSize a b in
+        length-take-le n (drop start c) (omega (arith, length-drop start c, length-product ℤ-ring productSize a b))
+
+    pub at-group : (t k : ℕ) → t < n → k ≡ start + t → twoSums ℤ-ring k a b ≡ getD G t (pos 0)
+    at-group t k l e =
+        let c = product ℤ-ring productSize a b in
+        ap (λ (m : ℕ). twoSums ℤ-ring m a b) e
+        ∙ sym (getD-take n (drop start c) t (pos 0) l ∙ getD-drop start c t (pos 0) ∙ product-two-sums ℤ-ring productSize a b (start + t) (omega arith))
