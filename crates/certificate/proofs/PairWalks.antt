@@ -26,7 +26,7 @@ done : (s l T : ℤ) → s +ℤ l ≡ T → l ≡ pos 0 → s ≡ T
 done s l T e f = sym (+ℤ-idr s) ∙ ap (λ z. s +ℤ z) (sym f) ∙ e
 
 -- a place that has no pair
-no-pair : (x s s' : ℤ) → s' ≡ s +ℤ x *ℤ pos 0 → s' ≡ s
+pub no-pair : (x s s' : ℤ) → s' ≡ s +ℤ x *ℤ pos 0 → s' ≡ s
 no-pair x s s' e = e ∙ ap (λ z. s +ℤ z) (mul-zero ℤ-ring x) ∙ +ℤ-idr s
 
 part-small : (s l T : ℤ) → s +ℤ l ≡ T → natAbs s ≤ natAbs T + natAbs l
@@ -61,8 +61,10 @@ module _ (a b : List ℤ) where
   module _ {k from : ℕ} {start total : TwoPlaces} {i : ℕ} (w : Falling k from start total i) where
     pub falling-below : Below (2 ^ 61) start → weight a * weight b ≤ 2 ^ 56 → Below (2 ^ 62) total
     falling-below h small = (
-      begun-small _ _ _ _ (weight a * weight b) (w .first) (falling-left (k + 1 - from) from) (falling-left (k + 1 - i) i) small (h .0),
-      begun-small _ _ _ _ (weight a * weight b) (w .second) (falling-left (k + 2 - from) from) (falling-left (k + 2 - i) i) small (h .1),
+      begun-small (start .first) (total .first) (fallingSum ℤ-ring (k + 1 - from) (drop from a) b) (fallingSum ℤ-ring (k + 1 - i) (drop i a) b)
+          (weight a * weight b) (w .first) (falling-left (k + 1 - from) from) (falling-left (k + 1 - i) i) small (h .0),
+      begun-small (start .second) (total .second) (fallingSum ℤ-ring (k + 2 - from) (drop from a) b) (fallingSum ℤ-ring (k + 2 - i) (drop i a) b)
+          (weight a * weight b) (w .second) (falling-left (k + 2 - from) from) (falling-left (k + 2 - i) i) small (h .1),
     )
 
     step-of : (t n : ℕ) → t ≡ suc n → i < length a
@@ -73,12 +75,13 @@ module _ (a b : List ℤ) where
         → Are next (total .first +ℤ getD a i (pos 0) *ℤ getD b (k - i) (pos 0)) (total .second +ℤ getD a i (pos 0) *ℤ getD b (k + 1 - i) (pos 0))
         → Falling k from start next (i + 1)
     falling-turn next h l p =
+        let x = getD a i (pos 0) in
         let e : k + 1 - (i + 1) ≡ k - i = omega arith in
         let f : k + 2 - (i + 1) ≡ k + 1 - i = omega arith in record {
           reach = omega arith;
           inside = omega (arith, w .inside);
-          first = rw e (step _ _ _ _ _ _ (w .first) (step-of (k + 1 - i) (k - i) (omega arith) h) (p .0));
-          second = rw f (step _ _ _ _ _ _ (w .second) (step-of (k + 2 - i) (k + 1 - i) (omega arith) h) (p .1));
+          first = rw e (step (total .first) (x *ℤ getD b (k - i) (pos 0)) _ _ _ _ (w .first) (step-of (k + 1 - i) (k - i) (omega arith) h) (p .0));
+          second = rw f (step (total .second) (x *ℤ getD b (k + 1 - i) (pos 0)) _ _ _ _ (w .second) (step-of (k + 2 - i) (k + 1 - i) (omega arith) h) (p .1));
         }
 
     pub falling-ends : length a ≤ i → FallingFrom k from start total
@@ -94,8 +97,8 @@ module _ (a b : List ℤ) where
     falling-last next h l p =
         let n : k + 1 ≡ i = omega (arith, w .reach) in
         let e : k + 1 - i ≡ 0 = omega arith in (
-          no-pair _ _ _ (p .0) ∙ done _ _ _ (w .first) (ap (λ (t : ℕ). fallingSum ℤ-ring t (drop i a) b) e ∙ falling-zero ℤ-ring (drop i a) b),
-          done _ _ _ (step _ _ _ _ _ _ (w .second) (step-of (k + 2 - i) 0 (omega arith) (omega arith)) (rw n at (p .1))) (falling-zero ℤ-ring (drop (i + 1) a) b),
+          no-pair (getD a (k + 1) (pos 0)) (total .first) (next .first) (p .0) ∙ done (total .first) _ _ (w .first) (ap (λ (t : ℕ). fallingSum ℤ-ring t (drop i a) b) e ∙ falling-zero ℤ-ring (drop i a) b),
+          done (next .second) _ _ (step (total .second) (getD a i (pos 0) *ℤ getD b 0 (pos 0)) _ _ _ _ (w .second) (step-of (k + 2 - i) 0 (omega arith) (omega arith)) (rw n at (p .1))) (falling-zero ℤ-ring (drop (i + 1) a) b),
         )
 
   -- ---- Σ a_i·b_(i+k) and Σ a_i·b_(i+k+1)
@@ -114,8 +117,10 @@ module _ (a b : List ℤ) where
   module _ {k : ℕ} {start total : TwoPlaces} {i : ℕ} (w : Rising k start total i) where
     pub rising-below : Below (2 ^ 61) start → weight a * weight b ≤ 2 ^ 56 → Below (2 ^ 62) total
     rising-below h small = (
-      begun-small _ _ _ _ (weight a * weight b) (w .first) (rising-left k 0) (rising-left (k + i) i) small (h .0),
-      begun-small _ _ _ _ (weight a * weight b) (w .second) (rising-left (k + 1) 0) (rising-left (k + i + 1) i) small (h .1),
+      begun-small (start .first) (total .first) (risingSum ℤ-ring k a b) (risingSum ℤ-ring (k + i) (drop i a) b)
+          (weight a * weight b) (w .first) (rising-left k 0) (rising-left (k + i) i) small (h .0),
+      begun-small (start .second) (total .second) (risingSum ℤ-ring (k + 1) a b) (risingSum ℤ-ring (k + i + 1) (drop i a) b)
+          (weight a * weight b) (w .second) (rising-left (k + 1) 0) (rising-left (k + i + 1) i) small (h .1),
     )
 
     next-of : (t n : ℕ) → n ≡ suc t → i < length a
@@ -125,10 +130,10 @@ module _ (a b : List ℤ) where
     pub rising-turn : (next : TwoPlaces) → i < length a → k + i + 1 < length b
         → Are next (total .first +ℤ getD a i (pos 0) *ℤ getD b (k + i) (pos 0)) (total .second +ℤ getD a i (pos 0) *ℤ getD b (k + i + 1) (pos 0))
         → Rising k start next (i + 1)
-    rising-turn next h l p = record {
+    rising-turn next h l p = let x = getD a i (pos 0) in record {
       inside = omega arith;
-      first = step _ _ _ _ _ _ (w .first) (next-of (k + i) (k + (i + 1)) (omega arith) h) (p .0);
-      second = step _ _ _ _ _ _ (w .second) (next-of (k + i + 1) (k + (i + 1) + 1) (omega arith) h) (p .1);
+      first = step (total .first) (x *ℤ getD b (k + i) (pos 0)) _ _ _ _ (w .first) (next-of (k + i) (k + (i + 1)) (omega arith) h) (p .0);
+      second = step (total .second) (x *ℤ getD b (k + i + 1) (pos 0)) _ _ _ _ (w .second) (next-of (k + i + 1) (k + (i + 1) + 1) (omega arith) h) (p .1);
     }
 
     pub rising-ends : length a ≤ i → RisingFrom k start total
@@ -137,14 +142,19 @@ module _ (a b : List ℤ) where
       done _ _ _ (w .second) (rising-end ℤ-ring (k + i + 1) a b i h),
     )
 
-    -- the last pair of the first place
-    pub rising-last : (next : TwoPlaces) → length b ≤ k + i + 1 → i < length a
-        → Are next (total .first +ℤ getD a i (pos 0) *ℤ getD b (k + i) (pos 0)) (total .second +ℤ getD a i (pos 0) *ℤ pos 0)
+    -- the last pair of the first place, where the loop stopped at e
+    pub rising-last : (next : TwoPlaces) (e : ℕ) → e ≡ i → length b ≤ k + e + 1 → e < length a
+        → Are next (total .first +ℤ getD a e (pos 0) *ℤ getD b (k + e) (pos 0)) (total .second +ℤ getD a e (pos 0) *ℤ pos 0)
         → RisingFrom k start next
-    rising-last next h l p = (
-      done _ _ _ (step _ _ _ _ _ _ (w .first) (next-of (k + i) (k + i + 1) (omega arith) l) (p .0)) (rising-beyond ℤ-ring (k + i + 1) (drop (i + 1) a) b h),
-      no-pair _ _ _ (p .1) ∙ done _ _ _ (w .second) (rising-beyond ℤ-ring (k + i + 1) (drop i a) b h),
-    )
+    rising-last next e q h l p =
+        let x = getD a i (pos 0) in
+        let beyond : length b ≤ k + i + 1 = omega arith in
+        let first : next .first ≡ total .first +ℤ x *ℤ getD b (k + i) (pos 0) = rw q at (p .0) in
+        let second : next .second ≡ total .second +ℤ x *ℤ pos 0 = rw q at (p .1) in (
+          done (next .first) _ _ (step (total .first) (x *ℤ getD b (k + i) (pos 0)) _ _ _ _ (w .first) (next-of (k + i) (k + i + 1) (omega arith) (omega arith)) first)
+              (rising-beyond ℤ-ring (k + i + 1) (drop (i + 1) a) b beyond),
+          no-pair x (total .second) (next .second) second ∙ done (total .second) _ _ (w .second) (rising-beyond ℤ-ring (k + i + 1) (drop i a) b beyond),
+        )
 
   -- b ends before place k
   pub rising-none : (k : ℕ) (start : TwoPlaces) → length b ≤ k → RisingFrom k start start

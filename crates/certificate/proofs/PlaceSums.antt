@@ -16,6 +16,7 @@ use Rattle.chebyshev.specs.definitions.TwoSums.{twoSums}
 use Rattle.chebyshev.specs.laws.ProductSums.{product-two-sums}
 use Rattle.model.specs.definitions.Models.{productSize}
 use Rattle.certificate.specs.definitions.Groups.{group}
+use Rattle.certificate.proofs.PairWalks.{no-pair}
 
 module _ (a b : List ℤ) where
   -- ---- where the sums begin
@@ -38,10 +39,13 @@ module _ (a b : List ℤ) where
         ∙ sym (skipped (k + 1) from (length b) (omega arith) (le-refl (length b))
         ∙ ap (λ (t : ℕ). fallingSum ℤ-ring t (drop from a) b) m ∙ falling-step ℤ-ring (length b - 1) a b from l)
 
-    pub second-from : fallingSum ℤ-ring (k + 2 - (from + 1)) (drop (from + 1) a) b ≡ fallingSum ℤ-ring (k + 2) a b
-    second-from =
+    -- no pair of the second place yet
+    pub second-from : (x none : ℤ) → none ≡ pos 0 +ℤ x *ℤ pos 0
+        → none +ℤ fallingSum ℤ-ring (k + 2 - (from + 1)) (drop (from + 1) a) b ≡ fallingSum ℤ-ring (k + 2) a b
+    second-from x none e =
         let n : k + 2 - (from + 1) ≡ length b = omega arith in
-        rw n (sym (skipped (k + 2) (from + 1) (length b) (omega arith) (le-refl (length b))))
+        rw (no-pair x (pos 0) none e, n) (+ℤ-idl (fallingSum ℤ-ring (length b) (drop (from + 1) a) b))
+        ∙ sym (skipped (k + 2) (from + 1) (length b) (omega arith) (le-refl (length b)))
 
     pub none-from : length a ≤ from → (pos 0 ≡ fallingSum ℤ-ring (k + 1) a b) × (pos 0 ≡ fallingSum ℤ-ring (k + 2) a b)
     none-from h = (

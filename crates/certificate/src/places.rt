@@ -136,10 +136,12 @@ pub(crate) fn form(part: &mut [i64], start: usize, a: &[i32], b: &[i32])
     let mut t = 0;
     while t < part.len() {
         let two = two_places(a, b, start + t);
-        part[t] = two.first;
+        let first = two.first;
+        part[t] = first;
         t += 1;
         if t < part.len() {
-            part[t] = two.second;
+            let second = two.second;
+            part[t] = second;
             t += 1;
         }
     }

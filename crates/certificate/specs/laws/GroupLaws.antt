@@ -3,6 +3,7 @@ use mathlib.Core.Path.{_≡_, refl, sym, _∙_, ap, ap₂}
 use mathlib.Core.List.{List, [], _∷_}
 use Prim.Native.Nat.{ℕ, zero, suc, _+_, _*_, _-_, _≤_, _<_, min, max}
 use native.Mathlib.Omega.{arith}
+use native.Mathlib.Nat.{zero-add, suc-add}
 use lib.IntN.{ℤ}
 use lib.ListN.{length, take, drop, drop-of-length-le}
 use lib.Seq.{drop-drop}
@@ -28,9 +29,9 @@ take-tabulate (suc n) (suc m) f = let e : min (suc n) (suc m) ≡ suc (min n m) 
 
 drop-tabulate : (s m : ℕ) (f : ℕ → ℤ) → drop s (tabulate m f) ≡ tabulate (m - s) (λ k. f (s + k))
 unfolding tabulate
-drop-tabulate zero m f = let e : m - 0 ≡ m = omega arith in rw (e, zero-add)
+drop-tabulate zero m f = let e : m - 0 ≡ m = omega arith in rw e (ap (tabulate m) (λ i k. f (sym (zero-add k) i)))
 drop-tabulate (suc s) zero f = let e : 0 - suc s ≡ 0 = omega arith in rw e
-drop-tabulate (suc s) (suc m) f = let e : suc m - suc s ≡ m - s = omega arith in rw (e, suc-add) (drop-tabulate s m (λ k. f (suc k)))
+drop-tabulate (suc s) (suc m) f = let e : suc m - suc s ≡ m - s = omega arith in rw e (drop-tabulate s m (λ k. f (suc k)) ∙ ap (tabulate (m - s)) (λ i k. f (sym (suc-add s k) i)))
 
 product-group : (n s : ℕ) (a b : List ℤ) → productGroup n s a b ≡ group n s (product ℤ-ring productSize a b)
 unfolding productGroup twoSumsList

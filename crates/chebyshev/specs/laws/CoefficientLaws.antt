@@ -141,6 +141,18 @@ module _ (R : CommutativeRing) where
 
   -- ---- parts
 
+  -- where b is the shorter list, the sum changes only the places of b
+  pub add-split : (a b : List A) → length b ≤ length a → addLists R a b ≡ addLists R (take (length b) a) b ++ drop (length b) a
+  unfolding addLists
+  add-split [] [] h = refl
+  add-split [] (y ∷ b) h = absurd (omega arith)
+  add-split (x ∷ a) [] h = refl
+  add-split (x ∷ a) (y ∷ b) h = ap (λ l. (x ⊕ y) ∷ l) (add-split a b (omega arith))
+
+  pub subtract-split : (a b : List A) → length b ≤ length a → subtractLists R a b ≡ subtractLists R (take (length b) a) b ++ drop (length b) a
+  unfolding subtractLists
+  subtract-split a b h = rw length-map at (add-split a (map ⊖_ b) (rw length-map h))
+
   take-add : (n : ℕ) (a b : List A) → take n (addLists R a b) ≡ addLists R (take n a) (take n b)
   unfolding addLists
   take-add zero a b = refl

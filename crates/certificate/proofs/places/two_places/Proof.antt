@@ -1,114 +1,86 @@
+-- `places::two_places` meets its contract: each place by its three walks.
 use borrow.Author.Needs.{needs}
-use mathlib.Core.Path.{_≡_, refl, sym, _∙_, ap}
+use mathlib.Core.Path.{_≡_, _∙_, ap}
 use mathlib.Core.List.{List}
-use Prim.Native.Nat.{ℕ, suc, _+_, _-_, _*_, _≤_, _<_, _^_}
+use Prim.Native.Nat.{ℕ, _+_, _*_, _^_, _≤_}
 use native.Mathlib.Omega.{arith}
-use lib.IntN.{ℤ, pos, natAbs, _+ℤ_}
-use lib.ListN.{length}
+use lib.IntN.{ℤ, natAbs, _+ℤ_}
 use mir.Syntax.{w64}
 use mir.Val.{SFits}
 use mir.Facts.{toZ-ofZ}
 use Rattle.integer.specs.definitions.Integer.{ℤ-ring}
+use Rattle.integer.specs.laws.Parts.{abs-add}
 use Rattle.chebyshev.specs.definitions.Coefficients.{weight}
-use Rattle.chebyshev.specs.ProductPlaces.{back, ahead, placeOf, falling-small}
-use Rattle.certificate.proofs.PairWalks.{rising-within, place-zero, place-next, place-positive}
+use Rattle.chebyshev.specs.definitions.PairSums.{fallingSum, risingSum}
+use Rattle.chebyshev.specs.laws.PairSumLaws.{falling-small, rising-small}
+use Rattle.chebyshev.specs.definitions.TwoSums.{twoSums}
+use Rattle.certificate.specs.definitions.InnerContracts.{Below}
+use Rattle.certificate.proofs.PlaceSums.{place-zero, place-positive}
 use Rattle.certificate.proofs.places.two_places.Statement.{statement}
 use Rattle.certificate.proofs.places.two_places.Tie as tie
 
--- the sums
-module _ (c : tie.After-sums) where
-  abbrev s : tie.Start
-  s = c .before
-
+module _ (c : tie.After-falling) where
   abbrev a : List ℤ
-  a = s .args .a .now
+  a = c .before .args .a .now
 
   abbrev b : List ℤ
-  b = s .args .b .now
+  b = c .before .args .b .now
 
   abbrev k : ℕ
-  k = s .args .k
+  k = c .before .args .k
 
-  fits-first : SFits w64 (c .sums .result .first)
-  fits-first = search needs
+  swapped : weight b * weight a ≤ 2 ^ 56
+  swapped = omega (arith, c .before .pre .2)
 
-  fits-second : SFits w64 (c .sums .result .second)
-  fits-second = search needs
-
-  small : (natAbs (c .sums .result .first) ≤ weight a * weight b) × (natAbs (c .sums .result .second) ≤ weight a * weight b)
-  small = (
-    omega (arith, ap natAbs (c .sums .ensures .0), falling-small (k + 1) a b),
-    omega (arith, ap natAbs (c .sums .ensures .1), falling-small (k + 2) a b),
+  x-small : Below (2 ^ 57) (c .falling .result)
+  x-small = (
+    omega (arith, ap natAbs (c .falling .ensures .0), falling-small (k + 1) a b, c .before .pre .2),
+    omega (arith, ap natAbs (c .falling .ensures .1), falling-small (k + 2) a b, c .before .pre .2),
   )
 
-add-differences-requires : tie.Need-add-differences-requires
-add-differences-requires c κs =
-    let d = c .before .before in
-    simp (toZ-ofZ (fits-first d), toZ-ofZ (fits-second d)) (omega (arith, small d, s d .pre .2), omega (arith, small d, s d .pre .2))
+rising-requires : tie.Need-rising-requires
+rising-requires c κs = ((omega (arith, x-small c), omega (arith, x-small c)), swapped c)
 
--- the differences i − j
-module _ (c : tie.After-add-differences) where
-  abbrev d : tie.After-sums
-  d = c .before .before .before
+y-small : (c : tie.After-rising) → Below (2 ^ 61) (c .rising .result)
+y-small c =
+    let x = c .before in
+    let y = c .rising .ensures in (
+      omega (arith, ap natAbs (y .0), abs-add (x .falling .result .first) (risingSum ℤ-ring (k x) (b x) (a x)), rising-small (k x) (b x) (a x), x-small x, swapped x),
+      omega (arith, ap natAbs (y .1), abs-add (x .falling .result .second) (risingSum ℤ-ring (k x + 1) (b x) (a x)), rising-small (k x + 1) (b x) (a x), x-small x, swapped x),
+    )
 
-  fits-first-y : SFits w64 (c .add-differences .result .first)
-  fits-first-y = search needs
+module _ (c : tie.After-rising2) where
+  abbrev y : tie.After-rising
+  y = c .before
 
-  fits-second-y : SFits w64 (c .add-differences .result .second)
-  fits-second-y = search needs
+  abbrev x : tie.After-falling
+  x = y .before
 
-  y-is : (c .add-differences .result .first ≡ d .sums .result .first +ℤ risingSum ℤ-ring (k d) (b d) (a d)) × (c .add-differences .result .second ≡ d .sums .result .second +ℤ risingSum ℤ-ring (k d + 1) (b d) (a d))
-  y-is = simp (toZ-ofZ (fits-first d), toZ-ofZ (fits-second d)) at (c .add-differences .ensures)
-
-  small-y : (natAbs (c .add-differences .result .first) ≤ 2 * (weight (a d) * weight (b d))) × (natAbs (c .add-differences .result .second) ≤ 2 * (weight (a d) * weight (b d)))
-  small-y = (
-    omega (arith, ap natAbs (y-is .0), rising-within (b d) (a d) (d .sums .result .first) (k d), small d),
-    omega (arith, ap natAbs (y-is .1), rising-within (b d) (a d) (d .sums .result .second) (k d + 1), small d),
-  )
-
-add-differences-requires-2 : tie.Need-add-differences-requires-2
-add-differences-requires-2 c κs =
-    let y = c .before .before in
-    simp (toZ-ofZ (fits-first-y y), toZ-ofZ (fits-second-y y)) (omega (arith, small-y y, s (d y) .pre .2), omega (arith, small-y y, s (d y) .pre .2))
-
--- the differences j − i
-module _ (c : tie.After-add-differences2) where
-  abbrev y : tie.After-add-differences
-  y = c .before .before .before
-
-  fits-second-z : SFits w64 (c .add-differences2 .result .second)
-  fits-second-z = search needs
-
-  z-is : (c .add-differences2 .result .first ≡ y .add-differences .result .first +ℤ risingSum ℤ-ring (k (d y)) (a (d y)) (b (d y))) × (c .add-differences2 .result .second ≡ y .add-differences .result .second +ℤ risingSum ℤ-ring (k (d y) + 1) (a (d y)) (b (d y)))
-  z-is = simp (toZ-ofZ (fits-first-y y), toZ-ofZ (fits-second-y y)) at (c .add-differences2 .ensures)
-
-  second-is : c .add-differences2 .result .second ≡ placeOf ℤ-ring (suc (k (d y))) (a (d y)) (b (d y))
+  second-is : c .rising2 .result .second ≡ twoSums ℤ-ring (k x + 1) (a x) (b x)
   second-is =
-      let h = d y in
-      let e : k h + 2 ≡ k h + 1 + 1 = omega arith in
-      place-next (a h) (b h) (k h) (k h + 1) (omega arith) (h .sums .result .second) (y .add-differences .result .second) (c .add-differences2 .result .second)
-      (h .sums .ensures .1 ∙ ap (λ (t : ℕ). fallingSum ℤ-ring t (a h) (b h)) e) (y-is y .1) (z-is .1)
+      let e : k x + 2 ≡ k x + 1 + 1 = omega arith in
+      place-positive (a x) (b x) (k x + 1) (omega arith) (x .falling .result .second) (y .rising .result .second) (c .rising2 .result .second)
+      (x .falling .ensures .1 ∙ ap (λ (t : ℕ). fallingSum ℤ-ring t (a x) (b x)) e) (y .rising .ensures .1) (c .rising2 .ensures .1)
 
 returns : tie.Need-returns
 returns c =
     let z = c .before .before .before in
-    let w = y z in
-    let h = d w in
-    simp (toZ-ofZ (fits-first-y w), toZ-ofZ (fits-second-z z)) (
-      place-zero (a h) (b h) (k h) (omega arith) (h .sums .result .first) (w .add-differences .result .first) (h .sums .ensures .0) (y-is w .0),
+    let first : SFits w64 (y z .rising .result .first) = search needs in
+    let second : SFits w64 (z .rising2 .result .second) = search needs in
+    simp (toZ-ofZ first, toZ-ofZ second) (
+      place-zero (a (x z)) (b (x z)) (k (x z)) (omega arith) (x z .falling .result .first) (y z .rising .result .first) (x z .falling .ensures .0) (y z .rising .ensures .0),
       second-is z,
     )
 
 returns-2 : tie.Need-returns-2
 returns-2 c =
-    let z = c .before in
-    let w = y z in
-    let h = d w in (
-      place-positive (a h) (b h) (k h) (omega arith) (h .sums .result .first) (w .add-differences .result .first) (z .add-differences2 .result .first) (h .sums .ensures .0) (y-is w .0) (z-is z .0),
+    let z = c .before in (
+      place-positive (a (x z)) (b (x z)) (k (x z)) (omega arith) (x z .falling .result .first) (y z .rising .result .first) (z .rising2 .result .first)
+          (x z .falling .ensures .0) (y z .rising .ensures .0) (z .rising2 .ensures .0),
       second-is z,
     )
 
 pub two-places-spec : {M : Type 1} → statement M
 two-places-spec =
     tie.close (tie.spec
-    (λ c κs. search needs) add-differences-requires add-differences-requires-2 returns returns-2)
+    (λ c κs. search needs) rising-requires (λ c κs. (y-small c, c .before .before .pre .2)) returns returns-2)

@@ -6,9 +6,8 @@ use lib.ListN.{length, take}
 use lib.Seq.{length-take-le}
 use Rattle.model.specs.definitions.Models.{candidateModel}
 use Rattle.certificate.specs.definitions.Tests.{scratchSize}
-use Rattle.certificate.specs.laws.Stages.{quotient-room, scratch-short}
+use Rattle.certificate.specs.laws.Stages.{quotient-room, scratch-short, scratch-again}
 use Rattle.certificate.specs.laws.QuotientStages.{quotient-short}
-use Rattle.certificate.proofs.Formed.{scratch-after}
 use Rattle.certificate.proofs.quotient.quotient.Statement.{statement}
 use Rattle.certificate.proofs.quotient.quotient.Tie as tie
 
@@ -24,13 +23,16 @@ first-part c = length-take-le scratchSize (c .before .args .scratch .now) (omega
 
 returns-2 : tie.Need-returns-2
 returns-2 c =
-    let a = c .before .before .before .before .args in (
-      c .before .test-in .ensures .0 ∙ sym (quotient-room (length (a .scratch .now)) (a .f) (a .g) (candidateModel (a .h)) (candidateModel (a .w)) (omega arith)),
-      scratch-after (a .scratch .now) (omega arith) (c .before .test-in .ensures .1),
+    let d = c .before .before .before .before in
+    let e = d .before .before in
+    let a = e .before .args in
+    let z = d .test-in in (
+      z .ensures ∙ sym (quotient-room (length (a .scratch .now)) (a .f) (a .g) (candidateModel (a .h)) (candidateModel (a .w)) (omega arith)),
+      c .before .clear-scratch .ensures ∙ scratch-again (a .scratch .now) (z .last .0) (omega arith) (z .kept .0 ∙ first-part e),
     )
 
 pub quotient-spec : {M : Type 1} → statement M
 quotient-spec =
     tie.close (tie.spec
-    (λ c κs. search needs) returns (λ c. search needs) (λ c. sym (first-part (c .before))) (λ c κs. first-part (c .before))
-    (λ c. search needs) returns-2)
+    (λ c κs. search needs) returns (λ c. search needs) (λ c. sym (first-part (c .before))) (λ c κs. omega (arith, first-part (c .before)))
+    (λ c κs. search needs) (λ c. search needs) returns-2)

@@ -6,9 +6,8 @@ use lib.ListN.{length, take}
 use lib.Seq.{length-take-le}
 use Rattle.model.specs.definitions.Models.{candidateModel}
 use Rattle.certificate.specs.definitions.Tests.{scratchSize}
-use Rattle.certificate.specs.laws.Stages.{scratch-short}
+use Rattle.certificate.specs.laws.Stages.{scratch-short, scratch-again}
 use Rattle.certificate.specs.laws.NumbersStages.{numbers-short, numbers-room}
-use Rattle.certificate.proofs.Formed.{scratch-after}
 use Rattle.certificate.proofs.root.root_numbers.Statement.{statement}
 use Rattle.certificate.proofs.root.root_numbers.Tie as tie
 
@@ -24,13 +23,16 @@ first-part c = length-take-le scratchSize (c .before .args .scratch .now) (omega
 
 returns-2 : tie.Need-returns-2
 returns-2 c =
-    let r = c .before .numbers-in in
-    let a = c .before .before .before .before .args in (
-      r .ensures .0 ∙ sym (numbers-room (length (a .scratch .now)) (a .f) (candidateModel (a .h)) (candidateModel (a .w)) (omega arith)),
-      scratch-after (a .scratch .now) (omega arith) (r .ensures .1),
+    let d = c .before .before .before .before in
+    let e = d .before .before in
+    let a = e .before .args in
+    let z = d .numbers-in in (
+      z .ensures ∙ sym (numbers-room (length (a .scratch .now)) (a .f) (candidateModel (a .h)) (candidateModel (a .w)) (omega arith)),
+      c .before .clear-scratch .ensures ∙ scratch-again (a .scratch .now) (z .last .0) (omega arith) (z .kept .0 ∙ first-part e),
     )
 
 pub root-numbers-spec : {M : Type 1} → statement M
 root-numbers-spec =
     tie.close (tie.spec
-    returns (λ c. search needs) (λ c. sym (first-part (c .before))) (λ c κs. first-part (c .before)) (λ c. search needs) returns-2)
+    returns (λ c. search needs) (λ c. sym (first-part (c .before))) (λ c κs. omega (arith, first-part (c .before)))
+    (λ c κs. search needs) (λ c. search needs) returns-2)

@@ -1,12 +1,13 @@
 -- `scratch::clear_scratch` meets its contract.
 use borrow.Author.Needs.{needs}
-use mathlib.Core.Path.{_≡_, sym}
+use mathlib.Core.Path.{_≡_, sym, _∙_, ap}
+use mathlib.Core.List.{_++_}
 use native.Mathlib.Omega.{arith}
-use lib.ListN.{length, take}
+use lib.ListN.{length, take, drop}
 use lib.Seq.{length-take-le}
+use Rattle.integer.specs.definitions.Lists.{zeros}
 use Rattle.certificate.specs.definitions.Tests.{scratchSize}
-use Rattle.certificate.specs.laws.Stages.{scratch-short}
-use Rattle.certificate.proofs.Formed.{lent-scratch, scratch-after}
+use Rattle.certificate.specs.laws.Stages.{scratch-short, scratch-cleared}
 use Rattle.certificate.proofs.scratch.clear_scratch.Statement.{statement}
 use Rattle.certificate.proofs.scratch.clear_scratch.Tie as tie
 
@@ -20,7 +21,7 @@ returns-2 : tie.Need-returns-2
 returns-2 c =
     let d = c .before .before .before in
     let s = d .before .args .scratch .now in
-    scratch-after s (omega arith) (lent-scratch (take scratchSize s) (first-part d) (c .before .clear .ensures))
+    ap (λ p. p ++ drop scratchSize s) (c .before .clear .ensures ∙ ap zeros (first-part d)) ∙ sym (scratch-cleared s (omega arith))
 
 pub clear-scratch-spec : {M : Type 1} → statement M
 clear-scratch-spec =
