@@ -238,9 +238,8 @@ struct passed {
 
 /* The quotient test; f and g are good.  inline: -O3 puts it into both of its callers. */
 static inline uint32_t judge_quotient(const int32_t *f, const int32_t *g, const int32_t *h,
-                                      const int32_t *w, struct passed *passed)
+                                      const int32_t *w, int64_t *c, struct passed *passed)
 {
-    int64_t c[PRODUCT_SIZE];
     if (!good_candidate(h) || !good_candidate(w))
         return BAD_MODEL;
     int64_t m_weight = model_weight(w), h_weight = model_weight(h), e_g = g[RADIUS];
@@ -267,9 +266,10 @@ static uint32_t test_quotient(const int32_t *f, const int32_t *g, const int32_t 
                               const int32_t *w, int32_t *out, uint64_t *numbers)
 {
     struct passed p;
+    int64_t c[PRODUCT_SIZE];
     if (!good_model(f) || !good_model(g))
         return BAD_MODEL;
-    uint32_t number = judge_quotient(f, g, h, w, &p);
+    uint32_t number = judge_quotient(f, g, h, w, c, &p);
     if (number == 0)
         accept_candidate(h, p.radius, p.m, p.n, p.b, out, numbers);
     return number;
@@ -277,13 +277,14 @@ static uint32_t test_quotient(const int32_t *f, const int32_t *g, const int32_t 
 
 /* The test of one proposal, h and then w; good says whether f and g are. */
 static uint32_t test_proposal(int good, const int32_t *f, const int32_t *g,
-                              const int32_t *proposal, size_t length, struct passed *passed)
+                              const int32_t *proposal, size_t length, int64_t *c,
+                              struct passed *passed)
 {
     if (length < PROPOSAL_SIZE)
         return SHORT_AREA;
     if (!good)
         return BAD_MODEL;
-    return judge_quotient(f, g, proposal, proposal + CANDIDATE_SIZE, passed);
+    return judge_quotient(f, g, proposal, proposal + CANDIDATE_SIZE, c, passed);
 }
 
 /* The tighter of two proposals; answer is zero so far. */
@@ -292,9 +293,10 @@ static uint32_t select_proposal(const int32_t *f, const int32_t *g,
                                 const int32_t *second, size_t second_len, uint32_t *answer)
 {
     struct passed one, two;
+    int64_t c[PRODUCT_SIZE];
     int good = good_model(f) && good_model(g);
-    uint32_t number = test_proposal(good, f, g, first, first_len, &one);
-    uint32_t other = test_proposal(good, f, g, second, second_len, &two);
+    uint32_t number = test_proposal(good, f, g, first, first_len, c, &one);
+    uint32_t other = test_proposal(good, f, g, second, second_len, c, &two);
     if (other == 0 && (number != 0 || two.radius < one.radius)) {
         answer[0] = CHOSEN_SECOND;
         answer[1] = (uint32_t)two.radius;

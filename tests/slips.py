@@ -17,7 +17,7 @@ M_LINE = 'int64_t m = up(weight(c, PRODUCT_SIZE) + 2 * m_weight'
 N_LINE = 'int64_t n = up(weight(c, PRODUCT_SIZE) + 2 * (int64_t)UNIT * f[RADIUS],'
 B_LINE = '    if (b > (UNIT - m) * (UNIT - m) / (8 * m_weight))'
 P_LINE = 'int64_t p = (int64_t)a[1 + i] * b[1 + j];'
-SECOND_TEST = '    uint32_t other = test_proposal(good, f, g, second, second_len, &two);'
+SECOND_TEST = '    uint32_t other = test_proposal(good, f, g, second, second_len, c, &two);'
 SELECT_END = '        answer[1] = (uint32_t)one.radius;\n    }\n    return number;'
 SHORT_FIRST = '    if (length < PROPOSAL_SIZE)\n        return SHORT_AREA;\n    if (!good)\n        return BAD_MODEL;'
 BAD_FIRST = '    if (!good)\n        return BAD_MODEL;\n    if (length < PROPOSAL_SIZE)\n        return SHORT_AREA;'
@@ -170,11 +170,11 @@ SLIPS += [(f'two: {name}', 'quotient_of_two', old, new) for name, old, new in (
     ('a short one refuses the call', 'if (CLEAR(answer, SELECTION_SIZE) && ',
      'if (CLEAR(answer, SELECTION_SIZE) && first_len >= PROPOSAL_SIZE && second_len >= PROPOSAL_SIZE && '),
     ('2 before 1', SHORT_FIRST, BAD_FIRST),
-    ('h and w exchanged', 'f, g, proposal, proposal + CANDIDATE_SIZE, passed', 'f, g, proposal + CANDIDATE_SIZE, proposal, passed'),
+    ('h and w exchanged', 'f, g, proposal, proposal + CANDIDATE_SIZE, c', 'f, g, proposal + CANDIDATE_SIZE, proposal, c'),
     ('w from number 33', 'proposal, proposal + CANDIDATE_SIZE', 'proposal, proposal + COEFFICIENTS'),
     ('the w of the first', SECOND_TEST, SECOND_TEST + """
     if (first_len >= PROPOSAL_SIZE && second_len >= PROPOSAL_SIZE)
-        other = good ? judge_quotient(f, g, second, first + CANDIDATE_SIZE, &two) : BAD_MODEL;"""),
+        other = good ? judge_quotient(f, g, second, first + CANDIDATE_SIZE, c, &two) : BAD_MODEL;"""),
     ('the h of the first', SECOND_TEST, SECOND_TEST.replace('second, second_len', 'first, first_len')),
     ('3 passes', 'if (radius > LIMIT)\n        return LARGE_RESULT;\n    *passed', '*passed'),
     ('radius 2^28 refused', 'if (radius > LIMIT)\n        return LARGE_RESULT;\n    *passed',
@@ -198,7 +198,7 @@ SLIPS += [(f'two: {name}', 'quotient_of_two', old, new) for name, old, new in (
      'answer[1] = (uint32_t)(other == 0 ? two.radius : one.radius)'),
 )]
 
-# The list C in groups of 16, which a slip puts in the place of all 65 at once: entry, the lists of m and of N, and the constant of m.
+# Forming C in groups of 16 places: the texts by which each test forms what m and what N weighs.
 LISTS = {entry: [f'product_list({one}, c);\n    c[0] -= {constant};\n', f'product_list({other}, c);\n    take_residual(c, f);\n']
          for entry, one, other, constant in (('quotient', 'w, g', 'g, h', '2 * (int64_t)UNIT * UNIT'),
                                              ('root', 'w, h', 'h, h', '(int64_t)UNIT * UNIT'))}
@@ -217,11 +217,17 @@ SLIPS += [(f'groups: |i - j| = 0 from both sides, {entry}', entry, 'c[i > j ? i 
 
 # The scratch of each entry: where its length is looked at, and where it is cleared.
 LOOKED_AT = {
-    'quotient': 'w_len >= CANDIDATE_SIZE && scratch_len >= SCRATCH_SIZE', 'root': '\n        && scratch_len >= SCRATCH_SIZE)\n        number = test_root',
-    'quotient_of_two': 'g_len >= MODEL_SIZE\n        && scratch_len >= SCRATCH_SIZE', 'check': 'work_len < WORK_SIZE || scratch_len < SCRATCH_SIZE'}
+    'quotient': 'w_len >= CANDIDATE_SIZE && scratch_len >= SCRATCH_SIZE',
+    'root': '&& scratch_len >= SCRATCH_SIZE)\n        number = test_root',
+    'quotient_of_two': '&& scratch_len >= SCRATCH_SIZE)\n        number = select_proposal',
+    'check': 'work_len < WORK_SIZE || scratch_len < SCRATCH_SIZE',
+}
 CLEARED = {
-    'quotient': 'out, numbers);\n    CLEAR(scratch, SCRATCH_SIZE);', 'root': 'test_root(f, h, w, out, numbers);\n    CLEAR(scratch, SCRATCH_SIZE);',
-    'quotient_of_two': 'second_len, answer);\n    CLEAR(scratch, SCRATCH_SIZE);', 'check': '    memset(scratch, 0, SCRATCH_SIZE * sizeof *scratch);\n    if'}
+    'quotient': 'test_quotient(f, g, h, w, out, numbers);\n    CLEAR(scratch, SCRATCH_SIZE);',
+    'root': 'test_root(f, h, w, out, numbers);\n    CLEAR(scratch, SCRATCH_SIZE);',
+    'quotient_of_two': 'second_len, answer);\n    CLEAR(scratch, SCRATCH_SIZE);',
+    'check': '    memset(scratch, 0, SCRATCH_SIZE * sizeof *scratch);\n    if',
+}
 SLIPS += [(f'scratch: {name}, {entry}', entry, text, text.replace('SCRATCH_SIZE', size))
           for name, size in (('65 needed', 'PRODUCT_SIZE'), ('17 needed', '(SCRATCH_SIZE + 1)'), ('15 accepted', '(SCRATCH_SIZE - 1)'))
           for entry, text in LOOKED_AT.items()]
