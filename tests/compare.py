@@ -352,7 +352,7 @@ def main():
     if options.exchange and options.plant != 'quotient_of_two':
         parser.error('only the chosen proposal can be exchanged')
     if options.cleared is not None and options.plant not in scratch_cases.PLACES:
-        parser.error(f'a scratch have {",".join(scratch_cases.PLACES)}')
+        parser.error(f'--cleared goes with --plant of {",".join(scratch_cases.PLACES)}')
     check_header()
     check_examples()
     check_witnesses()

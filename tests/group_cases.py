@@ -27,7 +27,7 @@ def terms(*parts):
 
 
 def all_to(place, value):
-    """value (1 + 2 T_1 + .. + 2 T_place), which is 1 - T_(2 place + 1) over T_place - T_(place + 1), times value."""
+    """value (1 + 2 T_1 + .. + 2 T_place)."""
     return model([value] + [2 * value] * place)
 
 
@@ -52,7 +52,7 @@ def lists(case):
 
 
 def on_border(case):
-    """The radius of f at which N is 2^28, and one more: 3 or 8, and 6; each place of the list decides between them."""
+    """f with the radius that makes N 2^28, and one more: 3 or 8, and 6, which each place of the list decides."""
     f, *rest = case.inputs
     edge = LIMIT - o.up(o.weight(lists(case)[1]), 2 * S)
     for radius in (edge, edge + 1):
@@ -90,7 +90,7 @@ def longer():
 
 
 def alone_in_m(k):
-    """C less the constant has place k alone; m is S at most where the test passes, and S where 5 depends on that place."""
+    """C less the constant is zero but at place k, which makes m little, S - 1, or S: 5 by that place alone."""
     if k <= MAX_DEGREE:
         for value in (1, S - 1, S):
             g = terms((0, S), (k, value))
@@ -107,7 +107,7 @@ def alone_in_m(k):
 
 
 def alone_in_n(k):
-    """C less 2S f has place k alone.  C(h, h) ends at an even place, so a root has no such odd k above 32."""
+    """C less 2S f is zero but at place k.  C(h, h) ends at an even place, so a root has no such odd k above 32."""
     if k <= MAX_DEGREE:
         for value in (1, -S // 16):
             yield quotient_case(terms((0, S), (k, value)), ONE, ONE, ONE)
@@ -122,7 +122,7 @@ def alone_in_n(k):
 
 
 def beside_others():
-    """An odd last place but one of C(h, h), which is never alone."""
+    """C(h, h) at the odd places above 32, beside its last one."""
     for k in range(MAX_DEGREE + 1, PRODUCT_SIZE - 1, 2):
         h = terms((0, 2 * S), (k // 2, 2048), (k - k // 2, 2048))
         yield root_case(constant(4 * S), h, QUARTER)

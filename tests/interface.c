@@ -94,7 +94,7 @@ static void short_areas(void)
     EXPECT(work[0] == 7 && scratch[0] == 7);
 }
 
-/* Whether a scratch that held 1, 2, 3 .. has zeros up to a place and the rest as it was; fills it again. */
+/* Whether a scratch that held 1, 2, 3 .. has so many zeros and the rest as it was; fills it again. */
 static int cleared(int64_t *held, size_t length, size_t zeros)
 {
     int same = 1;
@@ -105,7 +105,7 @@ static int cleared(int64_t *held, size_t length, size_t zeros)
     return same;
 }
 
-/* From 16 numbers on a scratch is long enough, and those behind the 16 stay; 65 were needed before version 3.0.0. */
+/* A scratch is long enough from 16 numbers on, and those behind the 16 stay. */
 static void scratches(void)
 {
     static int64_t held[66];
@@ -113,15 +113,16 @@ static void scratches(void)
     for (size_t length = 0; length <= COUNT(held); length++) {
         int fits = length >= 16;
         size_t zeros = fits ? 16 : 0;
-        EXPECT(ferruntzo_quotient(WHOLE(one), WHOLE(one), CANDIDATE(one), CANDIDATE(one), held, length, WHOLE(out),
-                                  WHOLE(numbers)) == (fits ? 0 : FERRUNTZO_SHORT_AREA));
+        EXPECT(ferruntzo_quotient(WHOLE(one), WHOLE(one), CANDIDATE(one), CANDIDATE(one), held, length,
+                                  WHOLE(out), WHOLE(numbers)) == (fits ? 0 : FERRUNTZO_SHORT_AREA));
         EXPECT(out[1] == (fits ? S : 0) && cleared(WHOLE(held), zeros));
-        EXPECT(ferruntzo_root(WHOLE(one), CANDIDATE(one), CANDIDATE(one), held, length, WHOLE(out), WHOLE(numbers))
-               == (fits ? FERRUNTZO_NOT_CONTRACTING : FERRUNTZO_SHORT_AREA));
+        EXPECT(ferruntzo_root(WHOLE(one), CANDIDATE(one), CANDIDATE(one), held, length, WHOLE(out),
+                              WHOLE(numbers)) == (fits ? FERRUNTZO_NOT_CONTRACTING : FERRUNTZO_SHORT_AREA));
         EXPECT(cleared(WHOLE(held), zeros));
-        EXPECT(ferruntzo_quotient_of_two(WHOLE(one), WHOLE(one), WHOLE(rough), WHOLE(exact), held, length, WHOLE(selected))
-               == (fits ? 0 : FERRUNTZO_SHORT_AREA));
-        EXPECT(selected[0] == (fits ? FERRUNTZO_CHOSEN_SECOND : FERRUNTZO_CHOSEN_NONE) && cleared(WHOLE(held), zeros));
+        EXPECT(ferruntzo_quotient_of_two(WHOLE(one), WHOLE(one), WHOLE(rough), WHOLE(exact), held, length,
+                                         WHOLE(selected)) == (fits ? 0 : FERRUNTZO_SHORT_AREA));
+        EXPECT(selected[0] == (fits ? FERRUNTZO_CHOSEN_SECOND : FERRUNTZO_CHOSEN_NONE));
+        EXPECT(cleared(WHOLE(held), zeros));
         EXPECT(ferruntzo_check(NONE, WHOLE(work), held, length, WHOLE(answer))
                == (fits ? FERRUNTZO_JOB_ENDS : FERRUNTZO_SHORT_AREA));
         EXPECT(cleared(WHOLE(held), zeros));

@@ -15,7 +15,7 @@ from oracle import ADD, LIMIT, LOAD, MULTIPLY, PRODUCT_SIZE, QUOTIENT, ROOT, SUB
 from selection_cases import DIVIDEND, DIVISOR, NUMBERS, TESTED
 
 PLACES = {entry: i for entry, areas in AREAS.items() for i, (_, _, what) in enumerate(areas) if what == 'scratch'}
-LENGTHS = (0, *(size + more for size in (SCRATCH_SIZE, PRODUCT_SIZE) for more in (-1, 0, 1)))      # 0, 15, 16, 17, 64, 65, 66
+LENGTHS = (0, *(size + more for size in (SCRATCH_SIZE, PRODUCT_SIZE) for more in (-1, 0, 1)))   # 0, 15, 16, 17, 64, 65, 66
 OTHER = 'another area short'
 
 # ---- Jobs: number and operation where they are refused; result 0 is 4, and count the number of results before ----------
@@ -105,7 +105,7 @@ def own_answer(case):
 
 
 def kinds(case, lengths, number):
-    """What is counted of a call: its scratch with its answer and, where the case gives the scratch its length, with its own answer."""
+    """What is counted of a call: its scratch with its answer and, where the case says how long it is, with its own answer."""
     place = PLACES[case.entry]
     length = lengths[place]
     if length not in LENGTHS:
@@ -121,7 +121,8 @@ def demanded(entry):
            'quotient_of_two': list(product(NUMBERS, NUMBERS))}.get(entry, WITNESSES[entry])
     for length in LENGTHS:
         yield from ((length, 'own', answer) for answer in (OTHER, *own))
-        yield from ((length, number) for number in ([SHORT_AREA] if length < SCRATCH_SIZE else {SHORT_AREA, *WITNESSES[entry]}))
+        numbers = {SHORT_AREA} if length < SCRATCH_SIZE else {SHORT_AREA, *WITNESSES[entry]}
+        yield from ((length, number) for number in numbers)
 
 
 def counted(entry, found):

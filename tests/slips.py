@@ -229,8 +229,8 @@ CLEARED = {
     'check': '    memset(scratch, 0, SCRATCH_SIZE * sizeof *scratch);\n    if',
 }
 SLIPS += [(f'scratch: {name}, {entry}', entry, text, text.replace('SCRATCH_SIZE', size))
-          for name, size in (('65 needed', 'PRODUCT_SIZE'), ('17 needed', '(SCRATCH_SIZE + 1)'), ('15 accepted', '(SCRATCH_SIZE - 1)'))
-          for entry, text in LOOKED_AT.items()]
+          for name, size in (('65 needed', 'PRODUCT_SIZE'), ('17 needed', '(SCRATCH_SIZE + 1)'),
+                             ('15 accepted', '(SCRATCH_SIZE - 1)')) for entry, text in LOOKED_AT.items()]
 SLIPS += [(f'scratch: {count} numbers cleared, {entry}', entry, text, re.sub(
            r'    (CLEAR|memset)\(scratch.*;', f'    if (scratch_len >= SCRATCH_SIZE)\n        memset(scratch, 0, '
            f'({count} < scratch_len ? {count} : scratch_len) * sizeof *scratch);', text))
