@@ -23,12 +23,12 @@ w = constantModel (pos 262144)
 -- a quotient; a root whose discriminant is 0; one less under the root; S under the root
 abbrev pub Benchmarks : Type 0
 Benchmarks =
-    (quotientOutcome 65 (constantModel (pos 1048576)) (constantModel (pos 3145728)) (constantModel (pos 349525)) (constantModel (pos 349525))
+    (quotientOutcome 16 (constantModel (pos 1048576)) (constantModel (pos 3145728)) (constantModel (pos 349525)) (constantModel (pos 349525))
     ≡ accepted (makeCertificate (makeModel 0 (pos 349525 ∷ replicate 32 (pos 0)) 2) 1 1 1))
-    × (rootOutcome byDiscriminant 65 (constantModel (pos 2097152)) h w
+    × (rootOutcome byDiscriminant 16 (constantModel (pos 2097152)) h w
     ≡ accepted (makeCertificate (makeModel 0 (pos 2097152 ∷ replicate 32 (pos 0)) 1048576) 0 2097152 524288))
-    × (rootOutcome byDiscriminant 65 (constantModel (pos 2097151)) h w ≡ refused 8 zeroCertificate)
-    × (rootOutcome byDiscriminant 65 (constantModel (pos 1048576)) h w ≡ refused 8 zeroCertificate)
+    × (rootOutcome byDiscriminant 16 (constantModel (pos 2097151)) h w ≡ refused 8 zeroCertificate)
+    × (rootOutcome byDiscriminant 16 (constantModel (pos 1048576)) h w ≡ refused 8 zeroCertificate)
 
 pub benchmarks : Benchmarks
 unfolding quotientOutcome rootOutcome rootPlaces quotientContraction quotientResidual quotientModel rootContraction rootResidual rootModel displacement coefficientSum productList passing good tooLarge constantModel zeroModel weight addLists subtractLists scaleList addAt addPair addTerm addTerms product upℕ

@@ -3,19 +3,21 @@ use mathlib.Core.Path.{_≡_, refl, ap₂, sym, _∙_}
 use mathlib.Core.Bool.{Bool, true, false, true≢false, false≢true, not, _&&_}
 use mathlib.Core.List.{List, [], _∷_}
 use mathlib.Core.Logic.{inl, inr, _↔_}
-use Prim.Native.Nat.{ℕ}
+use Prim.Native.Nat.{ℕ, _≤_}
 use native.Mathlib.Omega.{arith}
 use lib.Dec.{leb}
 use lib.IntN.{ℤ}
 use lib.ListN.{length}
+use borrow.Author.Tests.{le-leb}
 use Rattle.model.specs.definitions.Outcomes.{Passed, First, here, later}
+use Rattle.model.specs.definitions.Models.{productSize}
 use Rattle.certificate.specs.definitions.Tests.{scratchSize}
 use Rattle.model.specs.declared.types.Model.{Model}
 use Rattle.job.specs.definitions.Outcomes.{JobOutcome, accepted, refused}
 use Rattle.job.specs.definitions.Run.{jobOutcome}
 use Rattle.job.specs.definitions.Order.{EndsWith, Meets}
 use Rattle.job.specs.laws.OrderLaws.{refused-exactly, accepted-exactly}
-use Rattle.job.specs.definitions.Work.{workSize, areaPlaces, areasFit, checkOutcome}
+use Rattle.job.specs.definitions.Work.{workSize, areaPlaces, areasFit, checkOutcome, workAfter, checkNeeding, workNeeding}
 
 -- two tests that are to hold
 module _ where
@@ -89,3 +91,14 @@ module _ (job : List ℕ) (w s : List ℤ) where
       into : (t : Bool) → areasFit w s ≡ t → checkOutcome job w s ≡ accepted rs → Passed (areaPlaces w s) × EndsWith job rs
       into true e h = (areas-fit w s e, accepted-exactly job rs .0 (sym (fit e) ∙ h))
       into false e h = let x : refused 1 0 ≡ accepted rs = sym (short e) ∙ h in let z : _≡_ {A = ℕ} 0 1 = cc x in absurd (omega arith)
+
+-- 02, S-17: "With 16 or more, answers agree with those that 65 gave on the same other input": no test in a job sees how long its
+-- scratch is, so the job's outcome and work area are the same
+module _ (job : List ℕ) (w s former : List ℤ) (room : scratchSize ≤ length s) (room′ : productSize ≤ length former) where
+  pub check-as-65 : checkOutcome job w s ≡ checkNeeding productSize job w former
+  unfolding checkOutcome checkNeeding
+  check-as-65 = rw (le-leb scratchSize (length s) room, le-leb productSize (length former) room′)
+
+  pub work-as-65 : workAfter job w s ≡ workNeeding productSize job w former
+  unfolding workAfter workNeeding
+  work-as-65 = rw (le-leb scratchSize (length s) room, le-leb productSize (length former) room′)

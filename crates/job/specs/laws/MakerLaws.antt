@@ -11,7 +11,7 @@ use Rattle.model.specs.definitions.Add.{addition, subtraction}
 use Rattle.model.specs.definitions.Multiply.{multiplication}
 use Rattle.certificate.specs.definitions.Tests.{scratchSize, Certificate, zeroCertificate}
 use Rattle.certificate.specs.definitions.Quotient.{quotientOutcome}
-use Rattle.certificate.specs.definitions.Root.{RootRule, rootOutcome}
+use Rattle.certificate.specs.definitions.Root.{RootRule, rootPlaces, rootOutcome}
 use Rattle.model.specs.declared.types.Model.{Model}
 use Rattle.job.specs.definitions.InnerContracts.{untestedOutcome}
 use Rattle.job.specs.definitions.Operations.{load, add, subtract, multiply, quotient, root, untested, resultAt, makerPlaces, operation}
@@ -55,10 +55,10 @@ multiply-operation i j d rs = untested-passing _ _
 
 pub quotient-operation : (i j : ℕ) (h w : Model) (rs : List Model)
     → operation (quotient i j h w) rs ≡ quotientOutcome scratchSize (resultAt rs i) (resultAt rs j) h w
-unfolding operation makerPlaces quotientOutcome
+unfolding operation makerPlaces quotientOutcome passing
 quotient-operation i j h w rs = refl
 
 pub root-operation : (rule : RootRule) (i : ℕ) (h w : Model) (rs : List Model)
     → operation (root rule i h w) rs ≡ rootOutcome rule scratchSize (resultAt rs i) h w
-unfolding operation makerPlaces rootOutcome
+unfolding operation makerPlaces rootOutcome rootPlaces passing
 root-operation rule i h w rs = refl

@@ -23,10 +23,13 @@ proposedAnswer s = areaCandidate s
 abbrev pub proposedHelper : List ℤ → Candidate
 proposedHelper s = areaCandidate (drop candidateSize s)
 
--- "A shorter one fails with 1, by itself": before the models, and whatever the other proposal is. `len` is that of the scratch.
+-- "A shorter one fails with 1, by itself": before the models, and whatever the other proposal is
+abbrev pub proposalBy : (Candidate → Candidate → Outcome Certificate) → List ℤ → Outcome Certificate
+proposalBy test s = cond (ltb (length s) proposalSize) (refused 1 zeroCertificate) (test (proposedAnswer s) (proposedHelper s))
+
+-- by the quotient test, with a scratch of len numbers
 unfoldable pub proposalTest : ℕ → Model → Model → List ℤ → Outcome Certificate
-proposalTest len f g s =
-    cond (ltb (length s) proposalSize) (refused 1 zeroCertificate) (quotientTest len f g (proposedAnswer s) (proposedHelper s))
+proposalTest len f g s = proposalBy (quotientTest len f g) s
 
 -- the radius that the test gives, or its refusal beside 0
 abbrev pub resultRadius : Certificate → ℕ

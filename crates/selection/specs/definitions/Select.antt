@@ -7,9 +7,13 @@ use Prim.Native.Nat.{ℕ, _+_}
 use lib.Dec.{eqb, ltb}
 use lib.IntN.{ℤ}
 use denote.Ref.{RefT, ptr, now}
-use Rattle.model.specs.definitions.Outcomes.{Outcome, accepted, refused, numberOf}
+use Rattle.model.specs.definitions.Outcomes.{Outcome, accepted, refused, numberOf, mapOutcome}
+use Rattle.model.specs.definitions.Models.{candidateModel}
 use Rattle.model.specs.declared.types.Model.{Model}
-use Rattle.selection.specs.definitions.Proposal.{proposedAnswer, proposalRadius}
+use Rattle.model.specs.declared.types.Candidate.{Candidate}
+use Rattle.certificate.specs.definitions.Tests.{Certificate}
+use Rattle.certificate.specs.definitions.Groups.{quotientNeeding}
+use Rattle.selection.specs.definitions.Proposal.{proposedAnswer, proposalBy, resultRadius, proposalRadius}
 use Rattle.selection.specs.declared.types.Selection.{Selection}
 use Rattle.selection.specs.declared.types.Selection.the-variants.{First, Second, Neither}
 
@@ -34,6 +38,12 @@ tighter (refused n z) (refused m y) = refused n (makeSelected 0 0)
 -- "an entry that tests both"
 abbrev pub selection : ℕ → Model → Model → List ℤ → List ℤ → Outcome Selected
 selection len f g first second = tighter (proposalRadius len f g first) (proposalRadius len f g second)
+
+-- what it answered where a test needed `need` numbers of the scratch; before S-17 it was 65
+unfoldable pub selectionNeeding : ℕ → ℕ → Model → Model → List ℤ → List ℤ → Outcome Selected
+selectionNeeding need len f g first second =
+    let test : Candidate → Candidate → Outcome Certificate = λ h w. quotientNeeding need len f g (candidateModel h) (candidateModel w) in
+    tighter (mapOutcome resultRadius (proposalBy test first)) (mapOutcome resultRadius (proposalBy test second))
 
 -- what the code's answer means
 abbrev pub selectionOf : Selection → Outcome Selected

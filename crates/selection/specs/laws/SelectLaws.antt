@@ -1,16 +1,24 @@
 -- What a selection tells of the two proposals, and what the lent numbers mean.
-use mathlib.Core.Path.{_≡_, refl, sym, _∙_, ap}
+use mathlib.Core.Path.{_≡_, refl, sym, _∙_, ap, ap₂}
 use mathlib.Core.Logic.{_⊎_, inl, inr}
 use mathlib.Core.Bool.{Bool, true, false, cond}
+use mathlib.Core.List.{List}
 use Prim.Native.Nat.{ℕ, _≤_, _<_}
 use native.Mathlib.Omega.{arith}
 use borrow.Author.Tests.{ltb-true, ltb-false, le-ltb, lt-ltb, eqb-true}
 use lib.Dec.{eqb, ltb}
-use Rattle.model.specs.definitions.Outcomes.{Outcome, accepted, refused, number, payload}
+use lib.IntN.{ℤ}
+use lib.ListN.{length}
+use Rattle.model.specs.definitions.Models.{productSize, candidateModel}
+use Rattle.model.specs.definitions.Outcomes.{Outcome, accepted, refused, number, payload, mapOutcome}
 use Rattle.model.specs.laws.PlaceLaws.{refused-not-accepted}
 use Rattle.model.specs.laws.OutcomeLaws.{judged-injective, numberOf-injective}
-use Rattle.selection.specs.definitions.Proposal.{proposalOf}
-use Rattle.selection.specs.definitions.Select.{Selected, makeSelected, tighter, selectionOf, selectedOf}
+use Rattle.model.specs.declared.types.Model.{Model}
+use Rattle.certificate.specs.definitions.Tests.{scratchSize, zeroCertificate}
+use Rattle.certificate.specs.definitions.Groups.{quotientNeeding}
+use Rattle.certificate.specs.laws.Compact.{quotient-as-65}
+use Rattle.selection.specs.definitions.Proposal.{proposalSize, proposedAnswer, proposedHelper, proposalBy, proposalTest, resultRadius, proposalOf}
+use Rattle.selection.specs.definitions.Select.{Selected, makeSelected, tighter, selection, selectionNeeding, selectionOf, selectedOf}
 use Rattle.selection.specs.declared.types.ProposalOutcome.{ProposalOutcome}
 use Rattle.selection.specs.declared.types.Selection.{Selection}
 use Rattle.selection.specs.declared.types.Selection.the-variants.{First, Second, Neither}
@@ -115,3 +123,17 @@ selectionOf-injective (Second e) (Neither v) h = absurd (refused-not-accepted (s
 selectionOf-injective (Neither v) (First d) h = absurd (refused-not-accepted h)
 selectionOf-injective (Neither v) (Second d) h = absurd (refused-not-accepted h)
 selectionOf-injective (Neither v) (Neither u) h = ap Neither (numberOf-injective v u (ap number h))
+
+-- ---- the scratch
+
+-- 02, S-17: "With 16 or more, answers agree with those that 65 gave on the same other input"
+pub selection-as-65 : (len former : ℕ) (f g : Model) (first second : List ℤ) → scratchSize ≤ len → productSize ≤ former
+    → selection len f g first second ≡ selectionNeeding productSize former f g first second
+unfolding proposalTest selectionNeeding
+selection-as-65 len former f g first second room room′ =
+    ap₂ tighter (ap (mapOutcome resultRadius) (same first)) (ap (mapOutcome resultRadius) (same second))
+  where
+    same : (s : List ℤ) → proposalTest len f g s ≡ proposalBy (λ h w. quotientNeeding productSize former f g (candidateModel h) (candidateModel w)) s
+    same s =
+        ap (cond (ltb (length s) proposalSize) (refused 1 zeroCertificate))
+        (quotient-as-65 f g (candidateModel (proposedAnswer s)) (candidateModel (proposedHelper s)) len former room room′)
