@@ -1,7 +1,5 @@
 // The quotient test and the root test: a posteriori validation of proposed candidates over a lent scratch.
-mod lengths;
 mod numbers;
-mod places;
 pub mod quotient;
 mod residual;
 pub mod root;

@@ -1,5 +1,5 @@
-// Weights of residuals C - 2S f. The list C is formed in groups as long as a part of the scratch, which may have any length from 1;
-// a group is weighed before the next one is formed.
+// Weights of residuals C - 2S f. The list C is formed in groups as long as a part of the scratch, which may have any length from
+// 1; a group is weighed before the next one is formed.
 ghost use mathlib.Core.Path.{_≡_};
 ghost use Prim.Native.Nat.{_+_, _*_, _≤_, _<_, _^_};
 ghost use lib.ListN.{length, take, drop};
@@ -8,10 +8,10 @@ ghost use Rattle.chebyshev.specs.definitions.Coefficients.{weight as weightOf};
 ghost use Rattle.chebyshev.specs.definitions.Product.{product};
 ghost use Rattle.model.specs.definitions.Models.{scale, productSize, maxWeight};
 ghost use Rattle.certificate.specs.definitions.Groups.{group};
-ghost use Rattle.certificate.specs.definitions.InnerContracts.{residualList, Factors, Subtrahend};
-use crate::lengths::greatest;
-use crate::lengths::least;
-use crate::places::form;
+ghost use Rattle.certificate.specs.definitions.InnerContracts.{residualList, groupResidual, Factors, Subtrahend};
+use groups::form::form;
+use groups::lengths::greatest;
+use groups::lengths::least;
 use integer::absolute::magnitude;
 use model::types::Model;
 
@@ -63,8 +63,8 @@ fn window(f: &[i32], start: usize, count: usize) -> &[i32]
 fn group_residual(part: &mut [i64], start: usize, a: &[i32], b: &[i32], f: &[i32]) -> u64
     requires { ⌜ Factors (now a) (now b) × Subtrahend (now f) × (start + length (now part) ≤ productSize) ⌝ }
     ensures { λ r.
-        ⌜ r ≡ weightOf (residualList (group (length (now (part .entry))) start (product ℤ-ring productSize (now (a .entry)) (now (b .entry))))
-        (group (length (now (part .entry))) start (now (f .entry)))) ⌝ }
+        ⌜ r ≡ groupResidual (length (now (part .entry))) start (product ℤ-ring productSize (now (a .entry)) (now (b .entry)))
+        (now (f .entry)) ⌝ }
 {
     form(part, start, a, b);
     subtract(part, window(f, start, part.len()));

@@ -11,6 +11,7 @@ pub mod ProductWeight
 pub mod ProductEnd
 pub mod ProductSums
 pub mod PairSumLaws
+pub mod Tabulated
 pub mod NegationLaws
 pub mod NegationValues
 pub mod DerivativeLaws

@@ -1,5 +1,5 @@
--- Document 02, S-17: "Let quotient and root tests do with a scratch of 16, forming the list C in groups." The tests of 01 once more,
--- for any group length; and what they answered with the scratch of 65 that 01 asked for.
+-- Document 02, S-17: "Let quotient and root tests do with a scratch of 16, forming the list C in groups." The tests of 01 once
+-- more, for any group length; and what they answered with the scratch of 65 that 01 asked for.
 use mathlib.Core.List.{List, [], _∷_}
 use Prim.Native.Nat.{ℕ, zero, suc, _+_, _*_, _-_, min, max}
 use lib.IntN.{ℤ, pos}
@@ -7,14 +7,13 @@ use lib.ListN.{length, take, drop}
 use Rattle.integer.specs.definitions.Integer.{ℤ-ring}
 use Rattle.integer.specs.definitions.Rounding.{upℕ}
 use Rattle.chebyshev.specs.definitions.Coefficients.{weight, subtractLists, scaleList}
-use Rattle.chebyshev.specs.definitions.TwoSums.{twoSums}
+use Rattle.chebyshev.specs.definitions.TwoSums.{placesFrom}
 use Rattle.model.specs.definitions.Models.{scale, productSize, terms}
 use Rattle.model.specs.definitions.Outcomes.{Outcome}
 use Rattle.model.specs.declared.types.Model.{Model}
 use Rattle.certificate.specs.definitions.Tests.{Certificate}
 use Rattle.certificate.specs.definitions.Quotient.{quotientContraction, quotientResidual, quotientFor}
 use Rattle.certificate.specs.definitions.Root.{RootRule, rootContraction, rootResidual, rootFor}
-use Rattle.certificate.specs.definitions.TwoSums.{tabulate}
 
 -- ---- groups
 
@@ -24,7 +23,7 @@ group n start l = take n (drop start l)
 
 -- the same of C(a, b), which ends at place 64, by 01's two sums at these places alone
 unfoldable pub productGroup : ℕ → ℕ → List ℤ → List ℤ → List ℤ
-productGroup n start a b = tabulate (min n (productSize - start)) (λ k. twoSums ℤ-ring (start + k) a b)
+productGroup n start a b = placesFrom ℤ-ring (min n (productSize - start)) start a b
 
 -- the weights of `count` groups, the first of them at `start`, summed
 unfoldable pub weightInGroups : ℕ → ℕ → ℕ → (ℕ → List ℤ) → ℕ

@@ -3,7 +3,7 @@ use mathlib.Core.Path.{_≡_}
 use mathlib.Core.Bool.{Bool, true}
 use mathlib.Core.List.{List, [], _∷_}
 use Prim.Native.Nat.{ℕ, suc, _+_, _*_, _-_, _^_, _≤_, _<_}
-use lib.IntN.{ℤ, pos, natAbs}
+use lib.IntN.{ℤ, pos}
 use lib.ListN.{length}
 use Rattle.integer.specs.definitions.Integer.{ℤ-ring}
 use Rattle.chebyshev.specs.definitions.Coefficients.{weight, subtractLists, scaleList}
@@ -13,8 +13,8 @@ use Rattle.model.specs.definitions.Outcomes.{Outcome, accepted, refused, outcom
 use Rattle.model.specs.declared.types.Model.{Model}
 use Rattle.model.specs.declared.types.Candidate.{Candidate}
 use Rattle.certificate.specs.definitions.Tests.{Certificate, makeCertificate, zeroCertificate, withRadius, displacement}
+use Rattle.certificate.specs.definitions.Groups.{group}
 use Rattle.certificate.specs.definitions.Root.{rootPlaces, rootLastPlaces, rootModel, rootContraction, rootResidual}
-use Rattle.certificate.specs.declared.places.TwoPlaces.{TwoPlaces}
 use Rattle.certificate.specs.declared.types.RootNumbers.{RootNumbers}
 use Rattle.certificate.specs.declared.types.RootNumbers.the-variants.{Refused, Reached}
 
@@ -31,10 +31,6 @@ pub record Factors (a b : List ℤ) : Type 0 where
 pub record Subtrahend (f : List ℤ) : Type 0 where
   pub short : length f ≤ productSize
   pub weight-fits : weight f ≤ maxWeight
-
--- two places of C, or what is summed of them, are smaller than a limit
-abbrev pub Below : ℕ → TwoPlaces → Type 0
-Below limit r = (natAbs (r .first) < limit) × (natAbs (r .second) < limit)
 
 -- a part of the scratch, of any length from 1, and two good models whose list C is formed in it
 pub record Ready (part : List ℤ) (a b : Model) : Type 0 where
@@ -68,13 +64,13 @@ pub record RootLast (h : Model) (M m b : ℕ) : Type 0 where
 
 -- ---- lists
 
--- two places of C, or what is summed of them, are x and y
-abbrev pub Are : TwoPlaces → ℤ → ℤ → Type 0
-Are r x y = (r .first ≡ x) × (r .second ≡ y)
-
 -- C − 2S·f
 abbrev pub residualList : List ℤ → List ℤ → List ℤ
 residualList c f = subtractLists ℤ-ring c (scaleList ℤ-ring (pos (2 * scale)) f)
+
+-- the weight of C − 2S·f over a group of n places from `start` on
+abbrev pub groupResidual : ℕ → ℕ → List ℤ → List ℤ → ℕ
+groupResidual n start c f = weight (residualList (group n start c) (group n start f))
 
 -- ---- the answer of a test by its parts
 

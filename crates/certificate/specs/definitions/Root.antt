@@ -33,8 +33,8 @@ rootResidual f h =
 unfoldable pub rootModel : Model → ℕ → ℕ → Model
 rootModel h m b = withRadius h (upℕ (2 * b * scale) (scale - m))
 
--- Root of f, for m and N, behind the place of the scratch and through N: the places that every root command shares; "root: helper",
--- 7, "Σ w_k ≤ 0"
+-- Root of f, for m and N, behind the place of the scratch and through N: the places that every root command shares; "root:
+-- helper", 7, "Σ w_k ≤ 0"
 abbrev pub rootPlacesFor : ℕ → ℕ → Model → Model → Model → List (Bool × ℕ)
 rootPlacesFor m n f h w =
     badPlace f ∷ badPlace h ∷ badPlace w ∷ (leZ (coefficientSum (w .coefficients)) (pos 0), 7) ∷ testPlaces m n

@@ -1,9 +1,8 @@
 -- Document 02, S-17: groups of any length from 1 give the weight of the whole list.
 use mathlib.Core.Path.{_≡_, refl, sym, _∙_, ap, ap₂}
 use mathlib.Core.List.{List, [], _∷_}
-use Prim.Native.Nat.{ℕ, zero, suc, _+_, _*_, _-_, _≤_, _<_, min, max}
+use Prim.Native.Nat.{ℕ, zero, suc, _+_, _*_, _≤_, _<_, max}
 use native.Mathlib.Omega.{arith}
-use native.Mathlib.Nat.{zero-add, suc-add}
 use lib.IntN.{ℤ}
 use lib.ListN.{length, take, drop, drop-of-length-le}
 use lib.Seq.{drop-drop}
@@ -13,34 +12,14 @@ use Rattle.chebyshev.specs.definitions.Coefficients.{weight, addLists, subtract
 use Rattle.chebyshev.specs.laws.Weight.{weight-subtract-split}
 use Rattle.chebyshev.specs.definitions.Product.{product}
 use Rattle.chebyshev.specs.laws.ProductLaws.{length-product}
-use Rattle.chebyshev.specs.definitions.TwoSums.{twoSums}
+use Rattle.chebyshev.specs.laws.Tabulated.{product-group}
 use Rattle.model.specs.definitions.Models.{productSize}
-use Rattle.certificate.specs.definitions.TwoSums.{tabulate, twoSumsList}
 use Rattle.certificate.specs.definitions.Groups.{group, productGroup, weightInGroups, groupCount, constantInGroups, differenceInGroups}
-use Rattle.certificate.specs.laws.TwoSumsLaws.{product-two-sums-list}
 
--- ---- a group of C is that of the whole list
-
-take-tabulate : (n m : ℕ) (f : ℕ → ℤ) → take n (tabulate m f) ≡ tabulate (min n m) f
-unfolding tabulate
-take-tabulate zero m f = let e : min 0 m ≡ 0 = omega arith in rw e
-take-tabulate (suc n) zero f = let e : min (suc n) 0 ≡ 0 = omega arith in rw e
-take-tabulate (suc n) (suc m) f = let e : min (suc n) (suc m) ≡ suc (min n m) = omega arith in rw e (ap (λ l. f 0 ∷ l) (take-tabulate n m (λ k. f (suc k))))
-
-drop-tabulate : (s m : ℕ) (f : ℕ → ℤ) → drop s (tabulate m f) ≡ tabulate (m - s) (λ k. f (s + k))
-unfolding tabulate
-drop-tabulate zero m f = let e : m - 0 ≡ m = omega arith in rw e (ap (tabulate m) (λ i k. f (sym (zero-add k) i)))
-drop-tabulate (suc s) zero f = let e : 0 - suc s ≡ 0 = omega arith in rw e
-drop-tabulate (suc s) (suc m) f = let e : suc m - suc s ≡ m - s = omega arith in rw e (drop-tabulate s m (λ k. f (suc k)) ∙ ap (tabulate (m - s)) (λ i k. f (sym (suc-add s k) i)))
-
-product-group : (n s : ℕ) (a b : List ℤ) → productGroup n s a b ≡ group n s (product ℤ-ring productSize a b)
-unfolding productGroup twoSumsList
-product-group n s a b =
-    sym (ap (group n s) (product-two-sums-list a b)
-    ∙ ap (take n) (drop-tabulate s productSize (λ k. twoSums ℤ-ring k a b))
-    ∙ take-tabulate n (productSize - s) (λ k. twoSums ℤ-ring (s + k) a b))
-
--- ---- all groups
+-- a group of C is that of the whole list
+pub group-is : (n s : ℕ) (a b : List ℤ) → productGroup n s a b ≡ group n s (product ℤ-ring productSize a b)
+unfolding productGroup
+group-is n s a b = sym (product-group ℤ-ring productSize n s a b)
 
 nothing : weight (subtractLists ℤ-ring [] []) ≡ 0
 unfolding weight subtractLists addLists
@@ -64,7 +43,7 @@ module _ (n : ℕ) (some : 0 < n) where
       → constantInGroups n z a b ≡ weight (subtractLists ℤ-ring (z ∷ []) (product ℤ-ring productSize a b))
   unfolding constantInGroups
   constant-groups z a b =
-      ap (weightInGroups n (groupCount n (z ∷ [])) 0) (λ i s. subtractLists ℤ-ring (group n s (z ∷ [])) (product-group n s a b i))
+      ap (weightInGroups n (groupCount n (z ∷ [])) 0) (λ i s. subtractLists ℤ-ring (group n s (z ∷ [])) (group-is n s a b i))
       ∙ groups-whole n (groupCount n (z ∷ [])) 0 (z ∷ []) (product ℤ-ring productSize a b) (enough (z ∷ []) .1)
       (omega (arith, enough (z ∷ []) .0, length-product ℤ-ring productSize a b))
 
@@ -72,6 +51,6 @@ module _ (n : ℕ) (some : 0 < n) where
       → differenceInGroups n a b d ≡ weight (subtractLists ℤ-ring (product ℤ-ring productSize a b) d)
   unfolding differenceInGroups
   difference-groups a b d =
-      ap (weightInGroups n (groupCount n d) 0) (λ i s. subtractLists ℤ-ring (product-group n s a b i) (group n s d))
+      ap (weightInGroups n (groupCount n d) 0) (λ i s. subtractLists ℤ-ring (group-is n s a b i) (group n s d))
       ∙ groups-whole n (groupCount n d) 0 (product ℤ-ring productSize a b) d
       (omega (arith, enough d .0, length-product ℤ-ring productSize a b)) (enough d .1)

@@ -42,7 +42,9 @@ selection len f g first second = tighter (proposalRadius len f g first) (proposa
 -- what it answered where a test needed `need` numbers of the scratch; before S-17 it was 65
 unfoldable pub selectionNeeding : ℕ → ℕ → Model → Model → List ℤ → List ℤ → Outcome Selected
 selectionNeeding need len f g first second =
-    let test : Candidate → Candidate → Outcome Certificate = λ h w. quotientNeeding need len f g (candidateModel h) (candidateModel w) in
+    let test : Candidate → Candidate → Outcome Certificate =
+    λ h w. quotientNeeding need len f g (candidateModel h) (candidateModel w)
+    in
     tighter (mapOutcome resultRadius (proposalBy test first)) (mapOutcome resultRadius (proposalBy test second))
 
 -- what the code's answer means

@@ -1,8 +1,8 @@
 -- `residual::group_residual` meets its contract.
 use borrow.Author.Needs.{needs}
-use mathlib.Core.Path.{_≡_, _∙_, ap, ap₂}
+use mathlib.Core.Path.{_≡_, sym, _∙_, ap, ap₂}
 use mathlib.Core.List.{List}
-use Prim.Native.Nat.{ℕ, _+_, _*_, _^_, _≤_, _<_}
+use Prim.Native.Nat.{ℕ, _+_, _*_, _-_, _^_, _≤_, _<_, min}
 use native.Mathlib.Omega.{arith}
 use lib.IntN.{ℤ}
 use lib.ListN.{length, drop, length-take}
@@ -10,6 +10,8 @@ use Rattle.integer.specs.definitions.Integer.{ℤ-ring}
 use Rattle.chebyshev.specs.definitions.Coefficients.{weight}
 use Rattle.chebyshev.specs.laws.Weight.{weight-take, weight-drop}
 use Rattle.chebyshev.specs.definitions.Product.{product}
+use Rattle.chebyshev.specs.definitions.TwoSums.{placesFrom}
+use Rattle.chebyshev.specs.laws.Tabulated.{product-group}
 use Rattle.chebyshev.specs.laws.ProductWeight.{weight-product}
 use Rattle.model.specs.definitions.Models.{scale, productSize}
 use Rattle.certificate.specs.definitions.Groups.{group}
@@ -36,6 +38,13 @@ module _ (c : tie.After-window) where
   abbrev own : List ℤ
   own = c .window .result .now
 
+  G-is : G ≡ group n (s .args .start) (product ℤ-ring productSize (s .args .a .now) (s .args .b .now))
+  G-is =
+      let e : min n (productSize - s .args .start) ≡ n = omega (arith, s .pre .2) in
+      c .before .before .before .form .ensures
+      ∙ sym (product-group ℤ-ring productSize n (s .args .start) (s .args .a .now) (s .args .b .now)
+      ∙ ap (λ (m : ℕ). placesFrom ℤ-ring m (s .args .start) (s .args .a .now) (s .args .b .now)) e)
+
   length-G : length G ≡ n
   length-G = c .before .before .before .form .kept .0
 
@@ -50,7 +59,7 @@ module _ (c : tie.After-window) where
       let p = product ℤ-ring productSize (s .args .a .now) (s .args .b .now) in
       omega (
         arith,
-        ap weight (c .before .before .before .form .ensures),
+        ap weight G-is,
         weight-group n (s .args .start) p,
         weight-product productSize (s .args .a .now) (s .args .b .now),
         s .pre .0 .weights,
@@ -67,9 +76,9 @@ returns : tie.Need-returns
 returns c =
     let d = c .before .before .before in
     let w = d .before in
-    c .weight .ensures ∙ ap weight (d .subtract .ensures ∙ ap₂ residualList (w .before .before .before .form .ensures) (own-is w))
+    c .weight .ensures ∙ ap weight (d .subtract .ensures ∙ ap₂ residualList (G-is w) (own-is w))
 
 pub group-residual-spec : {M : Type 1} → statement M
 group-residual-spec =
     tie.close (tie.spec
-    (λ c κs. search needs) (λ c κs. search needs) (λ c κs. (own-short c, weights c)) weight-requires (λ c. search needs) returns)
+    (λ c κs. let p = c .before .pre in (p .0 .second-some, p .0 .weights, omega (arith, p .2))) (λ c κs. search needs) (λ c κs. (own-short c, weights c)) weight-requires (λ c. search needs) returns)

@@ -1,22 +1,16 @@
--- Where the sums of a place begin, a place by its three walks, and a group of C by its places.
+-- Where the sums of a place begin, and a place by its three walks.
 use mathlib.Core.Path.{_≡_, sym, _∙_, ap}
 use mathlib.Core.List.{List}
 use Prim.Native.Nat.{ℕ, zero, suc, _+_, _-_, _≤_, _<_}
 use native.Mathlib.Omega.{arith}
 use native.Mathlib.Nat.{le-refl}
 use lib.IntN.{ℤ, pos, _+ℤ_, _*ℤ_, +ℤ-idl}
-use lib.ListN.{length, getD, drop, length-drop}
-use lib.Seq.{length-take-le, getD-take, getD-drop}
+use lib.ListN.{length, getD, drop}
 use Rattle.integer.specs.definitions.Integer.{ℤ-ring}
 use Rattle.chebyshev.specs.definitions.PairSums.{fallingSum, risingSum}
 use Rattle.chebyshev.specs.laws.PairSumLaws.{falling-skip, falling-step, falling-end, two-sums-zero, two-sums-suc}
-use Rattle.chebyshev.specs.definitions.Product.{product}
-use Rattle.chebyshev.specs.laws.ProductLaws.{length-product}
 use Rattle.chebyshev.specs.definitions.TwoSums.{twoSums}
-use Rattle.chebyshev.specs.laws.ProductSums.{product-two-sums}
-use Rattle.model.specs.definitions.Models.{productSize}
-use Rattle.certificate.specs.definitions.Groups.{group}
-use Rattle.certificate.proofs.PairWalks.{no-pair}
+use Rattle.groups.proofs.PairWalks.{no-pair}
 
 module _ (a b : List ℤ) where
   -- ---- where the sums begin
@@ -67,20 +61,3 @@ module _ (a b : List ℤ) where
       g
       ∙ ap (λ v. v +ℤ risingSum ℤ-ring (suc k) a b) (f ∙ ap (λ v. v +ℤ risingSum ℤ-ring (suc k) b a) (e ∙ ap (λ (t : ℕ). fallingSum ℤ-ring t a b) m))
       ∙ sym (two-sums-suc ℤ-ring k a b)
-
-  -- ---- a group of C
-
-  module _ (n start : ℕ) (h : start + n ≤ productSize) where
-    abbrev pub G : List ℤ
-    G = group n start (product ℤ-ring productSize a b)
-
-    pub length-group : length G ≡ n
-    length-group =
-        let c = product ℤ-ring productSize a b in
-        length-take-le n (drop start c) (omega (arith, length-drop start c, length-product ℤ-ring productSize a b))
-
-    pub at-group : (t k : ℕ) → t < n → k ≡ start + t → twoSums ℤ-ring k a b ≡ getD G t (pos 0)
-    at-group t k l e =
-        let c = product ℤ-ring productSize a b in
-        ap (λ (m : ℕ). twoSums ℤ-ring m a b) e
-        ∙ sym (getD-take n (drop start c) t (pos 0) l ∙ getD-drop start c t (pos 0) ∙ product-two-sums ℤ-ring productSize a b (start + t) (omega arith))

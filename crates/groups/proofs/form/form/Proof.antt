@@ -1,26 +1,23 @@
--- `places::form` meets its contract: each turn writes two places of the group, or the last one.
+-- `form::form` meets its contract: each turn writes two places of the group, or the last one.
 use borrow.Author.Needs.{needs}
-use mathlib.Core.Path.{_≡_, refl, _∙_}
+use mathlib.Core.Path.{_≡_, refl, sym, _∙_, ap}
 use mathlib.Core.List.{List}
 use Prim.Native.Nat.{ℕ, _+_, _-_, _<_}
 use native.Mathlib.Omega.{arith}
 use lib.IntN.{ℤ, pos}
-use lib.ListN.{length, set, length-set}
+use lib.ListN.{length, getD, set, length-set}
 use mir.Syntax.{w64}
 use mir.Val.{SFits, toZ, ofZ}
 use mir.Facts.{toZ-ofZ}
 use Rattle.integer.specs.definitions.Integer.{ℤ-ring}
 use Rattle.integer.specs.laws.Filling.{Filling, begins, turn, whole}
-use Rattle.chebyshev.specs.definitions.Product.{product}
-use Rattle.model.specs.definitions.Models.{productSize}
-use Rattle.certificate.specs.definitions.Groups.{group}
-use Rattle.certificate.proofs.PlaceSums.{length-group, at-group}
-use Rattle.certificate.proofs.places.form.Statement.{statement}
-use Rattle.certificate.proofs.places.form.Tie as tie
+use Rattle.chebyshev.specs.definitions.TwoSums.{twoSums, placesFrom}
+use Rattle.chebyshev.specs.laws.Tabulated.{length-tabulate, at-tabulate}
+use Rattle.groups.proofs.form.form.Statement.{statement}
+use Rattle.groups.proofs.form.form.Tie as tie
 
 abbrev Inv-loop : tie.InvT-loop
-Inv-loop part₀ start a b t₀ part t =
-    Filling (group (length part₀) start (product ℤ-ring productSize a b)) part₀ part 0 (length part₀) t
+Inv-loop part₀ start a b t₀ part t = Filling (placesFrom ℤ-ring (length part₀) start a b) part₀ part 0 (length part₀) t
 
 abbrev μ-loop : tie.MeasureT-loop
 μ-loop part₀ start a b t₀ part t = length part₀ - t
@@ -28,8 +25,8 @@ abbrev μ-loop : tie.MeasureT-loop
 loop-holds : tie.Need-loop-holds Inv-loop μ-loop
 loop-holds c =
     let p = c .args .part .now in
-    begins (group (length p) (c .args .start) (product ℤ-ring productSize (c .args .a .now) (c .args .b .now))) p 0 (length p)
-    (length-group (c .args .a .now) (c .args .b .now) (length p) (c .args .start) (c .pre .1)) (omega arith)
+    begins (placesFrom ℤ-ring (length p) (c .args .start) (c .args .a .now) (c .args .b .now)) p 0 (length p)
+    (length-tabulate (length p) (λ k. twoSums ℤ-ring (c .args .start + k) (c .args .a .now) (c .args .b .now))) (omega arith)
 
 -- in a turn
 module _ (c : tie.After-two-places Inv-loop μ-loop) where
@@ -46,7 +43,12 @@ module _ (c : tie.After-two-places Inv-loop μ-loop) where
   t = l .loop .t
 
   abbrev G : List ℤ
-  G = group n (s .args .start) (product ℤ-ring productSize (s .args .a .now) (s .args .b .now))
+  G = placesFrom ℤ-ring n (s .args .start) (s .args .a .now) (s .args .b .now)
+
+  at-place : (i k : ℕ) → i < n → k ≡ s .args .start + i → twoSums ℤ-ring k (s .args .a .now) (s .args .b .now) ≡ getD G i (pos 0)
+  at-place i k h e =
+      let place : ℕ → ℤ = λ k. twoSums ℤ-ring k (s .args .a .now) (s .args .b .now) in
+      ap place e ∙ sym (at-tabulate n (λ i. place (s .args .start + i)) i (pos 0) h)
 
   abbrev x : ℤ
   x = c .two-places .result .first
@@ -63,12 +65,12 @@ module _ (c : tie.After-two-places Inv-loop μ-loop) where
   one : Filling G (s .args .part .now) (set (l .loop .part) t x) 0 n (t + 1)
   one =
       turn t x (pos 0) (l .loop .inv) (omega arith) (omega arith)
-      (c .two-places .ensures .0 ∙ at-group (s .args .a .now) (s .args .b .now) n (s .args .start) (s .pre .1) t (s .args .start + t) (omega arith) refl)
+      (c .two-places .ensures .0 ∙ at-place t (s .args .start + t) (omega arith) refl)
 
   both : t + 1 < n → Filling G (s .args .part .now) (set (set (l .loop .part) t x) (t + 1) y) 0 n (t + 1 + 1)
   both h =
       turn (t + 1) y (pos 0) one h (omega arith)
-      (c .two-places .ensures .1 ∙ at-group (s .args .a .now) (s .args .b .now) n (s .args .start) (s .pre .1) (t + 1) (s .args .start + t + 1) h (omega arith))
+      (c .two-places .ensures .1 ∙ at-place (t + 1) (s .args .start + t + 1) h (omega arith))
 
 loop-again : tie.Need-loop-again Inv-loop μ-loop
 loop-again c =
@@ -82,8 +84,8 @@ loop-again-2 c = let d = c .before .before in simp (toZ-ofZ (fits-first d)) (one
 pub form-spec : {M : Type 1} → statement M
 form-spec =
     tie.close (tie.spec
-    Inv-loop μ-loop loop-holds (λ c. let s = c .before .before in omega (arith, s .pre .1))
-    (λ c κs. let s = c .before .before in (s .pre .0 .second-some, omega (arith, s .pre .1), s .pre .0 .weights)) (λ c. search needs)
+    Inv-loop μ-loop loop-holds (λ c. let s = c .before .before in omega (arith, s .pre))
+    (λ c κs. let s = c .before .before in (s .pre .0, omega (arith, s .pre), s .pre .1)) (λ c. search needs)
     (λ c. let l = c .before .before .before in omega (arith, l .loop .inv .same)) (λ c. search needs) (λ c. search needs)
     (λ c. search needs) (λ c. search needs) (λ c. omega arith) loop-again (λ c. omega arith) loop-again-2
     (λ c. c .before .loop .inv .same) (λ c. whole (c .before .loop .inv) (omega arith) refl))

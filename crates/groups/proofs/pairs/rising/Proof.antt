@@ -1,9 +1,9 @@
--- `places::rising` meets its contract.
+-- `pairs::rising` meets its contract.
 use borrow.Author.Needs.{needs}
 use native.Mathlib.Omega.{arith}
-use Rattle.certificate.proofs.PairWalks.{rising-none}
-use Rattle.certificate.proofs.places.rising.Statement.{statement}
-use Rattle.certificate.proofs.places.rising.Tie as tie
+use Rattle.groups.proofs.RisingWalk.{rising-none}
+use Rattle.groups.proofs.pairs.rising.Statement.{statement}
+use Rattle.groups.proofs.pairs.rising.Tie as tie
 
 returns-2 : tie.Need-returns-2
 returns-2 c = let s = c .before in rising-none (s .args .a .now) (s .args .b .now) (s .args .k) (s .args .sums) (omega arith)

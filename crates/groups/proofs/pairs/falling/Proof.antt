@@ -1,4 +1,4 @@
--- `places::falling` meets its contract: the sums begin where b has an element.
+-- `pairs::falling` meets its contract: the sums begin where b has an element.
 use borrow.Author.Needs.{needs}
 use mathlib.Core.Path.{_≡_, _∙_, ap}
 use mathlib.Core.List.{List}
@@ -13,11 +13,11 @@ use mir.Facts.{toZ-ofZ}
 use Rattle.integer.specs.laws.Parts.{abs-add, abs-mul}
 use Rattle.chebyshev.specs.definitions.Coefficients.{weight}
 use Rattle.chebyshev.specs.laws.Weight.{weight-at}
-use Rattle.certificate.specs.definitions.InnerContracts.{Are}
-use Rattle.certificate.proofs.PairWalks.{no-pair}
-use Rattle.certificate.proofs.PlaceSums.{from-zero, first-from, second-from, none-from}
-use Rattle.certificate.proofs.places.falling.Statement.{statement}
-use Rattle.certificate.proofs.places.falling.Tie as tie
+use Rattle.groups.specs.definitions.InnerContracts.{Are}
+use Rattle.groups.proofs.PairWalks.{no-pair}
+use Rattle.groups.proofs.PlaceSums.{from-zero, first-from, second-from, none-from}
+use Rattle.groups.proofs.pairs.falling.Statement.{statement}
+use Rattle.groups.proofs.pairs.falling.Tie as tie
 
 returns : tie.Need-returns
 returns c =

@@ -1,4 +1,4 @@
-// A group of places of the list C, two places at a time, each summed over the pairs that belong to it.
+// Sums of products over the pairs that belong to a place of the list C, for two places at a time.
 ghost use mathlib.Core.Path.{_≡_};
 ghost use Prim.Native.Nat.{_+_, _-_, _*_, _≤_, _<_, _^_};
 ghost use lib.IntN.{_+ℤ_, _*ℤ_};
@@ -6,11 +6,7 @@ ghost use lib.ListN.{length, drop};
 ghost use Rattle.integer.specs.definitions.Integer.{ℤ-ring};
 ghost use Rattle.chebyshev.specs.definitions.Coefficients.{weight};
 ghost use Rattle.chebyshev.specs.definitions.PairSums.{fallingSum, risingSum};
-ghost use Rattle.chebyshev.specs.definitions.Product.{product};
-ghost use Rattle.chebyshev.specs.definitions.TwoSums.{twoSums};
-ghost use Rattle.model.specs.definitions.Models.{productSize};
-ghost use Rattle.certificate.specs.definitions.Groups.{group};
-ghost use Rattle.certificate.specs.definitions.InnerContracts.{Factors, Below, Are};
+ghost use Rattle.groups.specs.definitions.InnerContracts.{Below, Are};
 use crate::lengths::least;
 
 // The numbers at places k and k+1 of C, or what is summed of them.
@@ -52,7 +48,7 @@ fn add_falling(sums: TwoPlaces, a: &[i32], b: &[i32], k: usize, from: usize) -> 
 }
 
 // Σ a_i·b_j over i+j = k and over i+j = k+1.
-fn falling(a: &[i32], b: &[i32], k: usize) -> TwoPlaces
+pub(crate) fn falling(a: &[i32], b: &[i32], k: usize) -> TwoPlaces
     requires { ⌜ (0 < length (now b)) × (k + 1 < 2 ^ 64) × (weight (now a) * weight (now b) ≤ 2 ^ 56) ⌝ }
     ensures { λ (r : TwoPlaces).
         ⌜ Are r (fallingSum ℤ-ring (k + 1) (now (a .entry)) (now (b .entry)))
@@ -96,7 +92,7 @@ fn add_rising(sums: TwoPlaces, a: &[i32], b: &[i32], k: usize) -> TwoPlaces
 }
 
 // The same for every k.
-fn rising(sums: TwoPlaces, a: &[i32], b: &[i32], k: usize) -> TwoPlaces
+pub(crate) fn rising(sums: TwoPlaces, a: &[i32], b: &[i32], k: usize) -> TwoPlaces
     requires { ⌜ Below (2 ^ 61) sums × (weight (now a) * weight (now b) ≤ 2 ^ 56) ⌝ }
     ensures { λ (r : TwoPlaces).
         ⌜ Are r (sums .first +ℤ risingSum ℤ-ring k (now (a .entry)) (now (b .entry)))
@@ -106,43 +102,4 @@ fn rising(sums: TwoPlaces, a: &[i32], b: &[i32], k: usize) -> TwoPlaces
         return add_rising(sums, a, b, k);
     }
     sums
-}
-
-// C_k and C_(k+1). At place 0 the pairs with i-j = 0 and with j-i = 0 are the same and count once.
-fn two_places(a: &[i32], b: &[i32], k: usize) -> TwoPlaces
-    requires { ⌜ (0 < length (now b)) × (k + 1 < 2 ^ 64) × (weight (now a) * weight (now b) ≤ 2 ^ 56) ⌝ }
-    ensures { λ (r : TwoPlaces).
-        ⌜ Are r (twoSums ℤ-ring k (now (a .entry)) (now (b .entry))) (twoSums ℤ-ring (k + 1) (now (a .entry)) (now (b .entry))) ⌝ }
-{
-    let x = falling(a, b, k);
-    let y = rising(x, b, a, k);
-    let z = rising(y, a, b, k);
-    if k == 0 {
-        return TwoPlaces {
-            first: y.first,
-            second: z.second,
-        };
-    }
-    z
-}
-
-// The places of C(a, b) from `start` on, as many as the part has numbers.
-pub(crate) fn form(part: &mut [i64], start: usize, a: &[i32], b: &[i32])
-    requires { ⌜ Factors (now a) (now b) × (start + length (now part) ≤ productSize) ⌝ }
-    ensures { λ _.
-        ⌜ now (part .exit)
-        ≡ group (length (now (part .entry))) start (product ℤ-ring productSize (now (a .entry)) (now (b .entry))) ⌝ }
-{
-    let mut t = 0;
-    while t < part.len() {
-        let two = two_places(a, b, start + t);
-        let first = two.first;
-        part[t] = first;
-        t += 1;
-        if t < part.len() {
-            let second = two.second;
-            part[t] = second;
-            t += 1;
-        }
-    }
 }

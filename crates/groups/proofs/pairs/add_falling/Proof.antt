@@ -1,4 +1,4 @@
--- `places::add_falling` meets its contract: a turn is that of the walk (PairWalks.antt).
+-- `pairs::add_falling` meets its contract: a turn is that of the walk (FallingWalk.antt).
 use mathlib.Core.Path.{refl}
 use mathlib.Core.List.{List}
 use Prim.Native.Nat.{ℕ, _+_, _-_, _^_}
@@ -9,10 +9,10 @@ use mir.Syntax.{w32}
 use mir.Val.{SFits}
 use mir.Facts.{toZ-ofZ}
 use Rattle.integer.specs.laws.Machine.{signed-needs}
-use Rattle.certificate.specs.definitions.InnerContracts.{Below}
-use Rattle.certificate.proofs.PairWalks.{Falling, falling-below, falling-turn, falling-ends, falling-last}
-use Rattle.certificate.proofs.places.add_falling.Statement.{statement}
-use Rattle.certificate.proofs.places.add_falling.Tie as tie
+use Rattle.groups.specs.definitions.InnerContracts.{Below}
+use Rattle.groups.proofs.FallingWalk.{Falling, falling-below, falling-turn, falling-ends, falling-last}
+use Rattle.groups.proofs.pairs.add_falling.Statement.{statement}
+use Rattle.groups.proofs.pairs.add_falling.Tie as tie
 
 abbrev Inv-loop : tie.InvT-loop
 Inv-loop a b k from end total₀ i₀ total i = Falling a b k from total₀ total i

@@ -1,4 +1,4 @@
--- `places::add_rising` meets its contract: a turn is that of the walk (PairWalks.antt).
+-- `pairs::add_rising` meets its contract: a turn is that of the walk (RisingWalk.antt).
 use mathlib.Core.Path.{_≡_}
 use mathlib.Core.List.{List}
 use Prim.Native.Nat.{ℕ, _+_, _-_, _^_, _≤_, _<_}
@@ -9,10 +9,10 @@ use mir.Syntax.{w32}
 use mir.Val.{SFits}
 use mir.Facts.{toZ-ofZ}
 use Rattle.integer.specs.laws.Machine.{signed-needs}
-use Rattle.certificate.specs.definitions.InnerContracts.{Below}
-use Rattle.certificate.proofs.PairWalks.{Rising, rising-begins, rising-below, rising-turn, rising-ends, rising-last}
-use Rattle.certificate.proofs.places.add_rising.Statement.{statement}
-use Rattle.certificate.proofs.places.add_rising.Tie as tie
+use Rattle.groups.specs.definitions.InnerContracts.{Below}
+use Rattle.groups.proofs.RisingWalk.{Rising, rising-begins, rising-below, rising-turn, rising-ends, rising-last}
+use Rattle.groups.proofs.pairs.add_rising.Statement.{statement}
+use Rattle.groups.proofs.pairs.add_rising.Tie as tie
 
 abbrev Inv-loop : tie.InvT-loop
 Inv-loop a b k end total₀ i₀ total i = (i ≤ end) × Rising a b k total₀ total i

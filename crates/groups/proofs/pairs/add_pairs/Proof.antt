@@ -1,4 +1,4 @@
--- `places::add_pairs` meets its contract: a sum below 2^62 and a product of two 32-bit numbers fit 64 bits.
+-- `pairs::add_pairs` meets its contract: a sum below 2^62 and a product of two 32-bit numbers fit 64 bits.
 use borrow.Author.Needs.{needs}
 use mathlib.Core.Path.{_≡_}
 use Prim.Native.Nat.{_*_, _≤_, _<_, _^_}
@@ -9,8 +9,8 @@ use mir.Val.{SFits, toZ, ofZ}
 use mir.Facts.{toZ-ofZ}
 use Rattle.integer.specs.laws.Parts.{abs, apart, abs-add, mul-within}
 use Rattle.integer.specs.laws.Machine.{signed-needs, within, abs-fits, fits-widens}
-use Rattle.certificate.proofs.places.add_pairs.Statement.{statement}
-use Rattle.certificate.proofs.places.add_pairs.Tie as tie
+use Rattle.groups.proofs.pairs.add_pairs.Statement.{statement}
+use Rattle.groups.proofs.pairs.add_pairs.Tie as tie
 
 small : (z : ℤ) → SFits w32 z → natAbs z ≤ 2 ^ 31
 small z f = omega (arith, abs z, apart z, within w32 z f)

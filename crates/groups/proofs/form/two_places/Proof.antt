@@ -1,4 +1,4 @@
--- `places::two_places` meets its contract: each place by its three walks.
+-- `form::two_places` meets its contract: each place by its three walks.
 use borrow.Author.Needs.{needs}
 use mathlib.Core.Path.{_≡_, _∙_, ap}
 use mathlib.Core.List.{List}
@@ -14,10 +14,10 @@ use Rattle.chebyshev.specs.definitions.Coefficients.{weight}
 use Rattle.chebyshev.specs.definitions.PairSums.{fallingSum, risingSum}
 use Rattle.chebyshev.specs.laws.PairSumLaws.{falling-small, rising-small}
 use Rattle.chebyshev.specs.definitions.TwoSums.{twoSums}
-use Rattle.certificate.specs.definitions.InnerContracts.{Below}
-use Rattle.certificate.proofs.PlaceSums.{place-zero, place-positive}
-use Rattle.certificate.proofs.places.two_places.Statement.{statement}
-use Rattle.certificate.proofs.places.two_places.Tie as tie
+use Rattle.groups.specs.definitions.InnerContracts.{Below}
+use Rattle.groups.proofs.PlaceSums.{place-zero, place-positive}
+use Rattle.groups.proofs.form.two_places.Statement.{statement}
+use Rattle.groups.proofs.form.two_places.Tie as tie
 
 module _ (c : tie.After-falling) where
   abbrev a : List ℤ

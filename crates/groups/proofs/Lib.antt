@@ -1,0 +1,4 @@
+pub mod PairWalks
+pub mod FallingWalk
+pub mod RisingWalk
+pub mod PlaceSums
