@@ -15,11 +15,11 @@ use Rattle.model.specs.laws.ModelLaws.{good-is}
 use Rattle.model.specs.definitions.Multiply.{productList}
 use Rattle.model.specs.laws.GoodLaws.{length-terms, weight-terms, weight-productList}
 use Rattle.model.specs.declared.types.Model.{Model}
-use Rattle.certificate.specs.definitions.InnerContracts.{residualList, Factors, Subtrahend, Ready}
+use Rattle.certificate.specs.definitions.InnerContracts.{residualList, ProductTerms, Subtrahend, Ready}
 use Rattle.certificate.specs.laws.ResidualLaws.{weight-residual, weight-residual-take, weight-constant}
 
 -- every model of the code has 33 coefficients
-pub terms-some : (m : Model) → length (m .coefficients) ≡ coefficientCount → 0 < length (terms m)
+terms-some : (m : Model) → length (m .coefficients) ≡ coefficientCount → 0 < length (terms m)
 terms-some m l = omega (arith, length-take (suc (m .degree)) (m .coefficients))
 
 residual-range : {part : List ℤ} {a b : Model} → Ready part a b → (f : List ℤ) → weight f ≤ maxWeight
@@ -33,7 +33,7 @@ constant n h = record { short = omega arith; weight-fits = omega arith }
 
 -- x and y are the terms of a and b
 module _ {part : List ℤ} {a b : Model} (r : Ready part a b) {x y : List ℤ} (ex : x ≡ terms a) (ey : y ≡ terms b) where
-  pub factors : length (a .coefficients) ≡ coefficientCount → length (b .coefficients) ≡ coefficientCount → Factors x y
+  pub factors : length (a .coefficients) ≡ coefficientCount → length (b .coefficients) ≡ coefficientCount → ProductTerms x y
   factors la lb =
       let ha = r .first-good in
       let hb = r .second-good in record {

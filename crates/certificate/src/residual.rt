@@ -2,16 +2,16 @@
 // 1; a group is weighed before the next one is formed.
 ghost use mathlib.Core.Path.{_≡_};
 ghost use Prim.Native.Nat.{_+_, _*_, _≤_, _<_, _^_};
-ghost use lib.ListN.{length, take, drop};
+ghost use lib.ListN.{length};
 ghost use Rattle.integer.specs.definitions.Integer.{ℤ-ring};
 ghost use Rattle.chebyshev.specs.definitions.Coefficients.{weight as weightOf};
 ghost use Rattle.chebyshev.specs.definitions.Product.{product};
-ghost use Rattle.model.specs.definitions.Models.{scale, productSize, maxWeight};
+ghost use Rattle.model.specs.definitions.Models.{scale, productSize};
 ghost use Rattle.certificate.specs.definitions.Groups.{group};
-ghost use Rattle.certificate.specs.definitions.InnerContracts.{residualList, groupResidual, Factors, Subtrahend};
+ghost use Rattle.certificate.specs.definitions.InnerContracts.{residualList, groupResidual, ProductTerms, Subtrahend};
 use groups::form::form;
-use groups::lengths::greatest;
-use groups::lengths::least;
+use groups::lengths::max;
+use groups::lengths::min;
 use integer::absolute::magnitude;
 use model::types::Model;
 
@@ -61,7 +61,7 @@ fn window(f: &[i32], start: usize, count: usize) -> &[i32]
 
 // The weight of C(a, b) - 2S f over a group: as many places from `start` on as the part has numbers.
 fn group_residual(part: &mut [i64], start: usize, a: &[i32], b: &[i32], f: &[i32]) -> u64
-    requires { ⌜ Factors (now a) (now b) × Subtrahend (now f) × (start + length (now part) ≤ productSize) ⌝ }
+    requires { ⌜ ProductTerms (now a) (now b) × Subtrahend (now f) × (start + length (now part) ≤ productSize) ⌝ }
     ensures { λ r.
         ⌜ r ≡ groupResidual (length (now (part .entry))) start (product ℤ-ring productSize (now (a .entry)) (now (b .entry)))
         (now (f .entry)) ⌝ }
@@ -73,15 +73,15 @@ fn group_residual(part: &mut [i64], start: usize, a: &[i32], b: &[i32], f: &[i32
 
 // The weight of C(a, b) - 2S f, group by group up to where C and f have ended.
 pub(crate) fn residual(part: &mut [i64], a: &[i32], b: &[i32], f: &[i32]) -> u64
-    requires { ⌜ (0 < length (now part)) × Factors (now a) (now b) × Subtrahend (now f) ⌝ }
+    requires { ⌜ (0 < length (now part)) × ProductTerms (now a) (now b) × Subtrahend (now f) ⌝ }
     ensures { λ r.
         ⌜ r ≡ weightOf (residualList (product ℤ-ring productSize (now (a .entry)) (now (b .entry))) (now (f .entry))) ⌝ }
 {
-    let end = greatest(a.len() + b.len() - 1, f.len());
+    let end = max(a.len() + b.len() - 1, f.len());
     let mut sum: u64 = 0;
     let mut start = 0;
     while start < end {
-        let n = least(part.len(), end - start);
+        let n = min(part.len(), end - start);
         sum += group_residual(&mut part[..n], start, a, b, f);
         start += n;
     }

@@ -10,7 +10,7 @@ pub mod NeighbourLaws
 pub mod ProductWeight
 pub mod ProductEnd
 pub mod ProductSums
-pub mod PairSumLaws
+pub mod ConvolutionLaws
 pub mod Tabulated
 pub mod NegationLaws
 pub mod NegationValues

@@ -1,4 +1,4 @@
 pub mod PairWalks
-pub mod FallingWalk
-pub mod RisingWalk
+pub mod ConvolutionWalk
+pub mod CorrelationWalk
 pub mod PlaceSums

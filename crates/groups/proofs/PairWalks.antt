@@ -10,7 +10,7 @@ use Rattle.integer.specs.definitions.Integer.{ℤ-ring}
 use Rattle.integer.specs.laws.Parts.{sum, abs, apart, abs-add}
 use Rattle.chebyshev.specs.definitions.Coefficients.{weight}
 use Rattle.chebyshev.specs.laws.Weight.{weight-drop}
-use Rattle.chebyshev.specs.laws.PairSumLaws.{mul-zero}
+use Rattle.chebyshev.specs.laws.ConvolutionLaws.{mul-zero}
 
 -- a pair p goes from what is left to what is summed
 pub step : (s p r l T s' : ℤ) → s +ℤ l ≡ T → l ≡ p +ℤ r → s' ≡ s +ℤ p → s' +ℤ r ≡ T

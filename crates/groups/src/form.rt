@@ -7,8 +7,8 @@ ghost use Rattle.chebyshev.specs.definitions.Coefficients.{weight};
 ghost use Rattle.chebyshev.specs.definitions.TwoSums.{twoSums, placesFrom};
 ghost use Rattle.groups.specs.definitions.InnerContracts.{Are};
 use crate::pairs::TwoPlaces;
-use crate::pairs::falling;
-use crate::pairs::rising;
+use crate::pairs::add_correlations;
+use crate::pairs::convolutions;
 
 // C_k and C_(k+1). At place 0 the pairs with i-j = 0 and with j-i = 0 are the same and count once.
 fn two_places(a: &[i32], b: &[i32], k: usize) -> TwoPlaces
@@ -17,9 +17,9 @@ fn two_places(a: &[i32], b: &[i32], k: usize) -> TwoPlaces
         ⌜ Are r (twoSums ℤ-ring k (now (a .entry)) (now (b .entry)))
         (twoSums ℤ-ring (k + 1) (now (a .entry)) (now (b .entry))) ⌝ }
 {
-    let x = falling(a, b, k);
-    let y = rising(x, b, a, k);
-    let z = rising(y, a, b, k);
+    let x = convolutions(a, b, k);
+    let y = add_correlations(x, b, a, k);
+    let z = add_correlations(y, a, b, k);
     if k == 0 {
         return TwoPlaces {
             first: y.first,

@@ -1,15 +1,15 @@
 // The smaller and the larger of two lengths.
 ghost use mathlib.Core.Path.{_≡_};
-ghost use Prim.Native.Nat.{min, max};
+ghost use Prim.Native.Nat.{min as least, max as greatest};
 
-pub fn least(m: usize, n: usize) -> usize
-    ensures { λ r. ⌜ r ≡ min m n ⌝ }
+pub fn min(m: usize, n: usize) -> usize
+    ensures { λ r. ⌜ r ≡ least m n ⌝ }
 {
     if m < n { m } else { n }
 }
 
-pub fn greatest(m: usize, n: usize) -> usize
-    ensures { λ r. ⌜ r ≡ max m n ⌝ }
+pub fn max(m: usize, n: usize) -> usize
+    ensures { λ r. ⌜ r ≡ greatest m n ⌝ }
 {
     if m < n { n } else { m }
 }

@@ -20,8 +20,8 @@ use Rattle.certificate.specs.declared.types.RootNumbers.the-variants.{Re
 
 -- ---- what is asked
 
--- two lists of coefficients whose list C is formed, of at most 33 numbers each, as good models have
-pub record Factors (a b : List ℤ) : Type 0 where
+-- the terms of two good models, whose list C is formed
+pub record ProductTerms (a b : List ℤ) : Type 0 where
   pub first-some : 0 < length a
   pub second-some : 0 < length b
   pub whole : length a + length b ≤ suc productSize

@@ -59,8 +59,12 @@ quotientPlaces len f g h w = scratchPlace scratchSize len ∷ quotientPlacesBehi
 abbrev pub quotientCertificate : Model → Model → Model → Model → Certificate
 quotientCertificate f g h w = quotientCertificateFor (quotientContraction g w) (quotientResidual f g h) h w
 
-unfoldable pub quotientOutcome : ℕ → Model → Model → Model → Model → Outcome Certificate
-quotientOutcome len f g h w = quotientFor scratchSize len (quotientContraction g w) (quotientResidual f g h) f g h w
+unfoldable pub quotientNeeding : ℕ → ℕ → Model → Model → Model → Model → Outcome Certificate
+quotientNeeding need len f g h w = quotientFor need len (quotientContraction g w) (quotientResidual f g h) f g h w
+
+-- 02, S-17: "Number 1 is now given below 16". In 01 it was given below 65.
+abbrev pub quotientOutcome : ℕ → Model → Model → Model → Model → Outcome Certificate
+quotientOutcome len f g h w = quotientNeeding scratchSize len f g h w
 
 -- the entry's definition. "A candidate is a model without a radius (taken as 0)."
 abbrev pub quotientTest : ℕ → Model → Model → Candidate → Candidate → Outcome Certificate

@@ -39,9 +39,6 @@ abbrev pub rootPlacesFor : ℕ → ℕ → Model → Model → Model → List (B
 rootPlacesFor m n f h w =
     badPlace f ∷ badPlace h ∷ badPlace w ∷ (leZ (coefficientSum (w .coefficients)) (pos 0), 7) ∷ testPlaces m n
 
-unfoldable pub rootPlaces : ℕ → Model → Model → Model → List (Bool × ℕ)
-rootPlaces len f h w = scratchPlace scratchSize len ∷ rootPlacesFor (rootContraction h w) (rootResidual f h) f h w
-
 -- behind them 8, "(S−m)² < 8·b·M", and the result; M is the weight of w
 abbrev pub negativeDiscriminant : ℕ → ℕ → ℕ → Bool
 negativeDiscriminant m b M = ltb ((scale - m) * (scale - m)) (8 * b * M)
@@ -66,20 +63,27 @@ rootFor rule need len m n f h w =
     outcome (scratchPlace need len ∷ (rootPlacesFor m n f h w ++ rootRulePlaces rule m n h w)) (rootCertificateFor rule m n h w)
     zeroCertificate
 
+-- through N, which every root command shares, and all
+unfoldable pub rootPlaces : ℕ → Model → Model → Model → List (Bool × ℕ)
+rootPlaces len f h w = scratchPlace scratchSize len ∷ rootPlacesFor (rootContraction h w) (rootResidual f h) f h w
+
+abbrev pub rootTestPlaces : RootRule → ℕ → Model → Model → Model → List (Bool × ℕ)
+rootTestPlaces rule len f h w = rootPlaces len f h w ++ rootRulePlaces rule (rootContraction h w) (rootResidual f h) h w
+
 abbrev pub rootPlacesBehind : RootRule → Model → Model → Model → List (Bool × ℕ)
 rootPlacesBehind rule f h w =
     let m = rootContraction h w in
     let n = rootResidual f h in
     rootPlacesFor m n f h w ++ rootRulePlaces rule m n h w
 
-abbrev pub rootTestPlaces : RootRule → ℕ → Model → Model → Model → List (Bool × ℕ)
-rootTestPlaces rule len f h w = rootPlaces len f h w ++ rootRulePlaces rule (rootContraction h w) (rootResidual f h) h w
-
 abbrev pub rootCertificate : RootRule → Model → Model → Model → Certificate
 rootCertificate rule f h w = rootCertificateFor rule (rootContraction h w) (rootResidual f h) h w
 
-unfoldable pub rootOutcome : RootRule → ℕ → Model → Model → Model → Outcome Certificate
-rootOutcome rule len f h w = outcome (rootTestPlaces rule len f h w) (rootCertificate rule f h w) zeroCertificate
+unfoldable pub rootNeeding : RootRule → ℕ → ℕ → Model → Model → Model → Outcome Certificate
+rootNeeding rule need len f h w = rootFor rule need len (rootContraction h w) (rootResidual f h) f h w
+
+abbrev pub rootOutcome : RootRule → ℕ → Model → Model → Model → Outcome Certificate
+rootOutcome rule len f h w = rootNeeding rule scratchSize len f h w
 
 -- the entry's definition. "A candidate is a model without a radius (taken as 0)."
 abbrev pub rootTest : ℕ → Model → Candidate → Candidate → Outcome Certificate

@@ -11,8 +11,8 @@ use Rattle.model.specs.definitions.Outcomes.{accepted, refused, passing}
 use Rattle.model.specs.declared.types.Model.{Model}
 use Rattle.model.specs.definitions.Multiply.{productList}
 use Rattle.certificate.specs.definitions.Tests.{makeCertificate, zeroCertificate, displacement}
-use Rattle.certificate.specs.definitions.Root.{byDiscriminant, rootOutcome, rootPlaces, rootContraction, rootResidual, rootModel}
-use Rattle.certificate.specs.definitions.Quotient.{quotientOutcome, quotientContraction, quotientResidual, quotientModel}
+use Rattle.certificate.specs.definitions.Root.{byDiscriminant, rootOutcome, rootNeeding, rootPlaces, rootContraction, rootResidual, rootModel}
+use Rattle.certificate.specs.definitions.Quotient.{quotientOutcome, quotientNeeding, quotientContraction, quotientResidual, quotientModel}
 
 abbrev h : Model
 h = constantModel (pos 2097152)
@@ -31,5 +31,5 @@ Benchmarks =
     × (rootOutcome byDiscriminant 16 (constantModel (pos 1048576)) h w ≡ refused 8 zeroCertificate)
 
 pub benchmarks : Benchmarks
-unfolding quotientOutcome rootOutcome rootPlaces quotientContraction quotientResidual quotientModel rootContraction rootResidual rootModel displacement coefficientSum productList passing good tooLarge constantModel zeroModel weight addLists subtractLists scaleList addAt addPair addTerm addTerms product upℕ
+unfolding quotientNeeding rootNeeding rootPlaces quotientContraction quotientResidual quotientModel rootContraction rootResidual rootModel displacement coefficientSum productList passing good tooLarge constantModel zeroModel weight addLists subtractLists scaleList addAt addPair addTerm addTerms product upℕ
 benchmarks = (refl, refl, refl, refl)

@@ -4,7 +4,7 @@ use mathlib.Core.List.{List, [], _∷_}
 use Prim.Native.Nat.{ℕ, zero, suc, _+_, _*_, _≤_, _<_, max}
 use native.Mathlib.Omega.{arith}
 use lib.IntN.{ℤ}
-use lib.ListN.{length, take, drop, drop-of-length-le}
+use lib.ListN.{length, drop, drop-of-length-le}
 use lib.Seq.{drop-drop}
 use Rattle.integer.specs.definitions.Integer.{ℤ-ring}
 use Rattle.integer.specs.laws.RoundingLaws.{le-upℕ}
@@ -17,7 +17,7 @@ use Rattle.model.specs.definitions.Models.{productSize}
 use Rattle.certificate.specs.definitions.Groups.{group, productGroup, weightInGroups, groupCount, constantInGroups, differenceInGroups}
 
 -- a group of C is that of the whole list
-pub group-is : (n s : ℕ) (a b : List ℤ) → productGroup n s a b ≡ group n s (product ℤ-ring productSize a b)
+group-is : (n s : ℕ) (a b : List ℤ) → productGroup n s a b ≡ group n s (product ℤ-ring productSize a b)
 unfolding productGroup
 group-is n s a b = sym (product-group ℤ-ring productSize n s a b)
 

@@ -32,7 +32,7 @@ module _ (c f : List ℤ) where
       rw (length-scale ℤ-ring (pos (2 * scale)) f) at (subtract-split ℤ-ring c (scaleList ℤ-ring (pos (2 * scale)) f) (omega (arith, length-scale ℤ-ring (pos (2 * scale)) f)))
 
 -- n places, and the rest
-pub weight-residual-split : (c f : List ℤ) (n : ℕ) → weight (residualList c f) ≡ weight (residualList (take n c) (take n f)) + weight (residualList (drop n c) (drop n f))
+weight-residual-split : (c f : List ℤ) (n : ℕ) → weight (residualList c f) ≡ weight (residualList (take n c) (take n f)) + weight (residualList (drop n c) (drop n f))
 weight-residual-split c f n =
     weight-subtract-split n c (scaleList ℤ-ring (pos (2 * scale)) f)
     ∙ ap₂ (λ k l. weight (subtractLists ℤ-ring (take n c) k) + weight (subtractLists ℤ-ring (drop n c) l))
@@ -47,7 +47,7 @@ residual-group c f start n =
     ∙ ap₂ (λ k l. weight (residualList (group n start c) (group n start f)) + weight (residualList k l)) (drop-drop n start c) (drop-drop n start f)
 
 -- zeros of f do not count
-pub weight-residual-none : (c f : List ℤ) → weight f ≡ 0 → weight (residualList c f) ≡ weight c
+weight-residual-none : (c f : List ℤ) → weight f ≡ 0 → weight (residualList c f) ≡ weight c
 weight-residual-none c f e = weight-subtract-none c (scaleList ℤ-ring (pos (2 * scale)) f) (omega (arith, weight-scale (pos (2 * scale)) f, e))
 
 -- nor do those behind its first n places

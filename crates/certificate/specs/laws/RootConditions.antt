@@ -16,7 +16,7 @@ use Rattle.model.specs.definitions.Outcomes.{accepted, Passed}
 use Rattle.model.specs.laws.PlaceLaws.{outcome-passed, outcome-accepted, not-of-true, passed-append}
 use Rattle.model.specs.declared.types.Model.{Model}
 use Rattle.certificate.specs.definitions.Tests.{scratchSize, displacement, Certificate, zeroCertificate}
-use Rattle.certificate.specs.definitions.Root.{rootPlaces, rootLastPlaces, rootModel, rootContraction, rootResidual, byDiscriminant, rootTestPlaces, rootCertificate, rootOutcome}
+use Rattle.certificate.specs.definitions.Root.{rootPlaces, rootLastPlaces, rootModel, rootContraction, rootResidual, byDiscriminant, rootTestPlaces, rootCertificate, rootOutcome, rootNeeding}
 
 -- b and the result of the test
 abbrev pub rootDisplacement : Model → Model → Model → ℕ
@@ -74,7 +74,7 @@ module _ (len : ℕ) (f h w : Model) where
   -- accepted exactly where these hold, with model, m, N and b of the test
   pub root-passes : {c : Certificate} → rootOutcome byDiscriminant len f h w ≡ accepted c
       → RootConditions len f h w × (tooLarge (rootResult f h w) ≡ false) × (c ≡ rootCertificate byDiscriminant f h w)
-  unfolding rootOutcome
+  unfolding rootNeeding rootPlaces
   root-passes e =
       let (passed, same) = outcome-accepted (rootTestPlaces byDiscriminant len f h w) (rootCertificate byDiscriminant f h w) zeroCertificate e in
       let (conditions, small) = root-conditions .0 passed in
@@ -82,7 +82,7 @@ module _ (len : ℕ) (f h w : Model) where
 
   pub root-result : RootConditions len f h w → tooLarge (rootResult f h w) ≡ false
       → rootOutcome byDiscriminant len f h w ≡ accepted (rootCertificate byDiscriminant f h w)
-  unfolding rootOutcome
+  unfolding rootNeeding rootPlaces
   root-result c small =
       outcome-passed (rootTestPlaces byDiscriminant len f h w) (rootCertificate byDiscriminant f h w) zeroCertificate
       (root-conditions .1 (c, small))

@@ -4,7 +4,7 @@ use mathlib.Core.Bool.{Bool, true, false, true≢false, not, _&&_, cond, or-fals
 use mathlib.Core.List.{List, _++_}
 use Prim.Native.Nat.{ℕ, _*_, _^_, _≤_, _<_}
 use native.Mathlib.Omega.{arith}
-use native.Mathlib.Nat.{mul-le-mul}
+use native.Mathlib.Nat.{mul-le-mul, le-refl}
 use lib.Dec.{ltb}
 use lib.IntN.{ℤ}
 use lib.ListN.{length, drop, length-append, length-drop}
@@ -19,8 +19,8 @@ use Rattle.model.specs.definitions.Models.{scale, maxDegree, maxWeight, maxRadi
 use Rattle.model.specs.laws.ModelLaws.{good-is}
 use Rattle.model.specs.declared.types.Model.{Model}
 use Rattle.certificate.specs.definitions.Tests.{withRadius, scratchSize, scratchAfter}
-use Rattle.certificate.specs.definitions.Quotient.{quotientOutcome}
-use Rattle.certificate.specs.definitions.Root.{rootPlaces, byDiscriminant, rootOutcome}
+use Rattle.certificate.specs.definitions.Quotient.{quotientNeeding, quotientOutcome}
+use Rattle.certificate.specs.definitions.Root.{RootRule, byDiscriminant, rootNeeding, rootOutcome}
 
 -- ---- the place of the result
 
@@ -75,15 +75,22 @@ module _ (s : List ℤ) where
           let room = ltb-false (length s) scratchSize e in
           ap scratchAfter (scratch-cleared s room) ∙ scratch-again (zeros scratchSize) room (length-zeros scratchSize)
 
--- ---- a scratch that is long enough plays no further part
+-- ---- a scratch that is long enough plays no further part, however long it has to be
+
+module _ {need len need′ len′ : ℕ} (room : need ≤ len) (room′ : need′ ≤ len′) where
+  pub quotient-needs : (f g h w : Model) → quotientNeeding need len f g h w ≡ quotientNeeding need′ len′ f g h w
+  unfolding quotientNeeding
+  quotient-needs f g h w = rw (le-ltb len need room, le-ltb len′ need′ room′)
+
+  pub root-needs : (rule : RootRule) (f h w : Model) → rootNeeding rule need len f h w ≡ rootNeeding rule need′ len′ f h w
+  unfolding rootNeeding
+  root-needs rule f h w = rw (le-ltb len need room, le-ltb len′ need′ room′)
 
 pub quotient-room : (len : ℕ) (f g h w : Model) → scratchSize ≤ len → quotientOutcome len f g h w ≡ quotientOutcome scratchSize f g h w
-unfolding quotientOutcome
-quotient-room len f g h w room = rw (le-ltb len scratchSize room)
+quotient-room len f g h w room = quotient-needs room (le-refl scratchSize) f g h w
 
 pub root-room : (len : ℕ) (f h w : Model) → scratchSize ≤ len → rootOutcome byDiscriminant len f h w ≡ rootOutcome byDiscriminant scratchSize f h w
-unfolding rootOutcome rootPlaces
-root-room len f h w room = rw (le-ltb len scratchSize room)
+root-room len f h w room = root-needs room (le-refl scratchSize) byDiscriminant f h w
 
 -- ---- models and candidates
 

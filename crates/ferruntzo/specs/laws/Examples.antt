@@ -17,9 +17,9 @@ use Rattle.model.specs.definitions.Multiply.{productList}
 use Rattle.model.specs.definitions.Round.{rounded, roundingLoss}
 use Rattle.model.specs.definitions.Evaluate.{pointTerm, pointSum, pointError, lowBound, highBound, evaluation}
 use Rattle.certificate.specs.definitions.Tests.{scratchAfter, displacement}
-use Rattle.certificate.specs.definitions.Root.{rootOutcome, rootPlaces, rootContraction, rootResidual, rootModel}
-use Rattle.certificate.specs.definitions.Quotient.{quotientOutcome, quotientContraction, quotientResidual, quotientModel}
-use Rattle.selection.specs.definitions.Proposal.{proposalTest}
+use Rattle.certificate.specs.definitions.Root.{rootNeeding, rootPlaces, rootContraction, rootResidual, rootModel}
+use Rattle.certificate.specs.definitions.Quotient.{quotientNeeding, quotientContraction, quotientResidual, quotientModel}
+use Rattle.selection.specs.definitions.Proposal.{proposalNeeding}
 use Rattle.selection.specs.definitions.Select.{tighter}
 use Rattle.series.specs.definitions.Convert.{goodSeries, expandedFrom, seriesModel, conversion}
 use Rattle.series.specs.definitions.Table.{expansionRow}
@@ -92,7 +92,7 @@ pub tests :
     ≡ testAnswer 1 (zeros 16 ++ nines 1) (nines 34) (0 ∷ 0 ∷ 0 ∷ 9 ∷ []))
     × (rootAnswer (area 0 (pos 2097152 ∷ []) 35) h w (nines 15) (nines 36) (9 ∷ 9 ∷ 9 ∷ 9 ∷ [])
     ≡ testAnswer 1 (nines 15) (zeros 35 ++ nines 1) (0 ∷ 0 ∷ 0 ∷ 9 ∷ []))
-unfolding testIn areaOut scratchAfter rootOutcome rootPlaces rootContraction rootResidual rootModel displacement coefficientSum productList passing good tooLarge zeroModel weight addLists subtractLists scaleList addAt addPair addTerm addTerms product upℕ zeros
+unfolding testIn areaOut scratchAfter rootNeeding rootPlaces rootContraction rootResidual rootModel displacement coefficientSum productList passing good tooLarge zeroModel weight addLists subtractLists scaleList addAt addPair addTerm addTerms product upℕ zeros
 tests = (refl, refl, refl, refl)
 
 -- two proposals for 1/3 with the helper 1/3: the first has 67 numbers, the second is chosen with radius 2; neither passes; a model area of
@@ -109,7 +109,7 @@ pub selections :
     ≡ selectionAnswer 1 (zeros 16 ++ nines 1) (0 ∷ 0 ∷ 9 ∷ []))
     × (quotientOfTwoAnswer one one [] third (nines 15) (9 ∷ 9 ∷ 9 ∷ []) ≡ selectionAnswer 1 (nines 15) (0 ∷ 0 ∷ 9 ∷ []))
     × (quotientOfTwoAnswer one one (third ++ third) (third ++ third) (nines 16) (9 ∷ []) ≡ selectionAnswer 1 (zeros 16) (9 ∷ []))
-unfolding selectionIn areaOut scratchAfter tighter proposalTest quotientOutcome quotientContraction quotientResidual quotientModel displacement productList passing good tooLarge zeroModel weight addLists subtractLists scaleList addAt addPair addTerm addTerms product upℕ zeros
+unfolding selectionIn areaOut scratchAfter tighter proposalNeeding quotientNeeding quotientContraction quotientResidual quotientModel displacement productList passing good tooLarge zeroModel weight addLists subtractLists scaleList addAt addPair addTerm addTerms product upℕ zeros
 selections = (refl, refl, refl, refl, refl)
 
 -- a job refused at command 1, the count before the command; a job accepted with one result; and areas that are too short

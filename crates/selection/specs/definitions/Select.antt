@@ -7,13 +7,10 @@ use Prim.Native.Nat.{ℕ, _+_}
 use lib.Dec.{eqb, ltb}
 use lib.IntN.{ℤ}
 use denote.Ref.{RefT, ptr, now}
-use Rattle.model.specs.definitions.Outcomes.{Outcome, accepted, refused, numberOf, mapOutcome}
-use Rattle.model.specs.definitions.Models.{candidateModel}
+use Rattle.model.specs.definitions.Outcomes.{Outcome, accepted, refused, numberOf}
 use Rattle.model.specs.declared.types.Model.{Model}
-use Rattle.model.specs.declared.types.Candidate.{Candidate}
-use Rattle.certificate.specs.definitions.Tests.{Certificate}
-use Rattle.certificate.specs.definitions.Groups.{quotientNeeding}
-use Rattle.selection.specs.definitions.Proposal.{proposedAnswer, proposalBy, resultRadius, proposalRadius}
+use Rattle.certificate.specs.definitions.Tests.{scratchSize}
+use Rattle.selection.specs.definitions.Proposal.{proposedAnswer, radiusNeeding}
 use Rattle.selection.specs.declared.types.Selection.{Selection}
 use Rattle.selection.specs.declared.types.Selection.the-variants.{First, Second, Neither}
 
@@ -35,17 +32,12 @@ tighter (accepted e) (refused m z) = accepted (makeSelected 1 e)
 tighter (refused n z) (accepted d) = accepted (makeSelected 2 d)
 tighter (refused n z) (refused m y) = refused n (makeSelected 0 0)
 
--- "an entry that tests both"
-abbrev pub selection : ℕ → Model → Model → List ℤ → List ℤ → Outcome Selected
-selection len f g first second = tighter (proposalRadius len f g first) (proposalRadius len f g second)
+-- "an entry that tests both", with a scratch of len numbers, of which a test needs `need`
+abbrev pub selectionNeeding : ℕ → ℕ → Model → Model → List ℤ → List ℤ → Outcome Selected
+selectionNeeding need len f g first second = tighter (radiusNeeding need len f g first) (radiusNeeding need len f g second)
 
--- what it answered where a test needed `need` numbers of the scratch; before S-17 it was 65
-unfoldable pub selectionNeeding : ℕ → ℕ → Model → Model → List ℤ → List ℤ → Outcome Selected
-selectionNeeding need len f g first second =
-    let test : Candidate → Candidate → Outcome Certificate =
-    λ h w. quotientNeeding need len f g (candidateModel h) (candidateModel w)
-    in
-    tighter (mapOutcome resultRadius (proposalBy test first)) (mapOutcome resultRadius (proposalBy test second))
+abbrev pub selection : ℕ → Model → Model → List ℤ → List ℤ → Outcome Selected
+selection len f g first second = selectionNeeding scratchSize len f g first second
 
 -- what the code's answer means
 abbrev pub selectionOf : Selection → Outcome Selected

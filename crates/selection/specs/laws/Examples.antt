@@ -12,9 +12,9 @@ use Rattle.model.specs.definitions.Outcomes.{Outcome, accepted, refused, passin
 use Rattle.model.specs.definitions.Multiply.{productList}
 use Rattle.model.specs.declared.types.Model.{Model}
 use Rattle.certificate.specs.definitions.Tests.{displacement}
-use Rattle.certificate.specs.definitions.Quotient.{quotientOutcome, quotientContraction, quotientResidual, quotientModel}
-use Rattle.selection.specs.definitions.Proposal.{proposalTest}
-use Rattle.selection.specs.definitions.Select.{Selected, makeSelected, tighter, selection, partNumbers, partPointer}
+use Rattle.certificate.specs.definitions.Quotient.{quotientNeeding, quotientContraction, quotientResidual, quotientModel}
+use Rattle.selection.specs.definitions.Proposal.{proposalNeeding}
+use Rattle.selection.specs.definitions.Select.{selectionNeeding, Selected, makeSelected, tighter, selection, partNumbers, partPointer}
 
 -- a constant, as a candidate's 34 numbers
 abbrev constantCandidate : ℤ → List ℤ
@@ -55,10 +55,11 @@ Selections =
     × (selection 16 (constantModel (pos 268435457)) g (take 67 (proposal 699051 w)) (proposal 699051 w) ≡ refused 1 (makeSelected 0 0))
     × (selection 16 f (constantModel (pos 268435457)) (proposal 699051 w) (take 67 (proposal 699051 w)) ≡ refused 2 (makeSelected 0 0))
     × (selection 15 f g (proposal 699051 w) (proposal 699051 w) ≡ refused 1 (makeSelected 0 0))
+    × (selectionNeeding 65 64 f g (proposal 699051 w) (proposal 699051 w) ≡ refused 1 (makeSelected 0 0))
 
 pub selections : Selections
-unfolding tighter proposalTest quotientOutcome quotientContraction quotientResidual quotientModel displacement productList passing good tooLarge constantModel zeroModel weight addLists subtractLists scaleList addAt addPair addTerm addTerms product upℕ
-selections = (refl, refl, refl, refl, refl, refl, refl, refl, refl, refl, refl, refl, refl, refl, refl)
+unfolding tighter proposalNeeding quotientNeeding quotientContraction quotientResidual quotientModel displacement productList passing good tooLarge constantModel zeroModel weight addLists subtractLists scaleList addAt addPair addTerm addTerms product upℕ
+selections = (refl, refl, refl, refl, refl, refl, refl, refl, refl, refl, refl, refl, refl, refl, refl, refl)
 
 -- h's coefficients behind the degree, in the chosen slice; of none an empty part where the first begins
 abbrev pub Parts : Type 0

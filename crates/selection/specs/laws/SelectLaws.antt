@@ -8,17 +8,15 @@ use native.Mathlib.Omega.{arith}
 use borrow.Author.Tests.{ltb-true, ltb-false, le-ltb, lt-ltb, eqb-true}
 use lib.Dec.{eqb, ltb}
 use lib.IntN.{ℤ}
-use lib.ListN.{length}
-use Rattle.model.specs.definitions.Models.{productSize, candidateModel}
+use Rattle.model.specs.definitions.Models.{productSize, zeroModel}
 use Rattle.model.specs.definitions.Outcomes.{Outcome, accepted, refused, number, payload, mapOutcome}
 use Rattle.model.specs.laws.PlaceLaws.{refused-not-accepted}
 use Rattle.model.specs.laws.OutcomeLaws.{judged-injective, numberOf-injective}
 use Rattle.model.specs.declared.types.Model.{Model}
-use Rattle.certificate.specs.definitions.Tests.{scratchSize, zeroCertificate}
-use Rattle.certificate.specs.definitions.Groups.{quotientNeeding}
-use Rattle.certificate.specs.laws.Compact.{quotient-as-65}
-use Rattle.selection.specs.definitions.Proposal.{proposalSize, proposedAnswer, proposedHelper, proposalBy, proposalTest, resultRadius, proposalOf}
+use Rattle.certificate.specs.definitions.Tests.{scratchSize}
+use Rattle.selection.specs.definitions.Proposal.{resultRadius, proposalOf}
 use Rattle.selection.specs.definitions.Select.{Selected, makeSelected, tighter, selection, selectionNeeding, selectionOf, selectedOf}
+use Rattle.selection.specs.laws.ProposalLaws.{proposal-as-65, proposal-below-16}
 use Rattle.selection.specs.declared.types.ProposalOutcome.{ProposalOutcome}
 use Rattle.selection.specs.declared.types.Selection.{Selection}
 use Rattle.selection.specs.declared.types.Selection.the-variants.{First, Second, Neither}
@@ -126,14 +124,15 @@ selectionOf-injective (Neither v) (Neither u) h = ap Neither (numberOf-injective
 
 -- ---- the scratch
 
--- 02, S-17: "With 16 or more, answers agree with those that 65 gave on the same other input"
-pub selection-as-65 : (len former : ℕ) (f g : Model) (first second : List ℤ) → scratchSize ≤ len → productSize ≤ former
-    → selection len f g first second ≡ selectionNeeding productSize former f g first second
-unfolding proposalTest selectionNeeding
-selection-as-65 len former f g first second room room′ =
-    ap₂ tighter (ap (mapOutcome resultRadius) (same first)) (ap (mapOutcome resultRadius) (same second))
-  where
-    same : (s : List ℤ) → proposalTest len f g s ≡ proposalBy (λ h w. quotientNeeding productSize former f g (candidateModel h) (candidateModel w)) s
-    same s =
-        ap (cond (ltb (length s) proposalSize) (refused 1 zeroCertificate))
-        (quotient-as-65 f g (candidateModel (proposedAnswer s)) (candidateModel (proposedHelper s)) len former room room′)
+module _ (f g : Model) (first second : List ℤ) where
+  -- 02, S-17: "With 16 or more, answers agree with those that 65 gave on the same other input"
+  pub selection-as-65 : {len former : ℕ} → scratchSize ≤ len → productSize ≤ former
+      → selection len f g first second ≡ selectionNeeding productSize former f g first second
+  selection-as-65 room room′ =
+      ap₂ tighter (ap (mapOutcome resultRadius) (proposal-as-65 f g first room room′)) (ap (mapOutcome resultRadius) (proposal-as-65 f g second room room′))
+
+  -- "Number 1 is now given below 16"
+  pub selection-below-16 : (len : ℕ) → len < scratchSize → selection len f g first second ≡ refused 1 (makeSelected 0 0)
+  unfolding tighter zeroModel
+  selection-below-16 len e =
+      ap₂ tighter (ap (mapOutcome resultRadius) (proposal-below-16 f g first len e)) (ap (mapOutcome resultRadius) (proposal-below-16 f g second len e))

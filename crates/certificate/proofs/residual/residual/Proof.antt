@@ -29,14 +29,14 @@ abbrev μ-loop : tie.MeasureT-loop
 μ-loop part₀ a b f end sum₀ start₀ part sum start = end - start
 
 first-part : (c : tie.After-group-residual-arg Inv-loop μ-loop)
-    → length (take (c .before .least .result) (c .before .before .before .loop .part)) ≡ c .before .least .result
-first-part c = length-take-le (c .before .least .result) (c .before .before .before .loop .part) (omega (arith, c .before .least .ensures))
+    → length (take (c .before .min .result) (c .before .before .before .loop .part)) ≡ c .before .min .result
+first-part c = length-take-le (c .before .min .result) (c .before .before .before .loop .part) (omega (arith, c .before .min .ensures))
 
 group-residual-requires : tie.Need-group-residual-requires Inv-loop μ-loop
 group-residual-requires c κs =
     let l = c .before .before .before in
     let p = l .before .before .pre in
-    (p .1, p .2, omega (arith, first-part c, c .before .least .ensures, l .before .greatest .ensures, p .1 .whole, p .2 .short))
+    (p .1, p .2, omega (arith, first-part c, c .before .min .ensures, l .before .max .ensures, p .1 .whole, p .2 .short))
 
 -- after a group
 module _ (c : tie.After-part Inv-loop μ-loop) where
@@ -53,16 +53,16 @@ module _ (c : tie.After-part Inv-loop μ-loop) where
   D = C (s .args .a .now) (s .args .b .now)
 
   abbrev n : ℕ
-  n = c .before .before .before .least .result
+  n = c .before .before .before .min .result
 
   abbrev here : ℕ
   here = l .loop .start
 
   -- it is not empty, and ends where C and f end or before
-  advance : (0 < n) × (here + n ≤ l .before .greatest .result) × (l .before .greatest .result ≤ productSize)
+  advance : (0 < n) × (here + n ≤ l .before .max .result) × (l .before .max .result ≤ productSize)
   advance =
-      let e = c .before .before .before .least .ensures in
-      let g = l .before .greatest .ensures in
+      let e = c .before .before .before .min .ensures in
+      let g = l .before .max .ensures in
       let p = s .pre in (
         omega (arith, e, l .loop .inv .0, p .0),
         omega (arith, e),
@@ -89,13 +89,13 @@ returns : tie.Need-returns Inv-loop μ-loop
 returns c =
     let l = c .before in
     let a = l .before .before .args in
-    let g = l .before .greatest .ensures in
+    let g = l .before .max .ensures in
     omega (arith, l .loop .inv .1, residual-end (a .a .now) (a .b .now) (a .f .now) (l .loop .start) (omega (arith, g)) (omega (arith, g)))
 
 pub residual-spec : {M : Type 1} → statement M
 residual-spec =
     tie.close (tie.spec
     Inv-loop μ-loop (λ c. omega (arith, c .pre .1 .whole)) (λ c. omega (arith, c .pre .1 .first-some)) (λ c κs. search needs)
-    (λ c. (refl, omega arith)) (λ c. omega arith) (λ c κs. search needs) (λ c. omega (arith, c .least .ensures))
+    (λ c. (refl, omega arith)) (λ c. omega arith) (λ c κs. search needs) (λ c. omega (arith, c .min .ensures))
     (λ c. sym (first-part c)) group-residual-requires (λ c. omega (arith, turn c, whole-small c))
     (λ c. omega (arith, advance c)) (λ c. omega (arith, advance c)) loop-again (λ c. c .before .loop .inv .0) returns)

@@ -12,12 +12,12 @@ module _ (R : CommutativeRing) where
   infixl 6 _⊕_
   infixl 7 _⊗_
   -- Σ a_i·b_j over i + j + 1 = t
-  unfoldable pub fallingSum : ℕ → List A → List A → A
-  fallingSum zero a b = ι (pos 0)
-  fallingSum (suc t) [] b = ι (pos 0)
-  fallingSum (suc t) (x ∷ a) b = x ⊗ getD b t (ι (pos 0)) ⊕ fallingSum t a b
+  unfoldable pub convolution : ℕ → List A → List A → A
+  convolution zero a b = ι (pos 0)
+  convolution (suc t) [] b = ι (pos 0)
+  convolution (suc t) (x ∷ a) b = x ⊗ getD b t (ι (pos 0)) ⊕ convolution t a b
 
   -- Σ a_i·b_j over j = i + k
-  unfoldable pub risingSum : ℕ → List A → List A → A
-  risingSum k [] b = ι (pos 0)
-  risingSum k (x ∷ a) b = x ⊗ getD b k (ι (pos 0)) ⊕ risingSum (suc k) a b
+  unfoldable pub correlation : ℕ → List A → List A → A
+  correlation k [] b = ι (pos 0)
+  correlation k (x ∷ a) b = x ⊗ getD b k (ι (pos 0)) ⊕ correlation (suc k) a b

@@ -20,7 +20,7 @@ use Rattle.chebyshev.specs.definitions.Coefficients.{weight}
 use Rattle.chebyshev.specs.laws.CoefficientLaws.{add-zero}
 use Rattle.chebyshev.specs.laws.Weight.{weight-at}
 use Rattle.chebyshev.specs.definitions.Product.{distance}
-use Rattle.chebyshev.specs.definitions.PairSums.{fallingSum, risingSum}
+use Rattle.chebyshev.specs.definitions.Convolution.{convolution, correlation}
 use Rattle.chebyshev.specs.definitions.TwoSums.{sum, sumWhere, twoSums}
 use Rattle.chebyshev.specs.laws.ProductSums.{sum-zero, sum-cong, sum-add, sumWhere-cong, sumWhere-swap}
 
@@ -31,21 +31,21 @@ module _ (R : CommutativeRing) where
   infixl 7 _⊗_
   -- ---- turns of the walks, and their ends
 
-  pub falling-step : (t : ℕ) (a b : List A) (i : ℕ) → i < length a → fallingSum R (suc t) (drop i a) b ≡ getD a i (ι (pos 0)) ⊗ getD b t (ι (pos 0)) ⊕ fallingSum R t (drop (i + 1) a) b
-  unfolding fallingSum
-  falling-step t a b i h = rw (drop-cons a i (ι (pos 0)) h, add-one)
+  pub convolution-step : (t : ℕ) (a b : List A) (i : ℕ) → i < length a → convolution R (suc t) (drop i a) b ≡ getD a i (ι (pos 0)) ⊗ getD b t (ι (pos 0)) ⊕ convolution R t (drop (i + 1) a) b
+  unfolding convolution
+  convolution-step t a b i h = rw (drop-cons a i (ι (pos 0)) h, add-one)
 
-  pub falling-nil : (t : ℕ) (b : List A) → fallingSum R t [] b ≡ ι (pos 0)
-  unfolding fallingSum
-  falling-nil zero b = refl
-  falling-nil (suc t) b = refl
+  convolution-nil : (t : ℕ) (b : List A) → convolution R t [] b ≡ ι (pos 0)
+  unfolding convolution
+  convolution-nil zero b = refl
+  convolution-nil (suc t) b = refl
 
-  pub falling-end : (t : ℕ) (a b : List A) (i : ℕ) → length a ≤ i → fallingSum R t (drop i a) b ≡ ι (pos 0)
-  falling-end t a b i h = rw drop-of-length-le (falling-nil t b)
+  pub convolution-end : (t : ℕ) (a b : List A) (i : ℕ) → length a ≤ i → convolution R t (drop i a) b ≡ ι (pos 0)
+  convolution-end t a b i h = rw drop-of-length-le (convolution-nil t b)
 
-  pub falling-zero : (a b : List A) → fallingSum R 0 a b ≡ ι (pos 0)
-  unfolding fallingSum
-  falling-zero a b = refl
+  pub convolution-zero : (a b : List A) → convolution R 0 a b ≡ ι (pos 0)
+  unfolding convolution
+  convolution-zero a b = refl
 
   getD-beyond : (b : List A) (k : ℕ) → length b ≤ k → getD b k (ι (pos 0)) ≡ ι (pos 0)
   getD-beyond [] k h = refl
@@ -56,27 +56,27 @@ module _ (R : CommutativeRing) where
   mul-zero x = mul-comm x (ι (pos 0)) ∙ zero-mul x
 
   -- where b has ended, the first pairs are zero
-  pub falling-skip : (j t : ℕ) (a b : List A) → length b ≤ t → fallingSum R (t + j) a b ≡ fallingSum R t (drop j a) b
-  unfolding fallingSum
-  falling-skip zero t a b h = let e : t + 0 ≡ t = omega arith in rw e
-  falling-skip (suc j) t [] b h = falling-nil (t + suc j) b ∙ sym (falling-nil t b)
-  falling-skip (suc j) t (x ∷ a) b h =
+  pub convolution-skip : (j t : ℕ) (a b : List A) → length b ≤ t → convolution R (t + j) a b ≡ convolution R t (drop j a) b
+  unfolding convolution
+  convolution-skip zero t a b h = let e : t + 0 ≡ t = omega arith in rw e
+  convolution-skip (suc j) t [] b h = convolution-nil (t + suc j) b ∙ sym (convolution-nil t b)
+  convolution-skip (suc j) t (x ∷ a) b h =
       let e : t + suc j ≡ suc (t + j) = omega arith in
-      rw e (ap (λ y. x ⊗ y ⊕ fallingSum R (t + j) a b) (getD-beyond b (t + j) (omega arith)) ∙ ap (λ y. y ⊕ fallingSum R (t + j) a b) (mul-zero x) ∙ zero-add (fallingSum R (t + j) a b) ∙ falling-skip j t a b h)
+      rw e (ap (λ y. x ⊗ y ⊕ convolution R (t + j) a b) (getD-beyond b (t + j) (omega arith)) ∙ ap (λ y. y ⊕ convolution R (t + j) a b) (mul-zero x) ∙ zero-add (convolution R (t + j) a b) ∙ convolution-skip j t a b h)
 
-  pub rising-step : (k : ℕ) (a b : List A) (i : ℕ) → i < length a → risingSum R k (drop i a) b ≡ getD a i (ι (pos 0)) ⊗ getD b k (ι (pos 0)) ⊕ risingSum R (suc k) (drop (i + 1) a) b
-  unfolding risingSum
-  rising-step k a b i h = rw (drop-cons a i (ι (pos 0)) h, add-one)
+  pub correlation-step : (k : ℕ) (a b : List A) (i : ℕ) → i < length a → correlation R k (drop i a) b ≡ getD a i (ι (pos 0)) ⊗ getD b k (ι (pos 0)) ⊕ correlation R (suc k) (drop (i + 1) a) b
+  unfolding correlation
+  correlation-step k a b i h = rw (drop-cons a i (ι (pos 0)) h, add-one)
 
-  pub rising-end : (k : ℕ) (a b : List A) (i : ℕ) → length a ≤ i → risingSum R k (drop i a) b ≡ ι (pos 0)
-  unfolding risingSum
-  rising-end k a b i h = rw drop-of-length-le
+  pub correlation-end : (k : ℕ) (a b : List A) (i : ℕ) → length a ≤ i → correlation R k (drop i a) b ≡ ι (pos 0)
+  unfolding correlation
+  correlation-end k a b i h = rw drop-of-length-le
 
-  pub rising-beyond : (k : ℕ) (a b : List A) → length b ≤ k → risingSum R k a b ≡ ι (pos 0)
-  unfolding risingSum
-  rising-beyond k [] b h = refl
-  rising-beyond k (x ∷ a) b h =
-      ap₂ (λ y r. x ⊗ y ⊕ r) (getD-beyond b k h) (rising-beyond (suc k) a b (omega arith))
+  pub correlation-beyond : (k : ℕ) (a b : List A) → length b ≤ k → correlation R k a b ≡ ι (pos 0)
+  unfolding correlation
+  correlation-beyond k [] b h = refl
+  correlation-beyond k (x ∷ a) b h =
+      ap₂ (λ y r. x ⊗ y ⊕ r) (getD-beyond b k h) (correlation-beyond (suc k) a b (omega arith))
       ∙ ap (λ y. y ⊕ ι (pos 0)) (mul-zero x)
       ∙ zero-add (ι (pos 0))
 
@@ -109,8 +109,8 @@ module _ (R : CommutativeRing) where
       ∙ sum-zero R (length a)
 
   -- i + j = k
-  by-sum : (k : ℕ) (a b : List A) → sumWhere R (λ i j. eqb (i + j) k) a b ≡ fallingSum R (suc k) a b
-  unfolding sumWhere sum fallingSum
+  by-sum : (k : ℕ) (a b : List A) → sumWhere R (λ i j. eqb (i + j) k) a b ≡ convolution R (suc k) a b
+  unfolding sumWhere sum convolution
   by-sum k [] b = refl
   by-sum zero (x ∷ a) b =
       ap₂ _⊕_ (simp zero-add-ℕ (one-pair x b 0)) (sumWhere-none (λ i j. eqb (suc i + j) 0) (λ i j. ne-eqb (suc i + j) 0 (omega arith)) a b)
@@ -120,8 +120,8 @@ module _ (R : CommutativeRing) where
       ∙ by-sum k a b)
 
   -- j = i + k
-  by-difference : (k : ℕ) (a b : List A) → sumWhere R (λ i j. eqb j (i + k)) a b ≡ risingSum R k a b
-  unfolding sumWhere sum risingSum
+  by-difference : (k : ℕ) (a b : List A) → sumWhere R (λ i j. eqb j (i + k)) a b ≡ correlation R k a b
+  unfolding sumWhere sum correlation
   by-difference k [] b = refl
   by-difference k (x ∷ a) b =
       ap₂ _⊕_ (simp zero-add-ℕ (one-pair x b k))
@@ -129,7 +129,7 @@ module _ (R : CommutativeRing) where
       ∙ by-difference (suc k) a b)
 
   -- i = j + k, along b
-  by-other-difference : (k : ℕ) (a b : List A) → sumWhere R (λ i j. eqb i (j + k)) a b ≡ risingSum R k b a
+  by-other-difference : (k : ℕ) (a b : List A) → sumWhere R (λ i j. eqb i (j + k)) a b ≡ correlation R k b a
   by-other-difference k a b = sumWhere-swap R (λ i j. eqb i (j + k)) a b ∙ by-difference k b a
 
   sides : (i j k : ℕ) → distance i j ≡ k → (j ≡ i + k) ⊎ (i ≡ j + k)
@@ -161,20 +161,20 @@ module _ (R : CommutativeRing) where
       pick true p = eq-eqb (distance i j) 0 (omega (arith, eqb-true i (j + 0) p))
       pick false p = ne-eqb (distance i j) 0 (λ e. eqb-false i (j + 0) p (omega arith))
 
-  pub two-sums-zero : (a b : List A) → twoSums R 0 a b ≡ fallingSum R 1 a b ⊕ risingSum R 0 b a
+  pub two-sums-zero : (a b : List A) → twoSums R 0 a b ≡ convolution R 1 a b ⊕ correlation R 0 b a
   unfolding twoSums
   two-sums-zero a b =
       ap₂ _⊕_ (by-sum 0 a b)
       (sumWhere-cong R (λ i j. eqb (distance i j) 0) (λ i j. eqb i (j + 0)) distance-none a b ∙ by-other-difference 0 a b)
 
-  pub two-sums-suc : (k : ℕ) (a b : List A) → twoSums R (suc k) a b ≡ fallingSum R (suc (suc k)) a b ⊕ risingSum R (suc k) b a ⊕ risingSum R (suc k) a b
+  pub two-sums-suc : (k : ℕ) (a b : List A) → twoSums R (suc k) a b ≡ convolution R (suc (suc k)) a b ⊕ correlation R (suc k) b a ⊕ correlation R (suc k) a b
   unfolding twoSums sumWhere
   two-sums-suc k a b =
       ap₂ _⊕_ (by-sum (suc k) a b)
       (sum-cong R (length a) _ _ (λ i. sum-cong R (length b) _ (λ j. other i j ⊕ one i j) (λ j. distance-split k i j (getD a i (ι (pos 0)) ⊗ getD b j (ι (pos 0)))) ∙ sum-add R (length b) (other i) (one i))
       ∙ sum-add R (length a) (λ i. sum R (length b) (other i)) (λ i. sum R (length b) (one i))
       ∙ ap₂ _⊕_ (by-other-difference (suc k) a b) (by-difference (suc k) a b))
-      ∙ sym (add-assoc (fallingSum R (suc (suc k)) a b) (risingSum R (suc k) b a) (risingSum R (suc k) a b))
+      ∙ sym (add-assoc (convolution R (suc (suc k)) a b) (correlation R (suc k) b a) (correlation R (suc k) a b))
     where
       one : ℕ → ℕ → A
       one i j = cond (eqb j (i + suc k)) (getD a i (ι (pos 0)) ⊗ getD b j (ι (pos 0))) (ι (pos 0))
@@ -189,13 +189,13 @@ pair-small x b k r m h =
     let y = getD b k (pos 0) in
     omega (arith, abs-add (x *ℤ y) r, abs-mul x y, mul-le-mul (le-refl (natAbs x)) (weight-at b k), h)
 
-pub falling-small : (t : ℕ) (a b : List ℤ) → natAbs (fallingSum ℤ-ring t a b) ≤ weight a * weight b
-unfolding fallingSum weight
-falling-small zero a b = omega arith
-falling-small (suc t) [] b = omega arith
-falling-small (suc t) (x ∷ a) b = pair-small x b t (fallingSum ℤ-ring t a b) (weight a) (falling-small t a b)
+pub convolution-small : (t : ℕ) (a b : List ℤ) → natAbs (convolution ℤ-ring t a b) ≤ weight a * weight b
+unfolding convolution weight
+convolution-small zero a b = omega arith
+convolution-small (suc t) [] b = omega arith
+convolution-small (suc t) (x ∷ a) b = pair-small x b t (convolution ℤ-ring t a b) (weight a) (convolution-small t a b)
 
-pub rising-small : (k : ℕ) (a b : List ℤ) → natAbs (risingSum ℤ-ring k a b) ≤ weight a * weight b
-unfolding risingSum weight
-rising-small k [] b = omega arith
-rising-small k (x ∷ a) b = pair-small x b k (risingSum ℤ-ring (suc k) a b) (weight a) (rising-small (suc k) a b)
+pub correlation-small : (k : ℕ) (a b : List ℤ) → natAbs (correlation ℤ-ring k a b) ≤ weight a * weight b
+unfolding correlation weight
+correlation-small k [] b = omega arith
+correlation-small k (x ∷ a) b = pair-small x b k (correlation ℤ-ring (suc k) a b) (weight a) (correlation-small (suc k) a b)

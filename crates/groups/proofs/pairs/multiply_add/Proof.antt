@@ -1,4 +1,4 @@
--- `pairs::add_pairs` meets its contract: a sum below 2^62 and a product of two 32-bit numbers fit 64 bits.
+-- `pairs::multiply_add` meets its contract: a sum below 2^62 and a product of two 32-bit numbers fit 64 bits.
 use borrow.Author.Needs.{needs}
 use mathlib.Core.Path.{_≡_}
 use Prim.Native.Nat.{_*_, _≤_, _<_, _^_}
@@ -9,8 +9,8 @@ use mir.Val.{SFits, toZ, ofZ}
 use mir.Facts.{toZ-ofZ}
 use Rattle.integer.specs.laws.Parts.{abs, apart, abs-add, mul-within}
 use Rattle.integer.specs.laws.Machine.{signed-needs, within, abs-fits, fits-widens}
-use Rattle.groups.proofs.pairs.add_pairs.Statement.{statement}
-use Rattle.groups.proofs.pairs.add_pairs.Tie as tie
+use Rattle.groups.proofs.pairs.multiply_add.Statement.{statement}
+use Rattle.groups.proofs.pairs.multiply_add.Tie as tie
 
 small : (z : ℤ) → SFits w32 z → natAbs z ≤ 2 ^ 31
 small z f = omega (arith, abs z, apart z, within w32 z f)
@@ -64,8 +64,8 @@ returns c =
       sum-is (s .args .sums .second) (s .args .x) (s .args .z) (fits-second s) (s .fits .x) (s .fits .z) (s .pre .1),
     )
 
-pub add-pairs-spec : {M : Type 1} → statement M
-add-pairs-spec =
+pub multiply-add-spec : {M : Type 1} → statement M
+multiply-add-spec =
     tie.close (tie.spec
     (λ c. search signed-needs) (λ c. search signed-needs)
     (λ c. raw-product (c .args .sums .first) (c .args .x) (c .args .y) (fits-first c) (c .fits .x) (c .fits .y) (c .pre .0)) add-t8

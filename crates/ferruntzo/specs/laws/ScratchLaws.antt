@@ -1,0 +1,43 @@
+-- Document 02, S-17, for the exported functions: "With 16 or more, answers agree with those that 65 gave on the same other input".
+-- Number, result and numbers go by the call's outcome; of the check they go by `check-as-65` and `work-as-65` (job/laws/CheckLaws).
+use mathlib.Core.Path.{_≡_, ap, ap₂}
+use mathlib.Core.Bool.{Bool, cond, _&&_}
+use mathlib.Core.List.{List}
+use Prim.Native.Nat.{ℕ, _≤_}
+use lib.IntN.{ℤ}
+use lib.ListN.{length}
+use borrow.Author.Tests.{le-leb}
+use Rattle.model.specs.definitions.Models.{productSize, candidateModel}
+use Rattle.model.specs.definitions.Area.{modelSize, candidateSize, areaModel, areaCandidate}
+use Rattle.certificate.specs.definitions.Tests.{scratchSize}
+use Rattle.certificate.specs.definitions.Root.{byDiscriminant}
+use Rattle.certificate.specs.laws.GroupTheorem.{quotient-as-65, root-as-65}
+use Rattle.selection.specs.laws.SelectLaws.{selection-as-65}
+use Rattle.ferruntzo.specs.definitions.Areas.{fits, numbersSize, selectionSize}
+use Rattle.ferruntzo.specs.definitions.Certificates.{testFits, shortTest, quotientCall, rootCall}
+use Rattle.ferruntzo.specs.definitions.Selections.{shortSelection, selectionCall}
+
+module _ (scratch former : List ℤ) (room : scratchSize ≤ length scratch) (room′ : productSize ≤ length former) where
+  same-fit : fits scratchSize scratch ≡ fits productSize former
+  same-fit = rw (le-leb scratchSize (length scratch) room, le-leb productSize (length former) room′)
+
+  module _ (h w out : List ℤ) (numbers : List ℕ) where
+    -- the areas of the models fit, or not
+    same-fits : (models : Bool) → testFits scratchSize models h w scratch out numbers ≡ testFits productSize models h w former out numbers
+    same-fits models = ap (λ t. models && fits candidateSize h && fits candidateSize w && t && fits modelSize out && fits numbersSize numbers) same-fit
+
+    pub quotient-call-as-65 : (f g : List ℤ) → quotientCall scratchSize f g h w scratch out numbers ≡ quotientCall productSize f g h w former out numbers
+    quotient-call-as-65 f g =
+        ap₂ (λ t o. cond t o shortTest) (same-fits (fits modelSize f && fits modelSize g))
+        (quotient-as-65 (areaModel f) (areaModel g) (candidateModel (areaCandidate h)) (candidateModel (areaCandidate w)) room room′)
+
+    pub root-call-as-65 : (f : List ℤ) → rootCall scratchSize f h w scratch out numbers ≡ rootCall productSize f h w former out numbers
+    root-call-as-65 f =
+        ap₂ (λ t o. cond t o shortTest) (same-fits (fits modelSize f))
+        (root-as-65 byDiscriminant (areaModel f) (candidateModel (areaCandidate h)) (candidateModel (areaCandidate w)) room room′)
+
+  pub selection-call-as-65 : (f g first second : List ℤ) (answer : List ℕ)
+      → selectionCall scratchSize f g first second scratch answer ≡ selectionCall productSize f g first second former answer
+  selection-call-as-65 f g first second answer =
+      ap₂ (λ t o. cond t o shortSelection) (ap (λ t. fits modelSize f && fits modelSize g && t && fits selectionSize answer) same-fit)
+      (selection-as-65 (areaModel f) (areaModel g) first second room room′)
