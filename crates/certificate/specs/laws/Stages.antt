@@ -7,8 +7,8 @@ use native.Mathlib.Omega.{arith}
 use native.Mathlib.Nat.{mul-le-mul, le-refl}
 use lib.Dec.{ltb}
 use lib.IntN.{ℤ}
-use lib.ListN.{length, drop, length-append, length-drop}
-use lib.Seq.{drop-at}
+use lib.ListN.{length, take, drop, length-append, length-drop}
+use lib.Seq.{length-take-le, drop-at}
 use borrow.Author.Tests.{ltb-true, ltb-false, le-ltb, le-leb, lt-leb}
 use Rattle.integer.specs.definitions.Lists.{zeros}
 use Rattle.integer.specs.definitions.Rounding.{upℕ}
@@ -47,6 +47,10 @@ unfolding scratchAfter zeros
 scratch-cleared s e = rw (le-leb scratchSize (length s) e)
 
 module _ (s : List ℤ) where
+  -- the part that a test is lent
+  pub scratch-first : scratchSize ≤ length s → length (take scratchSize s) ≡ scratchSize
+  scratch-first room = length-take-le scratchSize s room
+
   -- a scratch stays as long as it was
   pub scratch-length : length (scratchAfter s) ≡ length s
   scratch-length = go (ltb (length s) scratchSize) refl

@@ -53,8 +53,8 @@ quotientCall need f g h w scratch out numbers =
 abbrev pub rootCall : ℕ → List ℤ → List ℤ → List ℤ → List ℤ → List ℤ → List ℕ → Outcome Certificate
 rootCall need f h w scratch out numbers =
     cond (testFits need (fits modelSize f) h w scratch out numbers)
-    (rootNeeding byDiscriminant need (length scratch) (areaModel f) (candidateModel (areaCandidate h))
-    (candidateModel (areaCandidate w)))
+    (rootNeeding byDiscriminant need (length scratch) (areaModel f)
+    (candidateModel (areaCandidate h)) (candidateModel (areaCandidate w)))
     shortTest
 
 abbrev pub quotientAnswer : List ℤ → List ℤ → List ℤ → List ℤ → List ℤ → List ℤ → List ℕ → TestAnswer

@@ -38,14 +38,11 @@ module _ (l : tie.At-loop Inv-loop μ-loop) where
   abbrev b : List ℤ
   b = s .args .b .now
 
-  abbrev k : ℕ
-  k = s .args .k
-
   total-small : Below (2 ^ 62) (l .loop .total)
   total-small = correlation-below a b (l .loop .inv .1) (s .pre .0) (s .pre .1)
 
 -- both places have a pair
-inside-two : (c : tie.In-loop Inv-loop μ-loop) → let l = c .before in k l + l .loop .i + 1 < length (b l)
+inside-two : (c : tie.In-loop Inv-loop μ-loop) → let l = c .before in s l .args .k + l .loop .i + 1 < length (b l)
 inside-two c = let l = c .before in omega (arith, l .before .min .ensures)
 
 loop-again : tie.Need-loop-again Inv-loop μ-loop
@@ -54,8 +51,8 @@ loop-again c =
     let l = t .before in
     let i = l .loop .i in
     let fits-x : SFits w32 (getD (a l) i (pos 0)) = record { sfits = c .before .before .before .multiply-add-arg .given } in
-    let fits-y : SFits w32 (getD (b l) (k l + i) (pos 0)) = record { sfits = c .before .before .multiply-add-arg2 .given } in
-    let fits-z : SFits w32 (getD (b l) (k l + i + 1) (pos 0)) = record { sfits = c .before .multiply-add-arg3 .given } in (
+    let fits-y : SFits w32 (getD (b l) (s l .args .k + i) (pos 0)) = record { sfits = c .before .before .multiply-add-arg2 .given } in
+    let fits-z : SFits w32 (getD (b l) (s l .args .k + i + 1) (pos 0)) = record { sfits = c .before .multiply-add-arg3 .given } in (
       omega arith,
       correlation-turn (a l) (b l) (l .loop .inv .1) (c .multiply-add .result) (omega (arith, l .before .min .ensures)) (inside-two t)
           (simp (toZ-ofZ fits-x, toZ-ofZ fits-y, toZ-ofZ fits-z) at (c .multiply-add .ensures)),
@@ -71,7 +68,7 @@ returns-2 c =
     let l = t .before .before in
     let e = l .before .min .result in
     let fits-x : SFits w32 (getD (a l) e (pos 0)) = record { sfits = c .before .before .multiply-add-arg4 .given } in
-    let fits-y : SFits w32 (getD (b l) (k l + e) (pos 0)) = record { sfits = c .before .multiply-add-arg5 .given } in
+    let fits-y : SFits w32 (getD (b l) (s l .args .k + e) (pos 0)) = record { sfits = c .before .multiply-add-arg5 .given } in
     correlation-last (a l) (b l) (l .loop .inv .1) (c .multiply-add2 .result) e (at-end t) (omega (arith, l .before .min .ensures)) (omega arith)
     (simp (toZ-ofZ fits-x, toZ-ofZ fits-y) at (c .multiply-add2 .ensures))
 
