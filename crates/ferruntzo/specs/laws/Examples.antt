@@ -1,6 +1,7 @@
 -- Closed examples of the answers at the C boundary, computed from the definitions: one of each shape, with numbers behind the areas,
 -- and areas that are too short.
 use mathlib.Core.Path.{_≡_, refl}
+use mathlib.Core.Bool.{true, false}
 use mathlib.Core.List.{List, [], _∷_, _++_}
 use Prim.Native.Nat.{ℕ, _-_}
 use lib.IntN.{ℤ, pos, negsuc}
@@ -32,7 +33,7 @@ use Rattle.job.specs.definitions.Run.{run, jobOutcome}
 use Rattle.job.specs.definitions.Work.{checkOutcome, workAfter, workWith, resultWords, scratchAfterJob}
 use Rattle.ferruntzo.specs.definitions.Areas.{areaOut}
 use Rattle.ferruntzo.specs.definitions.Operations.{operationAnswer, outcomeIn, binaryAnswer, evaluationAnswer, boundsIn, evaluateAnswer}
-use Rattle.ferruntzo.specs.definitions.Certificates.{testAnswer, testIn, rootAnswer}
+use Rattle.ferruntzo.specs.definitions.Certificates.{testAnswer, testIn, rootAnswer, testFits}
 use Rattle.ferruntzo.specs.definitions.Jobs.{jobAnswer, checkAnswer}
 use Rattle.ferruntzo.specs.definitions.Conversions.{seriesAnswer}
 use Rattle.ferruntzo.specs.definitions.Selections.{selectionAnswer, selectionIn, quotientOfTwoAnswer}
@@ -77,7 +78,7 @@ unfolding outcomeIn areaOut conversion goodSeries seriesModel expandedFrom expan
 conversions = (refl, refl, refl, refl)
 
 -- the root whose discriminant is 0: m, N and b; the root of 1 with the same candidates, refused with 8; an area of 34 numbers for the
--- result; a scratch of 15
+-- result; a scratch of 15; one of 64, where 65 were needed
 abbrev h : List ℤ
 h = area 0 (pos 2097152 ∷ []) 34
 
@@ -92,8 +93,9 @@ pub tests :
     ≡ testAnswer 1 (zeros 16 ++ nines 1) (nines 34) (0 ∷ 0 ∷ 0 ∷ 9 ∷ []))
     × (rootAnswer (area 0 (pos 2097152 ∷ []) 35) h w (nines 15) (nines 36) (9 ∷ 9 ∷ 9 ∷ 9 ∷ [])
     ≡ testAnswer 1 (nines 15) (zeros 35 ++ nines 1) (0 ∷ 0 ∷ 0 ∷ 9 ∷ []))
+    × (testFits 65 true h w (nines 64) (nines 35) (9 ∷ 9 ∷ 9 ∷ []) ≡ false)
 unfolding testIn areaOut scratchAfter rootNeeding rootPlaces rootContraction rootResidual rootModel displacement coefficientSum productList passing good tooLarge zeroModel weight addLists subtractLists scaleList addAt addPair addTerm addTerms product upℕ zeros
-tests = (refl, refl, refl, refl)
+tests = (refl, refl, refl, refl, refl)
 
 -- two proposals for 1/3 with the helper 1/3: the first has 67 numbers, the second is chosen with radius 2; neither passes; a model area of
 -- 34 numbers; a scratch of 15 and short proposals; an answer of 1
