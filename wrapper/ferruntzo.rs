@@ -638,7 +638,7 @@ pub mod areas {
     /// `scratch` 16, `answer` 2: chosen (1 or 2), radius.
     ///
     /// A proposal of fewer than 68 numbers fails with `ShortArea` by itself. `answer` is 0 and 0
-    /// after every refusal, and `scratch` zero after every call, unless they are too short.
+    /// after every refusal, and the 16 numbers of `scratch` zero after every call, unless they are too short.
     pub fn quotient_of_two<'a>(
         f: &[i32],
         g: &[i32],
@@ -684,7 +684,7 @@ pub mod areas {
     /// The check of a job; `work` has 1120 numbers, `scratch` 16, `answer` 2: count, command.
     ///
     /// `ShortArea` leaves `work` and `scratch` as they were, and an `answer` of 2 or more numbers at
-    /// 0 and 0. After every other call `scratch` is zero, and `work` is too if the job is refused.
+    /// 0 and 0. After every other call the 16 numbers of `scratch` are zero, and those of `work` if the job is refused.
     pub fn check(
         job: &[u8],
         work: &mut [i32],

@@ -10,9 +10,9 @@ ghost use Rattle.model.specs.definitions.Models.{scale, productSize};
 ghost use Rattle.certificate.specs.definitions.Groups.{group};
 ghost use Rattle.certificate.specs.definitions.InnerContracts.{residualList, groupResidual, ProductTerms, Subtrahend};
 use groups::form::form;
-use groups::lengths::max;
-use groups::lengths::min;
 use integer::absolute::magnitude;
+use integer::lengths::max;
+use integer::lengths::min;
 use model::types::Model;
 
 // 2S, one unit of a coefficient in units of C.

@@ -9,7 +9,7 @@ use Rattle.integer.specs.definitions.Integer.{ℤ-ring}
 use Rattle.chebyshev.specs.definitions.Coefficients.{weight}
 use Rattle.chebyshev.specs.definitions.Convolution.{convolution}
 use Rattle.chebyshev.specs.laws.ConvolutionLaws.{convolution-step, convolution-end, convolution-zero, convolution-small}
-use Rattle.groups.specs.definitions.InnerContracts.{Below, Are}
+use Rattle.groups.specs.definitions.InnerContracts.{Below, Holds}
 use Rattle.groups.specs.declared.pairs.TwoPlaces.{TwoPlaces}
 use Rattle.groups.proofs.PairWalks.{step, done, no-pair, begun-small, left-small}
 
@@ -19,7 +19,7 @@ module _ (a b : List ℤ) where
 
   abbrev pub ConvolutionFrom : ℕ → ℕ → TwoPlaces → TwoPlaces → Type 0
   ConvolutionFrom k from start r =
-      Are r (start .first +ℤ convolution ℤ-ring (k + 1 - from) (drop from a) b) (start .second +ℤ convolution ℤ-ring (k + 2 - from) (drop from a) b)
+      Holds r (start .first +ℤ convolution ℤ-ring (k + 1 - from) (drop from a) b) (start .second +ℤ convolution ℤ-ring (k + 2 - from) (drop from a) b)
 
   pub record ConvolutionSoFar (k from : ℕ) (start total : TwoPlaces) (i : ℕ) : Type 0 where
     pub reach : i ≤ k + 1
@@ -41,7 +41,7 @@ module _ (a b : List ℤ) where
     step-of t n e h = rw e (convolution-step ℤ-ring n a b i h)
 
     pub convolution-turn : (next : TwoPlaces) → i < length a → i < k + 1
-        → Are next (total .first +ℤ getD a i (pos 0) *ℤ getD b (k - i) (pos 0)) (total .second +ℤ getD a i (pos 0) *ℤ getD b (k + 1 - i) (pos 0))
+        → Holds next (total .first +ℤ getD a i (pos 0) *ℤ getD b (k - i) (pos 0)) (total .second +ℤ getD a i (pos 0) *ℤ getD b (k + 1 - i) (pos 0))
         → ConvolutionSoFar k from start next (i + 1)
     convolution-turn next h l p =
         let x = getD a i (pos 0) in
@@ -61,7 +61,7 @@ module _ (a b : List ℤ) where
 
     -- the last pair of the second place
     pub convolution-last : (next : TwoPlaces) → k + 1 ≤ i → k + 1 < length a
-        → Are next (total .first +ℤ getD a (k + 1) (pos 0) *ℤ pos 0) (total .second +ℤ getD a (k + 1) (pos 0) *ℤ getD b 0 (pos 0))
+        → Holds next (total .first +ℤ getD a (k + 1) (pos 0) *ℤ pos 0) (total .second +ℤ getD a (k + 1) (pos 0) *ℤ getD b 0 (pos 0))
         → ConvolutionFrom k from start next
     convolution-last next h l p =
         let n : k + 1 ≡ i = omega (arith, w .reach) in

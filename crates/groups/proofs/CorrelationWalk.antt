@@ -1,7 +1,7 @@
 -- Σ a_i·b_(i+k) and Σ a_i·b_(i+k+1): the two sums of `pairs::add_correlations` on their way.
 use mathlib.Core.Path.{_≡_, sym, _∙_, ap}
 use mathlib.Core.List.{List}
-use Prim.Native.Nat.{ℕ, suc, _+_, _-_, _*_, _^_, _≤_, _<_}
+use Prim.Native.Nat.{ℕ, suc, _+_, _*_, _^_, _≤_, _<_}
 use native.Mathlib.Omega.{arith}
 use lib.IntN.{ℤ, pos, natAbs, _+ℤ_, _*ℤ_, +ℤ-idr}
 use lib.ListN.{length, getD, drop}
@@ -9,7 +9,7 @@ use Rattle.integer.specs.definitions.Integer.{ℤ-ring}
 use Rattle.chebyshev.specs.definitions.Coefficients.{weight}
 use Rattle.chebyshev.specs.definitions.Convolution.{correlation}
 use Rattle.chebyshev.specs.laws.ConvolutionLaws.{correlation-step, correlation-end, correlation-beyond, correlation-small}
-use Rattle.groups.specs.definitions.InnerContracts.{Below, Are}
+use Rattle.groups.specs.definitions.InnerContracts.{Below, Holds}
 use Rattle.groups.specs.declared.pairs.TwoPlaces.{TwoPlaces}
 use Rattle.groups.proofs.PairWalks.{step, done, no-pair, begun-small, left-small}
 
@@ -18,7 +18,7 @@ module _ (a b : List ℤ) where
   correlation-left t i = omega (arith, correlation-small t (drop i a) b, left-small a b i)
 
   abbrev pub CorrelationFrom : ℕ → TwoPlaces → TwoPlaces → Type 0
-  CorrelationFrom k start r = Are r (start .first +ℤ correlation ℤ-ring k a b) (start .second +ℤ correlation ℤ-ring (k + 1) a b)
+  CorrelationFrom k start r = Holds r (start .first +ℤ correlation ℤ-ring k a b) (start .second +ℤ correlation ℤ-ring (k + 1) a b)
 
   pub record CorrelationSoFar (k : ℕ) (start total : TwoPlaces) (i : ℕ) : Type 0 where
     pub inside : k + i < length b
@@ -42,7 +42,7 @@ module _ (a b : List ℤ) where
     next-of t n e h = rw e (correlation-step ℤ-ring t a b i h)
 
     pub correlation-turn : (next : TwoPlaces) → i < length a → k + i + 1 < length b
-        → Are next (total .first +ℤ getD a i (pos 0) *ℤ getD b (k + i) (pos 0)) (total .second +ℤ getD a i (pos 0) *ℤ getD b (k + i + 1) (pos 0))
+        → Holds next (total .first +ℤ getD a i (pos 0) *ℤ getD b (k + i) (pos 0)) (total .second +ℤ getD a i (pos 0) *ℤ getD b (k + i + 1) (pos 0))
         → CorrelationSoFar k start next (i + 1)
     correlation-turn next h l p = let x = getD a i (pos 0) in record {
       inside = omega arith;
@@ -58,7 +58,7 @@ module _ (a b : List ℤ) where
 
     -- the last pair of the first place, where the loop stopped at e
     pub correlation-last : (next : TwoPlaces) (e : ℕ) → e ≡ i → length b ≤ k + e + 1 → e < length a
-        → Are next (total .first +ℤ getD a e (pos 0) *ℤ getD b (k + e) (pos 0)) (total .second +ℤ getD a e (pos 0) *ℤ pos 0)
+        → Holds next (total .first +ℤ getD a e (pos 0) *ℤ getD b (k + e) (pos 0)) (total .second +ℤ getD a e (pos 0) *ℤ pos 0)
         → CorrelationFrom k start next
     correlation-last next e q h l p =
         let x = getD a i (pos 0) in

@@ -5,7 +5,7 @@ ghost use lib.ListN.{length};
 ghost use Rattle.integer.specs.definitions.Integer.{ℤ-ring};
 ghost use Rattle.chebyshev.specs.definitions.Coefficients.{weight};
 ghost use Rattle.chebyshev.specs.definitions.TwoSums.{twoSums, placesFrom};
-ghost use Rattle.groups.specs.definitions.InnerContracts.{Are};
+ghost use Rattle.groups.specs.definitions.InnerContracts.{Holds};
 use crate::pairs::TwoPlaces;
 use crate::pairs::add_correlations;
 use crate::pairs::convolutions;
@@ -14,7 +14,7 @@ use crate::pairs::convolutions;
 fn two_places(a: &[i32], b: &[i32], k: usize) -> TwoPlaces
     requires { ⌜ (0 < length (now b)) × (k + 1 < 2 ^ 64) × (weight (now a) * weight (now b) ≤ 2 ^ 56) ⌝ }
     ensures { λ (r : TwoPlaces).
-        ⌜ Are r (twoSums ℤ-ring k (now (a .entry)) (now (b .entry)))
+        ⌜ Holds r (twoSums ℤ-ring k (now (a .entry)) (now (b .entry)))
         (twoSums ℤ-ring (k + 1) (now (a .entry)) (now (b .entry))) ⌝ }
 {
     let x = convolutions(a, b, k);

@@ -5,8 +5,8 @@ ghost use lib.ListN.{length, drop};
 ghost use Rattle.integer.specs.definitions.Integer.{ℤ-ring};
 ghost use Rattle.chebyshev.specs.definitions.Coefficients.{weight};
 ghost use Rattle.chebyshev.specs.definitions.Convolution.{convolution, correlation};
-ghost use Rattle.groups.specs.definitions.InnerContracts.{Below, Are};
-use crate::lengths::min;
+ghost use Rattle.groups.specs.definitions.InnerContracts.{Below, Holds};
+use integer::lengths::min;
 
 // The numbers at places k and k+1 of C, or what is summed of them.
 pub(crate) struct TwoPlaces {
@@ -17,7 +17,7 @@ pub(crate) struct TwoPlaces {
 // Added: x·y to the first, x·z to the second.
 fn multiply_add(sums: TwoPlaces, x: i32, y: i32, z: i32) -> TwoPlaces
     requires { ⌜ Below (2 ^ 62) sums ⌝ }
-    ensures { λ (r : TwoPlaces). ⌜ Are r (sums .first +ℤ x *ℤ y) (sums .second +ℤ x *ℤ z) ⌝ }
+    ensures { λ (r : TwoPlaces). ⌜ Holds r (sums .first +ℤ x *ℤ y) (sums .second +ℤ x *ℤ z) ⌝ }
 {
     TwoPlaces {
         first: sums.first + (x as i64) * (y as i64),
@@ -30,7 +30,7 @@ fn add_convolutions(sums: TwoPlaces, a: &[i32], b: &[i32], k: usize, from: usize
     requires { ⌜ (from ≤ k + 1) × (k + 1 < from + length (now b)) × (k + 1 < 2 ^ 64) ⌝ }
     requires { ⌜ Below (2 ^ 61) sums × (weight (now a) * weight (now b) ≤ 2 ^ 56) ⌝ }
     ensures { λ (r : TwoPlaces).
-        ⌜ Are r (sums .first +ℤ convolution ℤ-ring (k + 1 - from) (drop from (now (a .entry))) (now (b .entry)))
+        ⌜ Holds r (sums .first +ℤ convolution ℤ-ring (k + 1 - from) (drop from (now (a .entry))) (now (b .entry)))
         (sums .second +ℤ convolution ℤ-ring (k + 2 - from) (drop from (now (a .entry))) (now (b .entry))) ⌝ }
 {
     let end = min(a.len(), k + 1);
@@ -50,7 +50,7 @@ fn add_convolutions(sums: TwoPlaces, a: &[i32], b: &[i32], k: usize, from: usize
 pub(crate) fn convolutions(a: &[i32], b: &[i32], k: usize) -> TwoPlaces
     requires { ⌜ (0 < length (now b)) × (k + 1 < 2 ^ 64) × (weight (now a) * weight (now b) ≤ 2 ^ 56) ⌝ }
     ensures { λ (r : TwoPlaces).
-        ⌜ Are r (convolution ℤ-ring (k + 1) (now (a .entry)) (now (b .entry)))
+        ⌜ Holds r (convolution ℤ-ring (k + 1) (now (a .entry)) (now (b .entry)))
         (convolution ℤ-ring (k + 2) (now (a .entry)) (now (b .entry))) ⌝ }
 {
     let none = TwoPlaces {
@@ -73,7 +73,7 @@ pub(crate) fn convolutions(a: &[i32], b: &[i32], k: usize) -> TwoPlaces
 pub(crate) fn add_correlations(sums: TwoPlaces, a: &[i32], b: &[i32], k: usize) -> TwoPlaces
     requires { ⌜ Below (2 ^ 61) sums × (weight (now a) * weight (now b) ≤ 2 ^ 56) ⌝ }
     ensures { λ (r : TwoPlaces).
-        ⌜ Are r (sums .first +ℤ correlation ℤ-ring k (now (a .entry)) (now (b .entry)))
+        ⌜ Holds r (sums .first +ℤ correlation ℤ-ring k (now (a .entry)) (now (b .entry)))
         (sums .second +ℤ correlation ℤ-ring (k + 1) (now (a .entry)) (now (b .entry))) ⌝ }
 {
     if b.len() <= k {

@@ -1,6 +1,6 @@
 -- Document 02, S-17: "Let quotient and root tests do with a scratch of 16, forming the list C in groups." The tests of 01 once
 -- more, for any group length.
-use mathlib.Core.List.{List, [], _∷_}
+use mathlib.Core.List.{List, [], _∷_, _++_}
 use Prim.Native.Nat.{ℕ, zero, suc, _+_, _*_, _-_, min, max}
 use lib.IntN.{ℤ, pos}
 use lib.ListN.{length, take, drop}
@@ -9,11 +9,11 @@ use Rattle.integer.specs.definitions.Rounding.{upℕ}
 use Rattle.chebyshev.specs.definitions.Coefficients.{weight, subtractLists, scaleList}
 use Rattle.chebyshev.specs.definitions.TwoSums.{placesFrom}
 use Rattle.model.specs.definitions.Models.{scale, productSize, terms}
-use Rattle.model.specs.definitions.Outcomes.{Outcome}
+use Rattle.model.specs.definitions.Outcomes.{Outcome, outcome}
 use Rattle.model.specs.declared.types.Model.{Model}
-use Rattle.certificate.specs.definitions.Tests.{Certificate}
-use Rattle.certificate.specs.definitions.Quotient.{quotientFor}
-use Rattle.certificate.specs.definitions.Root.{RootRule, rootFor}
+use Rattle.certificate.specs.definitions.Tests.{scratchPlace, Certificate, zeroCertificate}
+use Rattle.certificate.specs.definitions.Quotient.{quotientPlacesFor, quotientCertificateFor}
+use Rattle.certificate.specs.definitions.Root.{RootRule, rootPlacesFor, rootRulePlaces, rootCertificateFor}
 
 -- ---- groups
 
@@ -27,8 +27,8 @@ productGroup size start a b = placesFrom ℤ-ring (min size (productSize - start
 
 -- the weights of `count` groups, the first of them at `start`, summed
 unfoldable pub weightInGroups : ℕ → ℕ → ℕ → (ℕ → List ℤ) → ℕ
-weightInGroups size zero start part = 0
-weightInGroups size (suc count) start part = weight (part start) + weightInGroups size count (start + size) part
+weightInGroups size zero start groupAt = 0
+weightInGroups size (suc count) start groupAt = weight (groupAt start) + weightInGroups size count (start + size) groupAt
 
 -- so many groups reach the ends of C and of l; code stops where the degrees end
 abbrev pub groupCount : ℕ → List ℤ → ℕ
@@ -46,6 +46,11 @@ differenceInGroups size a b d =
 
 -- ---- the quotient test
 
+-- for m and N, with a scratch of len numbers, of which `need` are needed
+abbrev pub quotientFor : ℕ → ℕ → ℕ → ℕ → Model → Model → Model → Model → Outcome Certificate
+quotientFor need len m n f g h w =
+    outcome (scratchPlace need len ∷ quotientPlacesFor m n f g h w) (quotientCertificateFor m n h w) zeroCertificate
+
 -- "m = up((weight(2S² − C(w,g)) + 2·M·e_g)/(2S))"
 abbrev pub quotientContractionIn : ℕ → Model → Model → ℕ
 quotientContractionIn size g w =
@@ -62,12 +67,16 @@ quotientResidualIn size f g h =
     + 2 * weight (h .coefficients) * g .radius)
     (2 * scale)
 
--- with a scratch of len numbers of which `need` are needed
 unfoldable pub quotientInGroups : ℕ → ℕ → ℕ → Model → Model → Model → Model → Outcome Certificate
 quotientInGroups size need len f g h w =
     quotientFor need len (quotientContractionIn size g w) (quotientResidualIn size f g h) f g h w
 
 -- ---- the root test
+
+abbrev pub rootFor : RootRule → ℕ → ℕ → ℕ → ℕ → Model → Model → Model → Outcome Certificate
+rootFor rule need len m n f h w =
+    outcome (scratchPlace need len ∷ (rootPlacesFor m n f h w ++ rootRulePlaces rule m n h w)) (rootCertificateFor rule m n h w)
+    zeroCertificate
 
 -- "m = up(weight(S² − C(w,h))/S)"
 abbrev pub rootContractionIn : ℕ → Model → Model → ℕ

@@ -38,7 +38,7 @@ pub record Ready (part : List ℤ) (a b : Model) : Type 0 where
   pub first-good : good a ≡ true
   pub second-good : good b ≡ true
 
--- the same, and good models and candidates of a quotient test
+-- such a part, and good models and candidates of a quotient test
 pub record QuotientReady (part : List ℤ) (f g h w : Model) : Type 0 where
   pub room : 0 < length part
   pub good-f : good f ≡ true

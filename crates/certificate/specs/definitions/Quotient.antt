@@ -42,25 +42,23 @@ quotientPlacesFor m n f g h w =
     badPlace f ∷ badPlace g ∷ badPlace h ∷ badPlace w
     ∷ (testPlaces m n ++ (largePlace (quotientModel h m (displacement w n)) ∷ []))
 
+-- what is given behind them
 abbrev pub quotientCertificateFor : ℕ → ℕ → Model → Model → Certificate
 quotientCertificateFor m n h w = let b = displacement w n in makeCertificate (quotientModel h m b) m n b
 
--- with a scratch of len numbers, of which `need` are needed
-abbrev pub quotientFor : ℕ → ℕ → ℕ → ℕ → Model → Model → Model → Model → Outcome Certificate
-quotientFor need len m n f g h w =
-    outcome (scratchPlace need len ∷ quotientPlacesFor m n f g h w) (quotientCertificateFor m n h w) zeroCertificate
-
+-- the same for the m and N above
 abbrev pub quotientPlacesBehind : Model → Model → Model → Model → List (Bool × ℕ)
 quotientPlacesBehind f g h w = quotientPlacesFor (quotientContraction g w) (quotientResidual f g h) f g h w
-
-abbrev pub quotientPlaces : ℕ → Model → Model → Model → Model → List (Bool × ℕ)
-quotientPlaces len f g h w = scratchPlace scratchSize len ∷ quotientPlacesBehind f g h w
 
 abbrev pub quotientCertificate : Model → Model → Model → Model → Certificate
 quotientCertificate f g h w = quotientCertificateFor (quotientContraction g w) (quotientResidual f g h) h w
 
+-- all places, with a scratch of len numbers, of which `need` are needed
+abbrev pub quotientPlaces : ℕ → ℕ → Model → Model → Model → Model → List (Bool × ℕ)
+quotientPlaces need len f g h w = scratchPlace need len ∷ quotientPlacesBehind f g h w
+
 unfoldable pub quotientNeeding : ℕ → ℕ → Model → Model → Model → Model → Outcome Certificate
-quotientNeeding need len f g h w = quotientFor need len (quotientContraction g w) (quotientResidual f g h) f g h w
+quotientNeeding need len f g h w = outcome (quotientPlaces need len f g h w) (quotientCertificate f g h w) zeroCertificate
 
 -- 02, S-17: "Number 1 is now given below 16". In 01 it was given below 65.
 abbrev pub quotientOutcome : ℕ → Model → Model → Model → Model → Outcome Certificate

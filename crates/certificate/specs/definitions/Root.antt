@@ -54,22 +54,11 @@ pub data RootRule : Type 0 where
 abbrev pub rootRulePlaces : RootRule → ℕ → ℕ → Model → Model → List (Bool × ℕ)
 rootRulePlaces byDiscriminant m n h w = rootLastPlaces h (weight (w .coefficients)) m (displacement w n)
 
+-- what is given behind them
 abbrev pub rootCertificateFor : RootRule → ℕ → ℕ → Model → Model → Certificate
 rootCertificateFor byDiscriminant m n h w = let b = displacement w n in makeCertificate (rootModel h m b) m n b
 
--- with a scratch of len numbers, of which `need` are needed
-abbrev pub rootFor : RootRule → ℕ → ℕ → ℕ → ℕ → Model → Model → Model → Outcome Certificate
-rootFor rule need len m n f h w =
-    outcome (scratchPlace need len ∷ (rootPlacesFor m n f h w ++ rootRulePlaces rule m n h w)) (rootCertificateFor rule m n h w)
-    zeroCertificate
-
--- through N, which every root command shares, and all
-unfoldable pub rootPlaces : ℕ → Model → Model → Model → List (Bool × ℕ)
-rootPlaces len f h w = scratchPlace scratchSize len ∷ rootPlacesFor (rootContraction h w) (rootResidual f h) f h w
-
-abbrev pub rootTestPlaces : RootRule → ℕ → Model → Model → Model → List (Bool × ℕ)
-rootTestPlaces rule len f h w = rootPlaces len f h w ++ rootRulePlaces rule (rootContraction h w) (rootResidual f h) h w
-
+-- the same for the m and N above
 abbrev pub rootPlacesBehind : RootRule → Model → Model → Model → List (Bool × ℕ)
 rootPlacesBehind rule f h w =
     let m = rootContraction h w in
@@ -79,11 +68,20 @@ rootPlacesBehind rule f h w =
 abbrev pub rootCertificate : RootRule → Model → Model → Model → Certificate
 rootCertificate rule f h w = rootCertificateFor rule (rootContraction h w) (rootResidual f h) h w
 
-unfoldable pub rootNeeding : RootRule → ℕ → ℕ → Model → Model → Model → Outcome Certificate
-rootNeeding rule need len f h w = rootFor rule need len (rootContraction h w) (rootResidual f h) f h w
+-- all places, with a scratch of len numbers, of which `need` are needed
+abbrev pub rootTestPlaces : RootRule → ℕ → ℕ → Model → Model → Model → List (Bool × ℕ)
+rootTestPlaces rule need len f h w = scratchPlace need len ∷ rootPlacesBehind rule f h w
 
+unfoldable pub rootNeeding : RootRule → ℕ → ℕ → Model → Model → Model → Outcome Certificate
+rootNeeding rule need len f h w = outcome (rootTestPlaces rule need len f h w) (rootCertificate rule f h w) zeroCertificate
+
+-- 02, S-17: "Number 1 is now given below 16". In 01 it was given below 65.
 abbrev pub rootOutcome : RootRule → ℕ → Model → Model → Model → Outcome Certificate
 rootOutcome rule len f h w = rootNeeding rule scratchSize len f h w
+
+-- the places through N, which every root command shares
+unfoldable pub rootPlaces : ℕ → Model → Model → Model → List (Bool × ℕ)
+rootPlaces len f h w = scratchPlace scratchSize len ∷ rootPlacesFor (rootContraction h w) (rootResidual f h) f h w
 
 -- the entry's definition. "A candidate is a model without a radius (taken as 0)."
 abbrev pub rootTest : ℕ → Model → Candidate → Candidate → Outcome Certificate

@@ -12,9 +12,9 @@ use Rattle.model.specs.definitions.Outcomes.{passing}
 use Rattle.model.specs.definitions.Multiply.{productList}
 use Rattle.model.specs.declared.types.Model.{Model}
 use Rattle.certificate.specs.definitions.Tests.{scratchSize}
-use Rattle.certificate.specs.definitions.Quotient.{quotientContraction, quotientResidual, quotientFor, quotientNeeding, quotientOutcome}
-use Rattle.certificate.specs.definitions.Root.{RootRule, rootContraction, rootResidual, rootFor, rootNeeding, rootOutcome}
-use Rattle.certificate.specs.definitions.Groups.{quotientInGroups, rootInGroups}
+use Rattle.certificate.specs.definitions.Quotient.{quotientContraction, quotientResidual, quotientNeeding, quotientOutcome}
+use Rattle.certificate.specs.definitions.Root.{RootRule, rootContraction, rootResidual, rootNeeding, rootOutcome}
+use Rattle.certificate.specs.definitions.Groups.{quotientFor, quotientInGroups, rootFor, rootInGroups}
 use Rattle.certificate.specs.definitions.InnerContracts.{refusedTest}
 use Rattle.certificate.specs.laws.Stages.{quotient-needs, root-needs}
 use Rattle.certificate.specs.laws.QuotientStages.{quotient-short}

@@ -64,7 +64,8 @@ module _ (len : ℕ) (f h w : Model) where
   )
 
   -- the test passes exactly where these hold and the result is not too large
-  pub root-conditions : Passed (rootTestPlaces byDiscriminant len f h w) ↔ (RootConditions len f h w × (tooLarge (rootResult f h w) ≡ false))
+  pub root-conditions : Passed (rootTestPlaces byDiscriminant scratchSize len f h w) ↔ (RootConditions len f h w × (tooLarge (rootResult f h w) ≡ false))
+  unfolding rootPlaces
   root-conditions =
       let parts = passed-append (rootPlaces len f h w) (rootLastPlaces h (weight (w .coefficients)) (rootContraction h w) (rootDisplacement f h w)) in (
         λ p. let q = parts .0 p in (record { numbers = numbers-conditions .0 (q .0); discriminant = ltb-false _ _ (q .1 .0) }, q .1 .1 .0),
@@ -76,7 +77,7 @@ module _ (len : ℕ) (f h w : Model) where
       → RootConditions len f h w × (tooLarge (rootResult f h w) ≡ false) × (c ≡ rootCertificate byDiscriminant f h w)
   unfolding rootNeeding rootPlaces
   root-passes e =
-      let (passed, same) = outcome-accepted (rootTestPlaces byDiscriminant len f h w) (rootCertificate byDiscriminant f h w) zeroCertificate e in
+      let (passed, same) = outcome-accepted (rootTestPlaces byDiscriminant scratchSize len f h w) (rootCertificate byDiscriminant f h w) zeroCertificate e in
       let (conditions, small) = root-conditions .0 passed in
       (conditions, small, same)
 
@@ -84,5 +85,5 @@ module _ (len : ℕ) (f h w : Model) where
       → rootOutcome byDiscriminant len f h w ≡ accepted (rootCertificate byDiscriminant f h w)
   unfolding rootNeeding rootPlaces
   root-result c small =
-      outcome-passed (rootTestPlaces byDiscriminant len f h w) (rootCertificate byDiscriminant f h w) zeroCertificate
+      outcome-passed (rootTestPlaces byDiscriminant scratchSize len f h w) (rootCertificate byDiscriminant f h w) zeroCertificate
       (root-conditions .1 (c, small))

@@ -30,7 +30,7 @@ use Rattle.job.specs.definitions.Decode.{makerAt}
 use Rattle.job.specs.definitions.Reading.{readingPlaces}
 use Rattle.job.specs.definitions.Step.{command}
 use Rattle.job.specs.definitions.Run.{run, jobOutcome}
-use Rattle.job.specs.definitions.Work.{checkOutcome, workAfter, workWith, resultWords, scratchAfterJob}
+use Rattle.job.specs.definitions.Work.{checkNeeding, workNeeding, workWith, resultWords, scratchAfterJob}
 use Rattle.ferruntzo.specs.definitions.Areas.{areaOut}
 use Rattle.ferruntzo.specs.definitions.Operations.{operationAnswer, outcomeIn, binaryAnswer, evaluationAnswer, boundsIn, evaluateAnswer}
 use Rattle.ferruntzo.specs.definitions.Certificates.{testAnswer, testIn, rootAnswer, testFits}
@@ -122,5 +122,5 @@ pub checks :
     ≡ jobAnswer 0 (pos 1 ∷ (zeros 33 ++ (pos 5 ∷ (zeros 1085 ++ nines 1)))) (zeros 16 ++ nines 50) (1 ∷ 0 ∷ 9 ∷ []))
     × (checkAnswer (0x01 ∷ 1 ∷ []) (nines 1119) (nines 17) (9 ∷ 9 ∷ 9 ∷ []) ≡ jobAnswer 1 (nines 1119) (nines 17) (0 ∷ 0 ∷ 9 ∷ []))
     × (checkAnswer (0x01 ∷ 1 ∷ []) (nines 1120) (nines 16) (9 ∷ []) ≡ jobAnswer 1 (nines 1120) (nines 16) (9 ∷ []))
-unfolding checkAnswer areaOut checkOutcome workAfter workWith resultWords scratchAfterJob jobOutcome run command operation makerPlaces readingPlaces makerAt signedsAt good weight passing zeros
+unfolding checkAnswer areaOut checkNeeding workNeeding workWith resultWords scratchAfterJob jobOutcome run command operation makerPlaces readingPlaces makerAt signedsAt good weight passing zeros
 checks = (refl, refl, refl, refl)

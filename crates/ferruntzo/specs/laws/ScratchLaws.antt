@@ -1,8 +1,8 @@
 -- Document 02, S-17, for the exported functions: "With 16 or more, answers agree with those that 65 gave on the same other input".
--- Number, result and numbers go by the call's outcome; of the check they go by `check-as-65` and `work-as-65` (job/laws/CheckLaws).
+-- A test's number, result and numbers go by the call's outcome.
 use mathlib.Core.Path.{_≡_, ap, ap₂}
 use mathlib.Core.Bool.{Bool, cond, _&&_}
-use mathlib.Core.List.{List}
+use mathlib.Core.List.{List, [], _∷_}
 use Prim.Native.Nat.{ℕ, _≤_}
 use lib.IntN.{ℤ}
 use lib.ListN.{length}
@@ -12,9 +12,13 @@ use Rattle.model.specs.definitions.Area.{modelSize, candidateSize, areaModel, a
 use Rattle.certificate.specs.definitions.Tests.{scratchSize}
 use Rattle.certificate.specs.definitions.Root.{byDiscriminant}
 use Rattle.certificate.specs.laws.GroupTheorem.{quotient-as-65, root-as-65}
+use Rattle.job.specs.definitions.Outcomes.{JobOutcome, counted, refusalNumber, refusedCommand, resultCount}
+use Rattle.job.specs.definitions.Work.{checkNeeding, workNeeding}
+use Rattle.job.specs.laws.CheckLaws.{check-as-65, work-as-65}
 use Rattle.selection.specs.laws.SelectLaws.{selection-as-65}
-use Rattle.ferruntzo.specs.definitions.Areas.{fits, numbersSize, selectionSize}
+use Rattle.ferruntzo.specs.definitions.Areas.{fits, areaOut, numbersSize, selectionSize}
 use Rattle.ferruntzo.specs.definitions.Certificates.{testFits, shortTest, quotientCall, rootCall}
+use Rattle.ferruntzo.specs.definitions.Jobs.{answerSize, checkAnswer}
 use Rattle.ferruntzo.specs.definitions.Selections.{shortSelection, selectionCall}
 
 module _ (scratch former : List ℤ) (room : scratchSize ≤ length scratch) (room′ : productSize ≤ length former) where
@@ -41,3 +45,20 @@ module _ (scratch former : List ℤ) (room : scratchSize ≤ length scratch) (ro
   selection-call-as-65 f g first second answer =
       ap₂ (λ t o. cond t o shortSelection) (ap (λ t. fits modelSize f && fits modelSize g && t && fits selectionSize answer) same-fit)
       (selection-as-65 (areaModel f) (areaModel g) first second room room′)
+
+  -- of the check the number, the work area and the answer
+  module _ (job : List ℕ) (work : List ℤ) (answer : List ℕ) where
+    abbrev by-65 : JobOutcome ℕ
+    by-65 = counted (checkNeeding productSize job work former)
+
+    pub check-call-as-65 : let a = checkAnswer job work scratch answer in
+        (a .number ≡ cond (fits answerSize answer) (refusalNumber by-65) 1)
+        × (a .work ≡ cond (fits answerSize answer) (workNeeding productSize job work former) work)
+        × (a .answer ≡ areaOut answerSize (resultCount by-65 ∷ refusedCommand by-65 ∷ []) answer)
+    unfolding checkAnswer
+    check-call-as-65 =
+        let same = check-as-65 job work scratch former room room′ in (
+          ap (λ o. cond (fits answerSize answer) (refusalNumber (counted o)) 1) same,
+          ap (λ l. cond (fits answerSize answer) l work) (work-as-65 job work scratch former room room′),
+          ap (λ o. areaOut answerSize (resultCount (counted o) ∷ refusedCommand (counted o) ∷ []) answer) same,
+        )

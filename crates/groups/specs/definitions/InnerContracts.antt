@@ -9,5 +9,5 @@ abbrev pub Below : ℕ → TwoPlaces → Type 0
 Below limit r = (natAbs (r .first) < limit) × (natAbs (r .second) < limit)
 
 -- they are x and y
-abbrev pub Are : TwoPlaces → ℤ → ℤ → Type 0
-Are r x y = (r .first ≡ x) × (r .second ≡ y)
+abbrev pub Holds : TwoPlaces → ℤ → ℤ → Type 0
+Holds r x y = (r .first ≡ x) × (r .second ≡ y)

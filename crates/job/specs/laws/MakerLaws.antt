@@ -1,4 +1,4 @@
--- What each maker gives is what the library's operation or test gives for the results that it names.
+-- What each maker gives is what the library's operation or test gives for the results that it names; of a test it is what 65 gave.
 use mathlib.Core.Path.{_≡_, refl, _∙_, ap}
 use mathlib.Core.Bool.{Bool, true, false, cond}
 use mathlib.Core.List.{List, [], _∷_}

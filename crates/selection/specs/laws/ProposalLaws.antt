@@ -1,4 +1,4 @@
--- One proposal: where it is short, where it passes, and what a test that passes says of its coefficients.
+-- One proposal: where it or the scratch is short, where it passes, and what a test that passes says of its coefficients.
 use mathlib.Core.Path.{_≡_, refl, sym, _∙_, ap}
 use mathlib.Core.Bool.{Bool, true, false, cond}
 use mathlib.Core.List.{List}

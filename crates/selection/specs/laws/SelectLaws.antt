@@ -1,4 +1,4 @@
--- What a selection tells of the two proposals, and what the lent numbers mean.
+-- What a selection tells of the two proposals, what the lent numbers mean, and how long the scratch must be.
 use mathlib.Core.Path.{_≡_, refl, sym, _∙_, ap, ap₂}
 use mathlib.Core.Logic.{_⊎_, inl, inr}
 use mathlib.Core.Bool.{Bool, true, false, cond}

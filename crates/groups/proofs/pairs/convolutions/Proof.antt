@@ -13,7 +13,7 @@ use mir.Facts.{toZ-ofZ}
 use Rattle.integer.specs.laws.Parts.{abs-add, abs-mul}
 use Rattle.chebyshev.specs.definitions.Coefficients.{weight}
 use Rattle.chebyshev.specs.laws.Weight.{weight-at}
-use Rattle.groups.specs.definitions.InnerContracts.{Are}
+use Rattle.groups.specs.definitions.InnerContracts.{Holds}
 use Rattle.groups.proofs.PairWalks.{no-pair}
 use Rattle.groups.proofs.PlaceSums.{from-zero, first-from, second-from, none-from}
 use Rattle.groups.proofs.pairs.convolutions.Statement.{statement}
@@ -46,7 +46,7 @@ module _ (c : tie.After-multiply-add) where
   abbrev y : ℤ
   y = getD b (length b - 1) (pos 0)
 
-  pair-is : Are (c .multiply-add .result) (pos 0 +ℤ x *ℤ y) (pos 0 +ℤ x *ℤ pos 0)
+  pair-is : Holds (c .multiply-add .result) (pos 0 +ℤ x *ℤ y) (pos 0 +ℤ x *ℤ pos 0)
   pair-is =
       let fits-x : SFits w32 x = record { sfits = c .before .before .multiply-add-arg .given } in
       let fits-y : SFits w32 y = record { sfits = c .before .multiply-add-arg2 .given } in
