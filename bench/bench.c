@@ -11,8 +11,9 @@
      bench stack JOB..          bytes of stack that a call writes to
      bench former JOB..         the largest deviation that the former check finds
 
-   count, time and stack first compare all answers and areas of the three versions.  The last
-   JOB must hold a load and 31 roots; its first 1, 4 and 16 results are cases too. */
+   count, time and stack first compare all answers and areas of the three versions.  count and
+   alone have the two tests of every degree from 4 to 32, time and stack of 4, 8, 16 and 32.
+   The last JOB must hold a load and 31 roots; its first 1, 4 and 16 results are cases too. */
 #define _POSIX_C_SOURCE 200809L
 #include "ferruntzo.h"
 #include "former.h"
@@ -94,7 +95,7 @@ struct bench_case {
     int with_former;
 };
 
-#define MAX_CASES 64
+#define MAX_CASES 128
 static struct bench_case cases[MAX_CASES];
 static int case_count;
 
@@ -149,6 +150,38 @@ static void geometric(int32_t *model, int degree, double first, double term, dou
         model[1 + k] = (int32_t)lround(term * FERRUNTZO_S * pow(ratio, k));
 }
 
+/* The quotient test f/g, every polynomial of one degree. */
+static const struct bench_case *add_quotient(int degree)
+{
+    struct bench_case *quotient = new_case(QUOTIENT, "quotient", degree);
+    double values[NODES], inverse[NODES];
+    geometric(quotient->f, degree, 2.0, 0.5, 0.8);
+    geometric(quotient->g, degree, 4.0, 0.8, -0.7);
+    for (int i = 0; i < NODES; i++) {
+        inverse[i] = 1 / node_value(quotient->g, i);
+        values[i] = node_value(quotient->f, i) * inverse[i];
+    }
+    project(values, degree, quotient->h);
+    project(inverse, degree, quotient->w);
+    quotient->with_former = degree == FERRUNTZO_MAX_DEGREE;
+    return quotient;
+}
+
+/* The root test of the same g. */
+static void add_root(int degree)
+{
+    struct bench_case *root = new_case(ROOT, "root", degree);
+    double values[NODES], inverse[NODES];
+    geometric(root->f, degree, 4.0, 0.8, -0.7);
+    for (int i = 0; i < NODES; i++) {
+        values[i] = sqrt(node_value(root->f, i));
+        inverse[i] = 0.5 / values[i];
+    }
+    project(values, degree, root->h);
+    project(inverse, degree, root->w);
+    root->with_former = degree == FERRUNTZO_MAX_DEGREE;
+}
+
 /* Multiply, integrate, evaluate, both tests, the conversion of a series and the selection of
    two proposals, every polynomial of one degree; the integrand has one less, so that its integral
    has that degree. */
@@ -159,18 +192,7 @@ static void add_degree(int degree)
     geometric(product->g, degree, 4.0, 0.8, -0.7);
     geometric(new_case(INTEGRATE, "integrate", degree)->f, degree - 1, 4.0, 0.8, -0.7);
     geometric(new_case(EVALUATE, "evaluate", degree)->f, degree, 4.0, 0.8, -0.7);
-
-    struct bench_case *quotient = new_case(QUOTIENT, "quotient", degree);
-    double values[NODES], inverse[NODES];
-    memcpy(quotient->f, product->f, sizeof quotient->f);
-    memcpy(quotient->g, product->g, sizeof quotient->g);
-    for (int i = 0; i < NODES; i++) {
-        inverse[i] = 1 / node_value(quotient->g, i);
-        values[i] = node_value(quotient->f, i) * inverse[i];
-    }
-    project(values, degree, quotient->h);
-    project(inverse, degree, quotient->w);
-    quotient->with_former = degree == FERRUNTZO_MAX_DEGREE;
+    const struct bench_case *quotient = add_quotient(degree);
 
     /* Both pass; the second is the quotient's own proposal, the first is worse. */
     struct bench_case *two = new_case(QUOTIENT_OF_TWO, "quotient_of_two", degree);
@@ -180,16 +202,7 @@ static void add_degree(int degree)
     memcpy(two->second + FERRUNTZO_CANDIDATE_SIZE, quotient->w, sizeof quotient->w);
     memcpy(two->first, two->second, sizeof two->first);
     two->first[1] += 1000;
-
-    struct bench_case *root = new_case(ROOT, "root", degree);
-    memcpy(root->f, product->g, sizeof root->f);
-    for (int i = 0; i < NODES; i++) {
-        values[i] = sqrt(node_value(root->f, i));
-        inverse[i] = 0.5 / values[i];
-    }
-    project(values, degree, root->h);
-    project(inverse, degree, root->w);
-    root->with_former = degree == FERRUNTZO_MAX_DEGREE;
+    add_root(degree);
 
     struct bench_case *series = new_case(FROM_SERIES, "from_series", degree);
     geometric(series->series, degree, 4.0, 0.8, -0.7);
@@ -226,12 +239,15 @@ static void add_prefix(const struct bench_case *job, int results)
 
 /* ---- Calls ---- */
 
+/* A library before version 3.0.0 needs so many. */
+#define SCRATCH_LENT 65
+
 /* All that a call writes. */
 static struct areas {
     uint32_t number;
     int32_t out[FERRUNTZO_MODEL_SIZE];
     int64_t bounds[FERRUNTZO_BOUNDS_SIZE];
-    int64_t scratch[FERRUNTZO_SCRATCH_SIZE];
+    int64_t scratch[SCRATCH_LENT];
     uint64_t numbers[FERRUNTZO_NUMBERS_SIZE];
     int32_t work[FERRUNTZO_WORK_SIZE];
     uint32_t answer[FERRUNTZO_ANSWER_SIZE];
@@ -453,15 +469,21 @@ int main(int argc, char **argv)
         former();
         return 0;
     }
-    for (int degree = 4; degree <= FERRUNTZO_MAX_DEGREE; degree *= 2)
-        add_degree(degree);
+    int alone = strcmp(mode, "alone") == 0;
+    logged = alone || strcmp(mode, "count") == 0;
+    for (int degree = 4; degree <= FERRUNTZO_MAX_DEGREE; degree++) {
+        if ((degree & (degree - 1)) == 0) {
+            add_degree(degree);
+        } else if (logged) {
+            add_quotient(degree);
+            add_root(degree);
+        }
+    }
     const struct bench_case *last = NULL;
     for (int i = first; i < argc; i++)
         last = add_job(argv[i]);
     for (int results = 1; results <= 16; results *= 4)
         add_prefix(last, results);
-    int alone = strcmp(mode, "alone") == 0;
-    logged = alone || strcmp(mode, "count") == 0;
     if (!alone)
         compare_versions();
     if (logged)

@@ -14,8 +14,8 @@
 
    examples/check_job.c and examples/two_proposals.c are programs to copy,
    docs/FORMAT.md the format of jobs.  "01" below is the scope document that fixes
-   every number but those of power series and of two proposals, which change
-   requests S-3 and S-14 fix.
+   every number but those of power series, of two proposals and of the scratch,
+   which change requests S-3, S-14 and S-17 fix.
 
    NUMBERS
 
@@ -80,8 +80,8 @@
    - An area that is itself shorter than needed is not touched.
    - out, bounds and numbers, and the answer of ferruntzo_quotient_of_two, are
      zero after every refusal, 1 included.
-   - The 65 numbers of scratch are zero after every call of ferruntzo_quotient,
-     ferruntzo_root and ferruntzo_quotient_of_two.
+   - The first 16 numbers of scratch are zero after every call of
+     ferruntzo_quotient, ferruntzo_root and ferruntzo_quotient_of_two.
    ferruntzo_check says what holds of its work, scratch and answer. */
 #ifndef FERRUNTZO_H
 #define FERRUNTZO_H
@@ -95,10 +95,10 @@ extern "C" {
 
 /* ---- Version ---- */
 
-#define FERRUNTZO_VERSION_MAJOR 2
-#define FERRUNTZO_VERSION_MINOR 1
+#define FERRUNTZO_VERSION_MAJOR 3
+#define FERRUNTZO_VERSION_MINOR 0
 #define FERRUNTZO_VERSION_PATCH 0
-#define FERRUNTZO_VERSION "2.1.0"
+#define FERRUNTZO_VERSION "3.0.0"
 
 /* ---- Limits ---- */
 
@@ -116,7 +116,7 @@ extern "C" {
 #define FERRUNTZO_PROPOSAL_SIZE 68    /* int32_t: degree, coefficients of h, then of w */
 #define FERRUNTZO_SERIES_SIZE 34      /* int32_t: degree, coefficients of x^0 .. x^32 */
 #define FERRUNTZO_BOUNDS_SIZE 2       /* int64_t: low, high */
-#define FERRUNTZO_SCRATCH_SIZE 65     /* int64_t */
+#define FERRUNTZO_SCRATCH_SIZE 16     /* int64_t; 65 before version 3.0.0 */
 #define FERRUNTZO_NUMBERS_SIZE 3      /* uint64_t: m, N, b */
 #define FERRUNTZO_REPORT_SIZE FERRUNTZO_NUMBERS_SIZE  /* its former name */
 #define FERRUNTZO_WORK_SIZE 1120      /* int32_t: 32 models */
@@ -239,10 +239,11 @@ uint32_t ferruntzo_from_series(const int32_t *series, size_t series_len,
 /* ---- The two tests ----
 
    h is the proposed answer, w a helper; docs/FORMAT.md says how to choose them.
-   Sizes: f and g 35, h and w 34, scratch 65, out 35, numbers 3.
+   Sizes: f and g 35, h and w 34, scratch 16, out 35, numbers 3.
    Accepted: out holds h with the radius that the test gives; numbers holds 01's
-   m, N and b.  Refused: out and numbers are zero.  scratch is zero after every
-   call.  Each of the three is left as it was if it is itself too short. */
+   m, N and b.  Refused: out and numbers are zero.  The 16 numbers of scratch are
+   zero after every call; a longer one changes no answer.  Each of the three areas is
+   left as it was if it is itself too short. */
 
 /* h for f/g, w near 1/g.  Accepted: at every x from -1 to 1 no value that g
    allows is zero, and each value of f over one of g is allowed by out.
@@ -273,7 +274,7 @@ uint32_t ferruntzo_root(const int32_t *f, size_t f_len,
    shorter than 68 numbers fails with 1, before f and g are looked at.  If both
    pass, the one with the smaller radius is chosen, if the radii are equal the
    first; if just one passes, that one.
-   Sizes: f and g 35, scratch 65, answer 2.
+   Sizes: f and g 35, scratch 16, answer 2.
 
    Accepted: answer[0] is FERRUNTZO_CHOSEN_FIRST or FERRUNTZO_CHOSEN_SECOND,
    answer[1] the radius.  The coefficients are a part of the caller's own numbers:
@@ -283,7 +284,7 @@ uint32_t ferruntzo_root(const int32_t *f, size_t f_len,
    is allowed by these coefficients with this radius.
 
    Refused, 1 included: answer is FERRUNTZO_CHOSEN_NONE and 0; it is left as it was
-   if it is itself too short.  The 65 numbers of scratch are zero after every call,
+   if it is itself too short.  The 16 numbers of scratch are zero after every call,
    also if both proposals are short, unless it is itself too short.
 
    Refusals: 1 (f, g, scratch or answer); then, if neither proposal passes, what the
@@ -299,7 +300,7 @@ uint32_t ferruntzo_quotient_of_two(const int32_t *f, size_t f_len,
 /* ---- Jobs ----
 
    Checks the job_len bytes at job, of any length and content.
-   Sizes: work 1120, scratch 65, answer 2.
+   Sizes: work 1120, scratch 16, answer 2.
 
    Accepted: answer[0] is the count of results, 0 to 32, and answer[1] is 0.
    Result i is the model at work + 35 * i; the rest of the 1120 numbers is zero.
@@ -309,7 +310,7 @@ uint32_t ferruntzo_quotient_of_two(const int32_t *f, size_t f_len,
    refused command, counted from 0 (the edition is command 0); the 1120 numbers
    of work are zero.
 
-   In both cases the 65 numbers of scratch are zero.
+   In both cases the 16 numbers of scratch are zero.
 
    Refused with 1: work and scratch are not touched.  If answer has its 2
    numbers they are 0 and 0; if it is too short it is not touched either.

@@ -16,7 +16,7 @@
 #define SERIES_SIZE 34
 #define BOUNDS_SIZE 2
 #define PRODUCT_SIZE 65          /* the list C */
-#define SCRATCH_SIZE PRODUCT_SIZE
+#define SCRATCH_SIZE 16
 #define NUMBERS_SIZE 3
 #define MAX_RESULTS 32
 #define WORK_SIZE (MAX_RESULTS * MODEL_SIZE)
@@ -209,7 +209,10 @@ static uint32_t from_series(const int32_t *series, int32_t *out)
     return finish(degree, row, up(error, EXPANSION_UNIT), out);
 }
 
-/* ---- The two tests ---- */
+/* ---- The two tests ----
+
+   The list C stands on the stack, all 65 numbers at once; a lent scratch is only measured and
+   cleared, as include/ferruntzo.h says. */
 
 /* c := c - 2S f, over f's coefficients; c is zero above C's own degree. */
 static void take_residual(int64_t *c, const int32_t *f)
@@ -260,9 +263,10 @@ static inline uint32_t judge_quotient(const int32_t *f, const int32_t *g, const 
 }
 
 static uint32_t test_quotient(const int32_t *f, const int32_t *g, const int32_t *h,
-                              const int32_t *w, int64_t *c, int32_t *out, uint64_t *numbers)
+                              const int32_t *w, int32_t *out, uint64_t *numbers)
 {
     struct passed p;
+    int64_t c[PRODUCT_SIZE];
     if (!good_model(f) || !good_model(g))
         return BAD_MODEL;
     uint32_t number = judge_quotient(f, g, h, w, c, &p);
@@ -286,10 +290,10 @@ static uint32_t test_proposal(int good, const int32_t *f, const int32_t *g,
 /* The tighter of two proposals; answer is zero so far. */
 static uint32_t select_proposal(const int32_t *f, const int32_t *g,
                                 const int32_t *first, size_t first_len,
-                                const int32_t *second, size_t second_len,
-                                int64_t *c, uint32_t *answer)
+                                const int32_t *second, size_t second_len, uint32_t *answer)
 {
     struct passed one, two;
+    int64_t c[PRODUCT_SIZE];
     int good = good_model(f) && good_model(g);
     uint32_t number = test_proposal(good, f, g, first, first_len, c, &one);
     uint32_t other = test_proposal(good, f, g, second, second_len, c, &two);
@@ -306,8 +310,9 @@ static uint32_t select_proposal(const int32_t *f, const int32_t *g,
 }
 
 static uint32_t test_root(const int32_t *f, const int32_t *h, const int32_t *w,
-                          int64_t *c, int32_t *out, uint64_t *numbers)
+                          int32_t *out, uint64_t *numbers)
 {
+    int64_t c[PRODUCT_SIZE];
     if (!good_model(f) || !good_candidate(h) || !good_candidate(w))
         return BAD_MODEL;
     int64_t sum = 0, m_weight = model_weight(w);
@@ -406,7 +411,7 @@ uint32_t plain_quotient(const int32_t *f, size_t f_len, const int32_t *g, size_t
     int fit = CLEAR(out, MODEL_SIZE) & CLEAR(numbers, NUMBERS_SIZE);
     if (fit && f_len >= MODEL_SIZE && g_len >= MODEL_SIZE && h_len >= CANDIDATE_SIZE
         && w_len >= CANDIDATE_SIZE && scratch_len >= SCRATCH_SIZE)
-        number = test_quotient(f, g, h, w, scratch, out, numbers);
+        number = test_quotient(f, g, h, w, out, numbers);
     CLEAR(scratch, SCRATCH_SIZE);
     return number;
 }
@@ -419,7 +424,7 @@ uint32_t plain_root(const int32_t *f, size_t f_len, const int32_t *h, size_t h_l
     int fit = CLEAR(out, MODEL_SIZE) & CLEAR(numbers, NUMBERS_SIZE);
     if (fit && f_len >= MODEL_SIZE && h_len >= CANDIDATE_SIZE && w_len >= CANDIDATE_SIZE
         && scratch_len >= SCRATCH_SIZE)
-        number = test_root(f, h, w, scratch, out, numbers);
+        number = test_root(f, h, w, out, numbers);
     CLEAR(scratch, SCRATCH_SIZE);
     return number;
 }
@@ -433,7 +438,7 @@ uint32_t plain_quotient_of_two(const int32_t *f, size_t f_len, const int32_t *g,
     uint32_t number = SHORT_AREA;
     if (CLEAR(answer, SELECTION_SIZE) && f_len >= MODEL_SIZE && g_len >= MODEL_SIZE
         && scratch_len >= SCRATCH_SIZE)
-        number = select_proposal(f, g, first, first_len, second, second_len, scratch, answer);
+        number = select_proposal(f, g, first, first_len, second, second_len, answer);
     CLEAR(scratch, SCRATCH_SIZE);
     return number;
 }
@@ -474,7 +479,7 @@ static int known(uint8_t byte, size_t *width, size_t *names)
 
 /* One command that makes a result; out is its own 35 numbers of the work area, zero so far. */
 static uint32_t operate(uint8_t byte, const uint8_t *operands, size_t names,
-                        const int32_t *work, int64_t *scratch, int32_t *out)
+                        const int32_t *work, int32_t *out)
 {
     int32_t h[CANDIDATE_SIZE], w[CANDIDATE_SIZE];
     uint64_t numbers[NUMBERS_SIZE];
@@ -495,12 +500,12 @@ static uint32_t operate(uint8_t byte, const uint8_t *operands, size_t names,
     read_block(operands + names, h);
     read_block(operands + names + BLOCK_BYTES, w);
     if (byte == 0x20)
-        return test_quotient(a, b, h, w, scratch, out, numbers);
-    return test_root(a, h, w, scratch, out, numbers);
+        return test_quotient(a, b, h, w, out, numbers);
+    return test_root(a, h, w, out, numbers);
 }
 
 /* Checks the commands in turn; leaves the last command's number in *command. */
-static uint32_t run(const uint8_t *job, size_t job_len, int32_t *work, int64_t *scratch,
+static uint32_t run(const uint8_t *job, size_t job_len, int32_t *work,
                     uint32_t *count, uint32_t *command)
 {
     size_t position = 0, width, names;
@@ -528,8 +533,7 @@ static uint32_t run(const uint8_t *job, size_t job_len, int32_t *work, int64_t *
                 return NOT_A_RESULT;
         if (*count == MAX_RESULTS)
             return TOO_MANY_RESULTS;
-        uint32_t number = operate(byte, operands, names, work, scratch,
-                                  work + MODEL_SIZE * *count);
+        uint32_t number = operate(byte, operands, names, work, work + MODEL_SIZE * *count);
         if (number != 0)
             return number;
         ++*count;
@@ -543,7 +547,7 @@ uint32_t plain_check(const uint8_t *job, size_t job_len, int32_t *work, size_t w
     if (!CLEAR(answer, ANSWER_SIZE) || work_len < WORK_SIZE || scratch_len < SCRATCH_SIZE)
         return SHORT_AREA;
     memset(work, 0, WORK_SIZE * sizeof *work);
-    uint32_t number = run(job, job_len, work, scratch, &count, &command);
+    uint32_t number = run(job, job_len, work, &count, &command);
     memset(scratch, 0, SCRATCH_SIZE * sizeof *scratch);
     if (number != 0) {
         memset(work, 0, WORK_SIZE * sizeof *work);

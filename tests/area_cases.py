@@ -11,7 +11,7 @@ from header import (
     CANDIDATE_SIZE, HELPER_NOT_POSITIVE, JOB_ENDS, LARGE_RESIDUAL, LARGE_RESULT, MAX_DEGREE,
     MAX_RESULTS, MODEL_SIZE, NEGATIVE_DISCRIMINANT, NOT_A_RESULT, NOT_CONTRACTING, NUMBERS_SIZE, POINT_OUTSIDE,
     SCRATCH_SIZE, SELECTION_SIZE, SERIES_SIZE, TOO_MANY_RESULTS, WORK_SIZE)
-from oracle import LIMIT, S, constant, model, power, series, term
+from oracle import LIMIT, PRODUCT_SIZE, S, constant, model, power, series, term
 from selection_cases import DIVIDEND, DIVISOR, TESTED
 from series_cases import GROWN
 
@@ -34,6 +34,9 @@ AREAS = {
     'from_series': (SERIES_IN, OUT),
     'quotient_of_two': (MODEL_IN, MODEL_IN, PROPOSAL, PROPOSAL, SCRATCH, ('I', SELECTION_SIZE, 'answer')),
 }
+# Numbers that a long enough area has beyond its size; a scratch half of the time none, else up to those of the list C and one more.
+MORE = {what: (0, 0, 1, 3) for areas in AREAS.values() for _, _, what in areas}
+MORE['scratch'] = (0, 0, 0, 0, 1, *(PRODUCT_SIZE + more - SCRATCH_SIZE for more in (-1, 0, 1)))
 # What an entry answers in; each is zero after every refusal if it is itself long enough.
 ANSWERS = ('out', 'bounds', 'numbers', 'answer')
 

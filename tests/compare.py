@@ -4,12 +4,14 @@
   compare.py --library libferruntzo.a   the product against the oracle
   compare.py --plant multiply           a planted wrong answer must be found
   compare.py --plant quotient_of_two --exchange   so must the other proposal, chosen
+  compare.py --plant root --cleared 17  so must a scratch of which 17 numbers are cleared
   compare.py --leave multiply           an area left as it was by refusal 1 must be found
 
 Exits with 0 when all answers agree, 1 when any answer differs, 2 when something
 could not be built or run or the oracle's own checks failed.  A sample of the
-accepted cases is also put through the soundness checks; of the models that are
-made of series and of the chosen proposals, each as it was answered.
+accepted cases is also put through the soundness checks, of tests and jobs those
+with a scratch of 16; of the models that are made of series and of the chosen
+proposals, each as it was answered.
 """
 
 import argparse
@@ -27,11 +29,13 @@ import cases
 import certificate_cases
 import job_cases
 import oracle as o
+import scratch_cases
 import selection_cases
 import series_cases
 import soundness
-from area_cases import ANSWERS, ANY_LENGTH, AREAS, WITNESSES, area_cases, sized, witness
+from area_cases import ANSWERS, ANY_LENGTH, AREAS, MORE, WITNESSES, area_cases, sized, witness
 from examples_of_01 import check_examples
+from group_cases import group_cases
 from header import CANDIDATE_SIZE, MODEL_SIZE, PLACE_RADIUS, SCRATCH_SIZE, SHORT_AREA, WORK_SIZE, check_header
 
 HERE = Path(__file__).resolve().parent
@@ -43,10 +47,12 @@ SHARE = {'add': 2, 'subtract': 2, 'multiply': 3, 'integrate': 3, 'evaluate': 3,
          'quotient': 4, 'root': 4, 'check': 5, 'from_series': 3, 'quotient_of_two': 3}
 BATCH = 2000
 SOUNDNESS_SAMPLE = 0.04
+SAMPLE_OF_16 = 0.25         # of the accepted cases that have a scratch, of 16 numbers
 ANSWERED = ('from_series', 'quotient_of_two')       # checked for soundness as the library answered, each of them
 WHOLE = 75000               # calls of the whole comparison; at least so many of them
 TIED = 2000                 # are accepted where some near rounds a tie
 PAIRS, CHOSEN = 7000, 4000  # have two proposals; have one chosen and put to random fractions
+SOUND_OF_16 = 50            # of each entry with a scratch are checked for soundness with one of 16
 ROUNDING = ('multiply', 'integrate', 'evaluate', 'from_series', 'check')        # the entries that use near
 
 
@@ -121,7 +127,7 @@ def lent_areas(case, rng, guards):
         if what in ANY_LENGTH:
             content, length = array(code, case.inputs[i]), len(case.inputs[i])
         else:
-            length = told.get(i, size + rng.choice((0, 0, 1, 3)))
+            length = told.get(i, size + rng.choice(MORE[what]))
             content = array(code, rng.randbytes(width * length))
             if what == 'in':
                 numbers = array(code, flat(case.inputs[i])[:size])
@@ -198,7 +204,7 @@ def make_cases(entries, wanted, rng):
              **series_cases.RANDOM, **selection_cases.RANDOM}
     made = 0
     for entry in entries:
-        for case in (*area_cases(entry), *fixed[entry]()):
+        for case in (*area_cases(entry), *scratch_cases.scratch_cases(entry), *group_cases(entry), *fixed[entry]()):
             made += 1
             yield case
     shares = [SHARE[entry] for entry in entries]
@@ -233,6 +239,11 @@ def place_of(case, areas, wanted):
         start += len(content) * content.itemsize
 
 
+def scratch_of(case, areas):
+    """The length of the scratch, if the entry has one."""
+    return areas[scratch_cases.PLACES[case.entry]][1] if case.entry in scratch_cases.PLACES else None
+
+
 def answered_model(case, areas, answer):
     """The model in the area out of an answer; or the chosen proposal's h with the radius answered."""
     start, area = place_of(case, areas, ('out', 'answer'))
@@ -262,6 +273,22 @@ def plant(batch, answers, entry, exchange):
     return True
 
 
+def clear(batch, answers, entry, count):
+    """Puts one of the entry's scratches as if count of its numbers had been cleared."""
+    for i, (case, areas, _, expected) in enumerate(batch):
+        if case.entry != entry:
+            continue
+        start, area = place_of(case, areas, ('scratch',))
+        _, length, content = areas[area]
+        end = start + len(content) * content.itemsize
+        zeros = bytes(content.itemsize * SCRATCH_SIZE)
+        if length >= max(count, SCRATCH_SIZE) and expected[start:].startswith(zeros):
+            spoiled = bytes(content.itemsize * count) + content[count:].tobytes()
+            answers[i] = answers[i][:start] + spoiled + answers[i][end:]
+            return True
+    return False
+
+
 def leave(batch, answers, entry):
     """Puts back what stood in an area before one of the entry's refusals with 1 cleared it."""
     for i, (case, areas, number, expected) in enumerate(batch):
@@ -285,12 +312,21 @@ def check_ties(ties, total):
                         f'{ties[entry][False]} below)' for entry in rounding), f'{tied} in all'])
 
 
-def check_pairs(pairs, entries, total):
+def check_pairs(pairs, chosen, entries, total):
     """The counts of pairs of proposals, in words: each kind, enough in the whole comparison."""
-    drawn, chosen, part = pairs['pairs'], pairs['chosen'], min(total, WHOLE)
+    drawn, part = pairs['pairs'], min(total, WHOLE)
     enough = drawn * WHOLE >= PAIRS * part and chosen * WHOLE >= CHOSEN * part
     assert set(entries) != set(ENTRIES) or enough, f'{drawn} pairs, {chosen} chosen proposals checked'
     return f'{selection_cases.counted(pairs)}; {chosen} chosen proposals checked for soundness'
+
+
+def check_scratches(scratches, sound, entries, total):
+    """The counts of lent scratches, in words: each length with each answer, and enough of 16 numbers checked for soundness."""
+    rows = [scratch_cases.counted(entry, scratches[entry]) for entry in scratches]
+    few = [entry for entry in scratches if sound[entry] * WHOLE < SOUND_OF_16 * min(total, WHOLE)]
+    assert set(entries) != set(ENTRIES) or not few, f'too few checked for soundness with a scratch of 16: {few}'
+    checked = ', '.join(f'{entry} {sound[entry]}' for entry in scratches)
+    return '\n  '.join(['', *rows, f'checked for soundness with 16: {checked}'])
 
 
 def main():
@@ -302,6 +338,7 @@ def main():
     parser.add_argument('--seed', type=int, default=1)
     parser.add_argument('--plant', choices=ENTRIES, help='spoil one answer of this entry')
     parser.add_argument('--exchange', action='store_true', help='with --plant quotient_of_two: the other proposal chosen')
+    parser.add_argument('--cleared', type=int, help='with --plant: so many numbers of the scratch cleared, for 16')
     parser.add_argument('--leave', choices=ENTRIES, help='leave one area of this entry on refusal 1')
     parser.add_argument('--link', default='', help='more linker flags, separated by blanks')
     parser.add_argument('--runner', default='', help='run the harness under this command')
@@ -314,6 +351,8 @@ def main():
         parser.error('the planted entry is not among the entries')
     if options.exchange and options.plant != 'quotient_of_two':
         parser.error('only the chosen proposal can be exchanged')
+    if options.cleared is not None and options.plant not in scratch_cases.PLACES:
+        parser.error(f'--cleared goes with --plant of {",".join(scratch_cases.PLACES)}')
     check_header()
     check_examples()
     check_witnesses()
@@ -323,8 +362,9 @@ def main():
 
     rng, sound_rng = Random(options.seed), Random(options.seed)
     began = time.perf_counter()
-    oracle_time, differences, planted, sound = 0.0, 0, False, 0
-    pairs = Counter()
+    oracle_time, differences, planted = 0.0, 0, False
+    pairs, sound, sound_of_16 = Counter(), Counter(), Counter()
+    scratches = {entry: Counter() for entry in entries if entry in scratch_cases.PLACES}
     counts, ties = ({entry: Counter() for entry in entries} for _ in range(2))
     with tempfile.TemporaryDirectory() as folder:
         program = build_harness(folder, entries, options.library, options.plain,
@@ -332,17 +372,19 @@ def main():
         batch = []
 
         def judge():
-            nonlocal differences, planted, sound
+            nonlocal differences, planted
             answers = run_harness(program, [one[:2] for one in batch], options.runner.split())
-            if options.plant and not planted:
+            if options.cleared is not None and not planted:
+                planted = clear(batch, answers, options.plant, options.cleared)
+            elif options.plant and not planted:
                 planted = plant(batch, answers, options.plant, options.exchange)
             if options.leave and not planted:
                 planted = leave(batch, answers, options.leave)
             for (case, areas, number, expected), found in zip(batch, answers):
                 if expected == found and case.entry in ANSWERED and number == 0:
                     soundness.check_answered(sound_rng, case, answered_model(case, areas, found))
-                    sound += 1
-                    pairs['chosen'] += case.entry == 'quotient_of_two'
+                    sound[case.entry] += 1
+                    sound_of_16[case.entry] += scratch_of(case, areas) == SCRATCH_SIZE
                 if expected != found:
                     differences += 1
                     if differences <= 10:
@@ -358,12 +400,17 @@ def main():
             if number == 0 and o.TIES != ties_before:
                 ties[case.entry].update(['cases', *(above for above in o.TIES if o.TIES[above] > ties_before[above])])
             counts[case.entry][number] += 1
+            lengths = [length for _, length, _ in areas]
             if case.entry == 'quotient_of_two':
-                pairs.update(selection_cases.kinds(case, [length for _, length, _ in areas]))
+                pairs.update(selection_cases.kinds(case, lengths))
+            if case.entry in scratches:
+                scratches[case.entry].update(scratch_cases.kinds(case, lengths, number))
             batch.append((case, areas, number, expected))
-            if number == 0 and case.entry not in ANSWERED and sound_rng.random() < SOUNDNESS_SAMPLE:
+            share = {None: SOUNDNESS_SAMPLE, SCRATCH_SIZE: SAMPLE_OF_16}.get(scratch_of(case, areas), 0)
+            if number == 0 and case.entry not in ANSWERED and sound_rng.random() < share:
                 soundness.check(sound_rng, case)
-                sound += 1
+                sound[case.entry] += 1
+                sound_of_16[case.entry] += share == SAMPLE_OF_16
             if len(batch) == BATCH:
                 judge()
         judge()
@@ -374,10 +421,12 @@ def main():
     total = sum(sum(c.values()) for c in counts.values())
     print('accepted cases with a tie:', check_ties(ties, total))
     if 'quotient_of_two' in entries:
-        print('pairs of proposals:', check_pairs(pairs, entries, total))
+        print('pairs of proposals:', check_pairs(pairs, sound['quotient_of_two'], entries, total))
+    if scratches:
+        print('scratches:', check_scratches(scratches, sound_of_16, entries, total))
     print(f'{total} cases, {differences} differences, {time.perf_counter() - began:.1f} s '
           f'(oracle {oracle_time:.1f} s), '
-          f'{sound} checked for soundness, seed {options.seed}')
+          f'{sum(sound.values())} checked for soundness, seed {options.seed}')
     if (options.plant or options.leave) and not planted:
         stop('nothing was planted')
     for entry in entries:                           # every refusal of an entry, and no other

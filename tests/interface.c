@@ -1,6 +1,6 @@
-/* What the header promises of null pointers, of areas that are too short, of inputs that
-   are the same area, of series, of two proposals, and of areas that need no alignment beyond
-   their type's.
+/* What the header promises of null pointers, of areas that are too short, of scratches longer
+   than needed, of inputs that are the same area, of series, of two proposals, and of areas that
+   need no alignment beyond their type's.
    Exit status 0 when all holds. */
 #include "ferruntzo.h"
 
@@ -92,6 +92,41 @@ static void short_areas(void)
     scratch[0] = 7;
     EXPECT(ferruntzo_check(NONE, WHOLE(work), SHORT(scratch), WHOLE(answer)) == FERRUNTZO_SHORT_AREA);
     EXPECT(work[0] == 7 && scratch[0] == 7);
+}
+
+/* Whether a scratch that held 1, 2, 3 .. has so many zeros and the rest as it was; fills it again. */
+static int cleared(int64_t *held, size_t length, size_t zeros)
+{
+    int same = 1;
+    for (size_t i = 0; i < length; i++) {
+        same = same && held[i] == (i < zeros ? 0 : (int64_t)i + 1);
+        held[i] = (int64_t)i + 1;
+    }
+    return same;
+}
+
+/* A scratch is long enough from 16 numbers on, and those behind the 16 stay. */
+static void scratches(void)
+{
+    static int64_t held[66];
+    cleared(WHOLE(held), 0);
+    for (size_t length = 0; length <= COUNT(held); length++) {
+        int fits = length >= 16;
+        size_t zeros = fits ? 16 : 0;
+        EXPECT(ferruntzo_quotient(WHOLE(one), WHOLE(one), CANDIDATE(one), CANDIDATE(one), held, length,
+                                  WHOLE(out), WHOLE(numbers)) == (fits ? 0 : FERRUNTZO_SHORT_AREA));
+        EXPECT(out[1] == (fits ? S : 0) && cleared(WHOLE(held), zeros));
+        EXPECT(ferruntzo_root(WHOLE(one), CANDIDATE(one), CANDIDATE(one), held, length, WHOLE(out),
+                              WHOLE(numbers)) == (fits ? FERRUNTZO_NOT_CONTRACTING : FERRUNTZO_SHORT_AREA));
+        EXPECT(cleared(WHOLE(held), zeros));
+        EXPECT(ferruntzo_quotient_of_two(WHOLE(one), WHOLE(one), WHOLE(rough), WHOLE(exact), held, length,
+                                         WHOLE(selected)) == (fits ? 0 : FERRUNTZO_SHORT_AREA));
+        EXPECT(selected[0] == (fits ? FERRUNTZO_CHOSEN_SECOND : FERRUNTZO_CHOSEN_NONE));
+        EXPECT(cleared(WHOLE(held), zeros));
+        EXPECT(ferruntzo_check(NONE, WHOLE(work), held, length, WHOLE(answer))
+               == (fits ? FERRUNTZO_JOB_ENDS : FERRUNTZO_SHORT_AREA));
+        EXPECT(cleared(WHOLE(held), zeros));
+    }
 }
 
 /* Areas that are only read may be the same. */
@@ -220,6 +255,7 @@ int main(void)
 {
     null_pointers();
     short_areas();
+    scratches();
     same_inputs();
     power_series();
     two_proposals();

@@ -4,6 +4,7 @@ demands that compare.py finds a difference.  Slow; for people, not for the gate.
   slips.py [part of a slip's name]
 """
 
+import re
 import subprocess
 import sys
 import tempfile
@@ -196,6 +197,44 @@ SLIPS += [(f'two: {name}', 'quotient_of_two', old, new) for name, old, new in (
     ('radius of the other, first', 'answer[1] = (uint32_t)one.radius',
      'answer[1] = (uint32_t)(other == 0 ? two.radius : one.radius)'),
 )]
+
+# Forming C in groups of 16 places: the texts by which each test forms what m and what N weighs.
+LISTS = {entry: [f'product_list({one}, c);\n    c[0] -= {constant};\n', f'product_list({other}, c);\n    take_residual(c, f);\n']
+         for entry, one, other, constant in (('quotient', 'w, g', 'g, h', '2 * (int64_t)UNIT * UNIT'),
+                                             ('root', 'w, h', 'h, h', '(int64_t)UNIT * UNIT'))}
+SLIPS += [(f'groups: place {place} left out of {letter}, {entry}', entry, formed, f'{formed}    c[{place}] = 0;\n')
+          for entry, both in LISTS.items() for letter, formed in zip('mN', both) for place in (15, 31, 47, 63, 64)]
+SLIPS += [(f'groups: the constant in each, {entry}', entry, of_m,
+           of_m.replace('    c[0]', '    for (int k = 0; k < PRODUCT_SIZE; k += 16)\n        c[k]'))
+          for entry, (of_m, _) in LISTS.items()]
+# The loop over f ends where C ends, at its last place or with its last group.
+SLIPS += [(f'groups: f dropped past {where}, {entry}', entry, LISTS[entry][1], LISTS[entry][1].replace(
+           'take_residual(c, f);', f'for (int k = 0; k <= f[0] && k {ends}; k++)\n        c[k] -= 2 * (int64_t)UNIT * f[1 + k];'))
+          for entry, last in (('quotient', '(g[0] + h[0])'), ('root', '2 * h[0]'))
+          for where, ends in (("C's end", f'<= {last}'), ("C's last group", f'/ 16 <= {last} / 16'))]
+SLIPS += [(f'groups: |i - j| = 0 from both sides, {entry}', entry, 'c[i > j ? i - j : j - i] += p;',
+           'c[i > j ? i - j : j - i] += i == j ? 2 * p : p;') for entry in ('multiply', 'quotient', 'root')]
+
+# The scratch of each entry: where its length is looked at, and where it is cleared.
+LOOKED_AT = {
+    'quotient': 'w_len >= CANDIDATE_SIZE && scratch_len >= SCRATCH_SIZE',
+    'root': '&& scratch_len >= SCRATCH_SIZE)\n        number = test_root',
+    'quotient_of_two': '&& scratch_len >= SCRATCH_SIZE)\n        number = select_proposal',
+    'check': 'work_len < WORK_SIZE || scratch_len < SCRATCH_SIZE',
+}
+CLEARED = {
+    'quotient': 'test_quotient(f, g, h, w, out, numbers);\n    CLEAR(scratch, SCRATCH_SIZE);',
+    'root': 'test_root(f, h, w, out, numbers);\n    CLEAR(scratch, SCRATCH_SIZE);',
+    'quotient_of_two': 'second_len, answer);\n    CLEAR(scratch, SCRATCH_SIZE);',
+    'check': '    memset(scratch, 0, SCRATCH_SIZE * sizeof *scratch);\n    if',
+}
+SLIPS += [(f'scratch: {name}, {entry}', entry, text, text.replace('SCRATCH_SIZE', size))
+          for name, size in (('65 needed', 'PRODUCT_SIZE'), ('17 needed', '(SCRATCH_SIZE + 1)'),
+                             ('15 accepted', '(SCRATCH_SIZE - 1)')) for entry, text in LOOKED_AT.items()]
+SLIPS += [(f'scratch: {count} numbers cleared, {entry}', entry, text, re.sub(
+           r'    (CLEAR|memset)\(scratch.*;', f'    if (scratch_len >= SCRATCH_SIZE)\n        memset(scratch, 0, '
+           f'({count} < scratch_len ? {count} : scratch_len) * sizeof *scratch);', text))
+          for count in (15, 17, 65) for entry, text in CLEARED.items()]
 
 # One near serves four operations and the jobs.
 SLIPS += [(f'{name}, {entry}', entry, NEAR, f'{NEAR}    return {rule};\n')

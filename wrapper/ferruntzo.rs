@@ -54,7 +54,7 @@ pub const SERIES_SIZE: usize = 34;
 /// Numbers in the area for bounds: low, high.
 pub const BOUNDS_SIZE: usize = 2;
 /// Numbers in the scratch area of a test.
-pub const SCRATCH_SIZE: usize = 65;
+pub const SCRATCH_SIZE: usize = 16;
 /// Numbers of a test: m, N, b.
 pub const NUMBERS_SIZE: usize = 3;
 /// The former name of [`NUMBERS_SIZE`].
@@ -555,7 +555,7 @@ pub fn check(job: &[u8]) -> Result<CheckedJob, RefusedJob> {
 /// `Err(Refusal::ShortArea)`: an area is shorter than its size. What a written area holds
 /// afterwards depends on its own length: one that is itself too short is not touched; `out`,
 /// `bounds` and `numbers` are zero in their sizes after every refusal, `ShortArea` included; the
-/// `scratch` of a test is zero in its 65 numbers after every call. [`areas::quotient_of_two`] and
+/// `scratch` of a test is zero in its 16 numbers after every call. [`areas::quotient_of_two`] and
 /// [`areas::check`] say what holds of their areas. Numbers behind the sizes stay.
 #[rustfmt::skip]
 pub mod areas {
@@ -612,7 +612,7 @@ pub mod areas {
         })
     }
 
-    /// The quotient test; `f` and `g` have 35 numbers, `h` and `w` 34, `scratch` 65, `out` 35,
+    /// The quotient test; `f` and `g` have 35 numbers, `h` and `w` 34, `scratch` 16, `out` 35,
     /// `numbers` 3: m, N, b.
     pub fn quotient(
         f: &[i32],
@@ -635,10 +635,10 @@ pub mod areas {
 
     /// The quotient tests of two proposals, and the part that is chosen: the 33 coefficients of h in
     /// the tighter proposal, or an empty part of `first` when refused. `f` and `g` have 35 numbers,
-    /// `scratch` 65, `answer` 2: chosen (1 or 2), radius.
+    /// `scratch` 16, `answer` 2: chosen (1 or 2), radius.
     ///
     /// A proposal of fewer than 68 numbers fails with `ShortArea` by itself. `answer` is 0 and 0
-    /// after every refusal, and `scratch` zero after every call, unless they are too short.
+    /// after every refusal, and the 16 numbers of `scratch` zero after every call, unless they are too short.
     pub fn quotient_of_two<'a>(
         f: &[i32],
         g: &[i32],
@@ -662,7 +662,7 @@ pub mod areas {
         (tested, part)
     }
 
-    /// The root test; `f` has 35 numbers, `h` and `w` 34, `scratch` 65, `out` 35, `numbers` 3: m, N, b.
+    /// The root test; `f` has 35 numbers, `h` and `w` 34, `scratch` 16, `out` 35, `numbers` 3: m, N, b.
     pub fn root(
         f: &[i32],
         h: &[i32],
@@ -681,10 +681,10 @@ pub mod areas {
         })
     }
 
-    /// The check of a job; `work` has 1120 numbers, `scratch` 65, `answer` 2: count, command.
+    /// The check of a job; `work` has 1120 numbers, `scratch` 16, `answer` 2: count, command.
     ///
     /// `ShortArea` leaves `work` and `scratch` as they were, and an `answer` of 2 or more numbers at
-    /// 0 and 0. After every other call `scratch` is zero, and `work` is too if the job is refused.
+    /// 0 and 0. After every other call the 16 numbers of `scratch` are zero, and those of `work` if the job is refused.
     pub fn check(
         job: &[u8],
         work: &mut [i32],

@@ -520,10 +520,17 @@ fn areas_of_check() {
     }
 }
 
-/// An accepted job and an accepted root: what they answer, scratch zero, numbers behind as they were.
+/// Around the size of the scratch, and around 65, which it had before version 3.0.0.
 #[test]
 fn areas_of_accepted_calls() {
-    let mut scratch = vec![WIDE; SCRATCH_SIZE + 1];
+    for scratch_len in [SCRATCH_SIZE, SCRATCH_SIZE + 1, 64, 65, 66] {
+        call_accepted(scratch_len);
+    }
+}
+
+/// An accepted job and an accepted root: what they answer, scratch zero, numbers behind as they were.
+fn call_accepted(scratch_len: usize) {
+    let mut scratch = vec![WIDE; scratch_len];
     let (mut work, mut answer) = (vec![MARK; WORK_SIZE + 3], [9u32; ANSWER_SIZE + 1]);
     assert_eq!(areas::check(&example(), &mut work, &mut scratch, &mut answer), Ok(()));
     assert_eq!(answer, [2, 0, 9]);
@@ -531,7 +538,7 @@ fn areas_of_accepted_calls() {
     assert_eq!(work[MODEL_SIZE..2 * MODEL_SIZE], *Model::constant(2 * S).numbers());
     assert_eq!(work[2 * MODEL_SIZE..WORK_SIZE], vec![0; WORK_SIZE - 2 * MODEL_SIZE]);
     assert_eq!(work[WORK_SIZE..], [MARK; 3]);
-    assert_eq!(scratch, zeroed(WIDE, SCRATCH_SIZE + 1, SCRATCH_SIZE));
+    assert_eq!(scratch, zeroed(WIDE, scratch_len, SCRATCH_SIZE));
 
     scratch.fill(WIDE);
     let (mut out, mut numbers) = (vec![MARK; MODEL_SIZE + 1], [LONG; NUMBERS_SIZE + 1]);
@@ -541,7 +548,7 @@ fn areas_of_accepted_calls() {
     assert_eq!(out[..MODEL_SIZE], *h.with_radius(S).numbers());
     assert_eq!((out[MODEL_SIZE], numbers[NUMBERS_SIZE]), (MARK, LONG));
     assert_eq!(numbers[..NUMBERS_SIZE], [0, 2 * S as u64, S as u64 / 2]);
-    assert_eq!(scratch, zeroed(WIDE, SCRATCH_SIZE + 1, SCRATCH_SIZE));
+    assert_eq!(scratch, zeroed(WIDE, scratch_len, SCRATCH_SIZE));
 }
 
 #[test]

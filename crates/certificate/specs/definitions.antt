@@ -3,4 +3,5 @@ pub mod Quotient
 pub mod Root
 pub mod InnerContracts
 pub mod TwoSums
+pub mod Groups
 pub mod RootBounds

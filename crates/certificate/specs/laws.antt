@@ -1,4 +1,6 @@
 pub mod TwoSumsLaws
+pub mod GroupLaws
+pub mod GroupTheorem
 pub mod TestFits
 pub mod OutcomeLaws
 pub mod Stages
@@ -19,3 +21,4 @@ pub mod RootStages
 pub mod Discriminant
 pub mod RootEnd
 pub mod Examples
+pub mod GroupExamples

@@ -1,38 +1,50 @@
-// Document 01's numbers of the two tests, m, N and b, and the radii, over a lent part of the scratch.
+// Document 01's numbers of the two tests, m, N and b, and the radii, over a part of the scratch of any length from 1.
 ghost use mathlib.Core.Path.{_≡_};
 ghost use mathlib.Core.Bool.{true};
-ghost use Prim.Native.Nat.{_+_, _*_, _-_, _≤_, _<_, _^_};
+ghost use Prim.Native.Nat.{suc, _+_, _*_, _-_, _≤_, _<_, _^_};
+ghost use lib.ListN.{take};
 ghost use Rattle.integer.specs.definitions.Rounding.{upℕ};
 ghost use Rattle.chebyshev.specs.definitions.Coefficients.{weight as weightOf};
-ghost use Rattle.model.specs.definitions.Models.{scale, maxWeight, maxRadius, good, candidateModel};
+ghost use Rattle.model.specs.definitions.Models.{scale, maxDegree, maxWeight, maxRadius, good, candidateModel};
 ghost use Rattle.certificate.specs.definitions.Quotient.{quotientContraction, quotientResidual};
 ghost use Rattle.certificate.specs.definitions.Root.{rootContraction, rootResidual};
-ghost use Rattle.certificate.specs.definitions.InnerContracts.{Lent, Ready};
-use crate::residual::constant_residual;
-use crate::residual::product_residual;
+ghost use Rattle.certificate.specs.definitions.InnerContracts.{Ready};
+use crate::residual::residual;
 use integer::rounding::up_unsigned;
+use model::types::COEFFICIENTS;
 use model::types::Candidate;
 use model::types::Model;
 
-// S, 2S and S²
+// S and 2S
 pub(crate) const SCALE: u64 = Model::SCALE as u64;
 
 const UNIT: u64 = 2 * SCALE;
 
-const SQUARE: i64 = Model::SCALE * Model::SCALE;
+// S and S/2 as coefficients: at place 0 of C they stand for 2S² and S².
+const ONE: i32 = Model::SCALE as i32;
+
+const HALF: i32 = ONE / 2;
+
+// The coefficients up to the degree.
+fn terms(coefficients: &[i32; COEFFICIENTS], degree: u32) -> &[i32]
+    requires { ⌜ degree ≤ maxDegree ⌝ }
+    ensures { λ r. ⌜ now r ≡ take (suc degree) (now (coefficients .entry)) ⌝ }
+{
+    let all = &coefficients[..];
+    &all[..degree as usize + 1]
+}
 
 // m of the quotient; `weight` is M.
 pub(crate) fn quotient_contraction(part: &mut [i64], g: Model, w: Candidate, weight: u64) -> u64
     requires { ⌜ Ready (now part) (candidateModel w) g × (weight ≡ weightOf (w .coefficients)) ⌝ }
-    ensures { λ r. ⌜ (r ≡ quotientContraction g (candidateModel w)) × Lent (now (part .exit)) ⌝ }
+    ensures { λ r. ⌜ r ≡ quotientContraction g (candidateModel w) ⌝ }
 {
-    let distance = constant_residual(
+    let constant = [ONE];
+    let distance = residual(
         part,
-        &w.coefficients,
-        w.degree,
-        &g.coefficients,
-        g.degree,
-        2 * SQUARE,
+        terms(&w.coefficients, w.degree),
+        terms(&g.coefficients, g.degree),
+        &constant,
     );
     up_unsigned(distance + 2 * weight * (g.radius as u64), UNIT)
 }
@@ -47,15 +59,13 @@ pub(crate) fn quotient_residual(
 ) -> u64
     requires { ⌜ Ready (now part) g (candidateModel h) × (good f ≡ true) ⌝ }
     requires { ⌜ weight ≡ weightOf (h .coefficients) ⌝ }
-    ensures { λ r. ⌜ (r ≡ quotientResidual f g (candidateModel h)) × Lent (now (part .exit)) ⌝ }
+    ensures { λ r. ⌜ r ≡ quotientResidual f g (candidateModel h) ⌝ }
 {
-    let distance = product_residual(
+    let distance = residual(
         part,
-        &g.coefficients,
-        g.degree,
-        &h.coefficients,
-        h.degree,
-        &f.coefficients,
+        terms(&g.coefficients, g.degree),
+        terms(&h.coefficients, h.degree),
+        terms(&f.coefficients, f.degree),
     );
     up_unsigned(
         distance + UNIT * (f.radius as u64) + 2 * weight * (g.radius as u64),
@@ -66,15 +76,14 @@ pub(crate) fn quotient_residual(
 // m of the root.
 pub(crate) fn root_contraction(part: &mut [i64], h: Candidate, w: Candidate) -> u64
     requires { ⌜ Ready (now part) (candidateModel w) (candidateModel h) ⌝ }
-    ensures { λ r. ⌜ (r ≡ rootContraction (candidateModel h) (candidateModel w)) × Lent (now (part .exit)) ⌝ }
+    ensures { λ r. ⌜ r ≡ rootContraction (candidateModel h) (candidateModel w) ⌝ }
 {
-    let distance = constant_residual(
+    let constant = [HALF];
+    let distance = residual(
         part,
-        &w.coefficients,
-        w.degree,
-        &h.coefficients,
-        h.degree,
-        SQUARE,
+        terms(&w.coefficients, w.degree),
+        terms(&h.coefficients, h.degree),
+        &constant,
     );
     up_unsigned(distance, SCALE)
 }
@@ -82,15 +91,13 @@ pub(crate) fn root_contraction(part: &mut [i64], h: Candidate, w: Candidate) -> 
 // N of the root.
 pub(crate) fn root_residual(part: &mut [i64], f: Model, h: Candidate) -> u64
     requires { ⌜ Ready (now part) (candidateModel h) (candidateModel h) × (good f ≡ true) ⌝ }
-    ensures { λ r. ⌜ (r ≡ rootResidual f (candidateModel h)) × Lent (now (part .exit)) ⌝ }
+    ensures { λ r. ⌜ r ≡ rootResidual f (candidateModel h) ⌝ }
 {
-    let distance = product_residual(
+    let distance = residual(
         part,
-        &h.coefficients,
-        h.degree,
-        &h.coefficients,
-        h.degree,
-        &f.coefficients,
+        terms(&h.coefficients, h.degree),
+        terms(&h.coefficients, h.degree),
+        terms(&f.coefficients, f.degree),
     );
     up_unsigned(distance + UNIT * (f.radius as u64), UNIT)
 }

@@ -1,17 +1,18 @@
 // The quotient test: is h a quotient f/g, with w as a helper?
 ghost use mathlib.Core.Path.{_≡_};
+ghost use Prim.Native.Nat.{_<_};
 ghost use lib.ListN.{length};
 ghost use Rattle.chebyshev.specs.definitions.Coefficients.{weight};
 ghost use Rattle.model.specs.definitions.Models.{candidateModel};
 ghost use Rattle.certificate.specs.definitions.Tests.{scratchSize, scratchAfter, testOf};
 ghost use Rattle.certificate.specs.definitions.Quotient.{quotientTest};
-ghost use Rattle.certificate.specs.definitions.InnerContracts.{Lent, QuotientReady};
+ghost use Rattle.certificate.specs.definitions.InnerContracts.{QuotientReady};
 use crate::numbers::SCALE;
 use crate::numbers::displacement;
 use crate::numbers::quotient_contraction;
 use crate::numbers::quotient_radius;
 use crate::numbers::quotient_residual;
-use crate::residual::clear;
+use crate::scratch::clear_scratch;
 use crate::types::SCRATCH_SIZE;
 use crate::types::TestOutcome;
 use model::measure::measure;
@@ -20,7 +21,7 @@ use model::types::Candidate;
 use model::types::Model;
 use model::types::Refusal;
 
-// The test of good models and candidates, over a lent part.
+// The test of good models and candidates, over a part of the scratch of any length from 1.
 fn test_good(
     part: &mut [i64],
     f: Model,
@@ -33,7 +34,6 @@ fn test_good(
     requires { ⌜ QuotientReady (now part) f g (candidateModel h) (candidateModel w) ⌝ }
     requires { ⌜ («h_weight» ≡ weight (h .coefficients)) × («w_weight» ≡ weight (w .coefficients)) ⌝ }
     ensures { λ (r : TestOutcome). ⌜ testOf r ≡ quotientTest scratchSize f g h w ⌝ }
-    ensures { λ _. ⌜ Lent (now (part .exit)) ⌝ }
 {
     let m = quotient_contraction(part, g, w, w_weight);
     if m < SCALE {
@@ -50,13 +50,11 @@ fn test_good(
     }
 }
 
-// The test in a part of the scratch, which is zero afterwards.
+// The test over a part of the scratch of any length from 1.
 fn test_in(part: &mut [i64], f: Model, g: Model, h: Candidate, w: Candidate) -> TestOutcome
-    requires { ⌜ length (now part) ≡ scratchSize ⌝ }
+    requires { ⌜ 0 < length (now part) ⌝ }
     ensures { λ (r : TestOutcome). ⌜ testOf r ≡ quotientTest scratchSize f g h w ⌝ }
-    ensures { λ _. ⌜ Lent (now (part .exit)) ⌝ }
 {
-    clear(part);
     if measure(f).good {
         if measure(g).good {
             let of_h = measure_candidate(h);
@@ -78,5 +76,7 @@ pub fn quotient(f: Model, g: Model, h: Candidate, w: Candidate, scratch: &mut [i
     if scratch.len() < SCRATCH_SIZE {
         return TestOutcome::refused(Refusal::ShortArea);
     }
-    test_in(&mut scratch[..SCRATCH_SIZE], f, g, h, w)
+    let outcome = test_in(&mut scratch[..SCRATCH_SIZE], f, g, h, w);
+    clear_scratch(scratch);
+    outcome
 }

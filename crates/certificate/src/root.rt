@@ -1,17 +1,18 @@
 // The root test: is h a square root of f, with w as a helper?
 ghost use mathlib.Core.Path.{_≡_};
+ghost use Prim.Native.Nat.{_<_};
 ghost use lib.ListN.{length};
 ghost use Rattle.chebyshev.specs.definitions.Coefficients.{weight as weightOf, coefficientSum};
 ghost use Rattle.model.specs.definitions.Models.{coefficientCount, candidateModel};
 ghost use Rattle.certificate.specs.definitions.Tests.{scratchSize, scratchAfter, testOf};
 ghost use Rattle.certificate.specs.definitions.Root.{rootTest};
-ghost use Rattle.certificate.specs.definitions.InnerContracts.{Lent, RootReady, RootLast, reachOf, numbersOutcome, rootEnd};
+ghost use Rattle.certificate.specs.definitions.InnerContracts.{RootReady, RootLast, reachOf, numbersOutcome, rootEnd};
 use crate::numbers::SCALE;
 use crate::numbers::displacement;
 use crate::numbers::root_contraction;
 use crate::numbers::root_radius;
 use crate::numbers::root_residual;
-use crate::residual::clear;
+use crate::scratch::clear_scratch;
 use crate::types::RootNumbers;
 use crate::types::SCRATCH_SIZE;
 use crate::types::TestOutcome;
@@ -36,7 +37,7 @@ fn total(coefficients: &[i32; COEFFICIENTS]) -> i64
     sum
 }
 
-// The places from the helper's sign to N, of good models and candidates, over a lent part.
+// The places from the helper's sign to N, of good models and candidates, over a part of the scratch of any length from 1.
 fn numbers_of_good(
     part: &mut [i64],
     f: Model,
@@ -46,7 +47,6 @@ fn numbers_of_good(
 ) -> RootNumbers
     requires { ⌜ RootReady (now part) f (candidateModel h) (candidateModel w) × (weight ≡ weightOf (w .coefficients)) ⌝ }
     ensures { λ (r : RootNumbers). ⌜ reachOf r ≡ numbersOutcome scratchSize f h w ⌝ }
-    ensures { λ _. ⌜ Lent (now (part .exit)) ⌝ }
 {
     if total(&w.coefficients) <= 0 {
         return RootNumbers::Refused(Refusal::HelperNotPositive);
@@ -70,13 +70,11 @@ fn numbers_of_good(
     }
 }
 
-// The places through N in a part of the scratch, which is zero afterwards.
+// The places through N, over a part of the scratch of any length from 1.
 fn numbers_in(part: &mut [i64], f: Model, h: Candidate, w: Candidate) -> RootNumbers
-    requires { ⌜ length (now part) ≡ scratchSize ⌝ }
+    requires { ⌜ 0 < length (now part) ⌝ }
     ensures { λ (r : RootNumbers). ⌜ reachOf r ≡ numbersOutcome scratchSize f h w ⌝ }
-    ensures { λ _. ⌜ Lent (now (part .exit)) ⌝ }
 {
-    clear(part);
     if measure(f).good {
         if measure_candidate(h).good {
             let of_w = measure_candidate(w);
@@ -96,7 +94,9 @@ pub(crate) fn root_numbers(f: Model, h: Candidate, w: Candidate, scratch: &mut [
     if scratch.len() < SCRATCH_SIZE {
         return RootNumbers::Refused(Refusal::ShortArea);
     }
-    numbers_in(&mut scratch[..SCRATCH_SIZE], f, h, w)
+    let numbers = numbers_in(&mut scratch[..SCRATCH_SIZE], f, h, w);
+    clear_scratch(scratch);
+    numbers
 }
 
 // Discriminant and radius. 8·b·M may pass 64 bits, so b is compared with (S-m)² / (8·M). The result is never too large.

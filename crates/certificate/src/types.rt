@@ -7,12 +7,11 @@ ghost use Rattle.certificate.specs.definitions.Tests.{withRadius, testOf
 ghost use Rattle.certificate.specs.definitions.InnerContracts.{refusedTest, passedTest, formedTest};
 use model::types::Candidate;
 use model::types::Model;
-use model::types::PRODUCT_SIZE;
 use model::types::Refusal;
 use model::types::Verdict;
 
 // How many numbers a test borrows.
-pub const SCRATCH_SIZE: usize = PRODUCT_SIZE;
+pub const SCRATCH_SIZE: usize = 16;
 
 // The verdict, the result, and document 01's m, N and b; on refusal the zero model and three zeros.
 pub struct TestOutcome {

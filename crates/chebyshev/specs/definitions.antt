@@ -5,6 +5,7 @@ pub mod Coefficients
 pub mod Negation
 pub mod Norms
 pub mod TwoSums
+pub mod Convolution
 pub mod Derivative
 pub mod Primitive
 pub mod Strips

@@ -10,6 +10,8 @@ pub mod NeighbourLaws
 pub mod ProductWeight
 pub mod ProductEnd
 pub mod ProductSums
+pub mod ConvolutionLaws
+pub mod Tabulated
 pub mod NegationLaws
 pub mod NegationValues
 pub mod DerivativeLaws

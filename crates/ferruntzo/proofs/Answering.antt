@@ -33,7 +33,7 @@ three-fit k m n a b c h =
     (q .0, q .1, p .1)
 
 -- a test's areas
-pub test-fits : (models : Bool) (h w scratch out : List ℤ) (numbers : List ℕ) → testFits models h w scratch out numbers ≡ true
+pub test-fits : (models : Bool) (h w scratch out : List ℤ) (numbers : List ℕ) → testFits scratchSize models h w scratch out numbers ≡ true
     → (models ≡ true) × (candidateSize ≤ length h) × (candidateSize ≤ length w)
 test-fits models h w scratch out numbers e =
     let t = models && fits candidateSize h in

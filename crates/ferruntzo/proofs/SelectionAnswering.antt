@@ -18,7 +18,7 @@ use Rattle.ferruntzo.specs.definitions.Selections.{SelectionAnswer, sele
 use Rattle.ferruntzo.proofs.Answering.{fit-last, two-fit, filled}
 
 -- the areas have their numbers
-pub selection-fits : (f g scratch : List ℤ) (answer : List ℕ) → selectionFits f g scratch answer ≡ true
+pub selection-fits : (f g scratch : List ℤ) (answer : List ℕ) → selectionFits scratchSize f g scratch answer ≡ true
     → (modelSize ≤ length f) × (modelSize ≤ length g) × (selectionSize ≤ length answer)
 selection-fits f g scratch answer e =
     let models = fits modelSize f && fits modelSize g in
@@ -26,7 +26,7 @@ selection-fits f g scratch answer e =
     let q = two-fit modelSize modelSize f g (fit-last models scratchSize scratch (p .0) .0) in
     (q .0, q .1, p .1)
 
-module _ (f g first second scratch : List ℤ) (answer : List ℕ) (fit : selectionFits f g scratch answer ≡ true) where
+module _ (f g first second scratch : List ℤ) (answer : List ℕ) (fit : selectionFits scratchSize f g scratch answer ≡ true) where
   -- f and g are read from their areas; n, c and e are the lent numbers, s and l the scratch and the area of the answer afterwards
   pub selection-answered : {a b : Model} → a ≡ areaModel f → b ≡ areaModel g → (n c e : ℕ) {s : List ℤ} {l : List ℕ}
       → selectedOf n c e ≡ selection (length scratch) a b first second → s ≡ scratchAfter scratch → l ≡ areaOut selectionSize (c ∷ e ∷ []) answer

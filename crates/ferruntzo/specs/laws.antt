@@ -1,1 +1,2 @@
+pub mod ScratchLaws
 pub mod Examples

@@ -1,4 +1,5 @@
-// Absolute values and division with an exact rounding, on machine numbers. specs/ holds the algebra of whole numbers and
-// fractions.
+// Absolute values, division with an exact rounding, and lengths, on machine numbers. specs/ holds the algebra of whole
+// numbers and fractions.
 pub mod absolute;
+pub mod lengths;
 pub mod rounding;

@@ -15,7 +15,7 @@ use Rattle.integer.specs.definitions.Lists.{zeros}
 use Rattle.integer.specs.laws.Clearing.{length-zeros}
 use Rattle.job.specs.definitions.Outcomes.{jobOutcomeOf, counted}
 use Rattle.job.specs.definitions.Run.{jobOutcome}
-use Rattle.job.specs.definitions.Work.{workSize, workWith, areaPlaces, areasFit, checkOutcome, workAfter, scratchAfterJob, resultsIn}
+use Rattle.job.specs.definitions.Work.{workSize, workWith, areaPlaces, areasFit, checkOutcome, checkNeeding, workAfter, workNeeding, scratchAfterJob, resultsIn}
 use Rattle.job.specs.laws.CheckLaws.{areas-fit, areas-short}
 use Rattle.job.specs.definitions.Requirement.{Requirement3}
 use Rattle.job.specs.laws.RequirementLaws.{refused-required, required-behind}
@@ -42,7 +42,7 @@ module _ (job : List ℕ) (w s : List ℤ) where
       × ((w′ ≡ workAfter job w s) × ((s′ ≡ scratchAfterJob w s) × Requirement3 (areaPlaces w s) job (jobOutcomeOf r) w′))
 
   untouched : areasFit w s ≡ false → Leaves (Refused ShortArea 0) w s
-  unfolding checkOutcome workAfter scratchAfterJob
+  unfolding checkNeeding workNeeding scratchAfterJob
   untouched e =
       let claim = refused-required {job = job} (inl (areas-short w s e, refl)) 1 0 w in
       simp e (refl, (refl, (refl, claim)))
@@ -56,7 +56,7 @@ module _ (job : List ℕ) (w s : List ℤ) where
   pub ran-leaves : workSize ≤ length w → scratchSize ≤ length s → (w₁ w₂ s₁ : List ℤ) (r : CodeOutcome)
       → w₁ ≡ zeros workSize ++ drop workSize w → Ran job w₁ r w₂
       → s₁ ≡ scratchAfter s → Leaves r w₂ s₁
-  unfolding checkOutcome workAfter scratchAfterJob
+  unfolding checkNeeding workNeeding scratchAfterJob
   ran-leaves g h w₁ w₂ s₁ r e f es =
       let fit : areasFit w s ≡ true = simp (le-leb _ _ g, le-leb _ _ h) in
       let claim = required-behind (areaPlaces w s) (areas-fit w s fit) (f .claim) in

@@ -2,47 +2,45 @@
 use mathlib.Core.Path.{_≡_}
 use mathlib.Core.Bool.{Bool, true}
 use mathlib.Core.List.{List, [], _∷_}
-use Prim.Native.Nat.{ℕ, suc, _*_, _-_, _^_, _≤_, _<_}
+use Prim.Native.Nat.{ℕ, suc, _+_, _*_, _-_, _^_, _≤_, _<_}
 use lib.IntN.{ℤ, pos}
-use lib.ListN.{length, take, drop}
+use lib.ListN.{length}
 use Rattle.integer.specs.definitions.Integer.{ℤ-ring}
-use Rattle.integer.specs.definitions.Lists.{zeros}
 use Rattle.chebyshev.specs.definitions.Coefficients.{weight, subtractLists, scaleList}
-use Rattle.chebyshev.specs.definitions.Product.{product}
-use Rattle.model.specs.definitions.Models.{scale, coefficientCount, productSize, maxDegree, maxWeight}
+use Rattle.model.specs.definitions.Models.{scale, productSize, maxWeight}
 use Rattle.model.specs.definitions.Models.{good, candidateModel, largePlace}
 use Rattle.model.specs.definitions.Outcomes.{Outcome, accepted, refused, outcome, numberOf}
 use Rattle.model.specs.declared.types.Model.{Model}
 use Rattle.model.specs.declared.types.Candidate.{Candidate}
 use Rattle.certificate.specs.definitions.Tests.{Certificate, makeCertificate, zeroCertificate, withRadius, displacement}
+use Rattle.certificate.specs.definitions.Groups.{group}
 use Rattle.certificate.specs.definitions.Root.{rootPlaces, rootLastPlaces, rootModel, rootContraction, rootResidual}
 use Rattle.certificate.specs.declared.types.RootNumbers.{RootNumbers}
 use Rattle.certificate.specs.declared.types.RootNumbers.the-variants.{Refused, Reached}
 
 -- ---- what is asked
 
--- a part of the scratch to form C in: zero, and as long as C
-pub record Lent (part : List ℤ) : Type 0 where
-  pub clear : part ≡ zeros (length part)
-  pub long : length part ≡ productSize
-
--- all coefficients of two good models, with their degrees
-pub record FactorsUpTo (a : List ℤ) (n : ℕ) (b : List ℤ) (k : ℕ) : Type 0 where
-  pub first-all : length a ≡ coefficientCount
-  pub second-all : length b ≡ coefficientCount
-  pub first-degree : n ≤ maxDegree
-  pub second-degree : k ≤ maxDegree
+-- the terms of two good models, whose list C is formed
+pub record ProductTerms (a b : List ℤ) : Type 0 where
+  pub first-some : 0 < length a
+  pub second-some : 0 < length b
+  pub whole : length a + length b ≤ suc productSize
   pub weights : weight a * weight b ≤ 2 ^ 56
 
--- a lent part, and two good models whose list C is formed in it
+-- a list of coefficients that, times 2S, is subtracted from C
+pub record Subtrahend (f : List ℤ) : Type 0 where
+  pub short : length f ≤ productSize
+  pub weight-fits : weight f ≤ maxWeight
+
+-- a part of the scratch, of any length from 1, and two good models whose list C is formed in it
 pub record Ready (part : List ℤ) (a b : Model) : Type 0 where
-  pub lent : Lent part
+  pub room : 0 < length part
   pub first-good : good a ≡ true
   pub second-good : good b ≡ true
 
--- a lent part, and good models and candidates of a quotient test
+-- such a part, and good models and candidates of a quotient test
 pub record QuotientReady (part : List ℤ) (f g h w : Model) : Type 0 where
-  pub lent : Lent part
+  pub room : 0 < length part
   pub good-f : good f ≡ true
   pub good-g : good g ≡ true
   pub good-h : good h ≡ true
@@ -50,7 +48,7 @@ pub record QuotientReady (part : List ℤ) (f g h w : Model) : Type 0 where
 
 -- the same for a root test
 pub record RootReady (part : List ℤ) (f h w : Model) : Type 0 where
-  pub lent : Lent part
+  pub room : 0 < length part
   pub good-f : good f ≡ true
   pub good-h : good h ≡ true
   pub good-w : good w ≡ true
@@ -64,28 +62,15 @@ pub record RootLast (h : Model) (M m b : ℕ) : Type 0 where
   pub displaced : b ≤ 2 ^ 36
   pub square : (scale - m) * scale ≤ 2 ^ 29 * M
 
--- ---- lists and their weights
-
--- the list C of a up to degree n and b up to degree k
-abbrev pub productUpTo : List ℤ → ℕ → List ℤ → ℕ → List ℤ
-productUpTo a n b k = product ℤ-ring productSize (take (suc n) a) (take (suc k) b)
+-- ---- lists
 
 -- C − 2S·f
 abbrev pub residualList : List ℤ → List ℤ → List ℤ
 residualList c f = subtractLists ℤ-ring c (scaleList ℤ-ring (pos (2 * scale)) f)
 
--- the same over the part c of C from place `start` on
-abbrev pub residualFrom : ℕ → List ℤ → List ℤ → List ℤ
-residualFrom start c f = residualList c (take (length c) (drop start f))
-
--- z − C over the part c of C from place `start` on; z stands at place 0
-abbrev pub constantResidual : ℕ → ℤ → List ℤ → List ℤ
-constantResidual start z c = subtractLists ℤ-ring (drop start (z ∷ [])) c
-
--- the weight of D is summed, and the part, which was `start`, is zero
-pub record Drained (D start part : List ℤ) (sum : ℕ) : Type 0 where
-  pub sum-is : sum ≡ weight D
-  pub cleared : part ≡ zeros (length start)
+-- the weight of C − 2S·f over a group of n places from `start` on
+abbrev pub groupResidual : ℕ → ℕ → List ℤ → List ℤ → ℕ
+groupResidual n start c f = weight (residualList (group n start c) (group n start f))
 
 -- ---- the answer of a test by its parts
 

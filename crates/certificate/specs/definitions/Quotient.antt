@@ -3,7 +3,6 @@
 use mathlib.Core.Bool.{Bool}
 use mathlib.Core.List.{List, [], _∷_, _++_}
 use Prim.Native.Nat.{ℕ, _+_, _*_, _-_}
-use lib.Dec.{ltb}
 use lib.IntN.{pos}
 use Rattle.integer.specs.definitions.Integer.{ℤ-ring}
 use Rattle.integer.specs.definitions.Rounding.{upℕ}
@@ -13,8 +12,8 @@ use Rattle.model.specs.definitions.Outcomes.{Outcome, outcome}
 use Rattle.model.specs.definitions.Multiply.{productList}
 use Rattle.model.specs.declared.types.Model.{Model}
 use Rattle.model.specs.declared.types.Candidate.{Candidate}
-use Rattle.certificate.specs.definitions.Tests.{scratchSize, withRadius, displacement, Certificate, makeCertificate}
-use Rattle.certificate.specs.definitions.Tests.{zeroCertificate, testPlaces}
+use Rattle.certificate.specs.definitions.Tests.{scratchSize, scratchPlace, withRadius, displacement}
+use Rattle.certificate.specs.definitions.Tests.{Certificate, makeCertificate, zeroCertificate, testPlaces}
 
 -- "m = up((weight(2S² − C(w,g)) + 2·M·e_g)/(2S))"
 unfoldable pub quotientContraction : Model → Model → ℕ
@@ -36,23 +35,34 @@ quotientResidual f g h =
 unfoldable pub quotientModel : Model → ℕ → ℕ → Model
 quotientModel h m b = withRadius h (upℕ (b * scale) (scale - m))
 
--- Quotient f/g. "each model, in operand order, h then w"; "The test: m < S and N ≤ 2^28."
-abbrev pub quotientPlaces : ℕ → Model → Model → Model → Model → List (Bool × ℕ)
-quotientPlaces len f g h w =
-    let m = quotientContraction g w in
-    let n = quotientResidual f g h in
-    (ltb len scratchSize, 1) ∷ badPlace f ∷ badPlace g ∷ badPlace h ∷ badPlace w
+-- Quotient f/g, for m and N, behind the place of the scratch. "each model, in operand order, h then w"; "The test: m < S and
+-- N ≤ 2^28."
+abbrev pub quotientPlacesFor : ℕ → ℕ → Model → Model → Model → Model → List (Bool × ℕ)
+quotientPlacesFor m n f g h w =
+    badPlace f ∷ badPlace g ∷ badPlace h ∷ badPlace w
     ∷ (testPlaces m n ++ (largePlace (quotientModel h m (displacement w n)) ∷ []))
 
-abbrev pub quotientCertificate : Model → Model → Model → Model → Certificate
-quotientCertificate f g h w =
-    let m = quotientContraction g w in
-    let n = quotientResidual f g h in
-    let b = displacement w n in
-    makeCertificate (quotientModel h m b) m n b
+-- what is given behind them
+abbrev pub quotientCertificateFor : ℕ → ℕ → Model → Model → Certificate
+quotientCertificateFor m n h w = let b = displacement w n in makeCertificate (quotientModel h m b) m n b
 
-unfoldable pub quotientOutcome : ℕ → Model → Model → Model → Model → Outcome Certificate
-quotientOutcome len f g h w = outcome (quotientPlaces len f g h w) (quotientCertificate f g h w) zeroCertificate
+-- the same for the m and N above
+abbrev pub quotientPlacesBehind : Model → Model → Model → Model → List (Bool × ℕ)
+quotientPlacesBehind f g h w = quotientPlacesFor (quotientContraction g w) (quotientResidual f g h) f g h w
+
+abbrev pub quotientCertificate : Model → Model → Model → Model → Certificate
+quotientCertificate f g h w = quotientCertificateFor (quotientContraction g w) (quotientResidual f g h) h w
+
+-- all places, with a scratch of len numbers, of which `need` are needed
+abbrev pub quotientPlaces : ℕ → ℕ → Model → Model → Model → Model → List (Bool × ℕ)
+quotientPlaces need len f g h w = scratchPlace need len ∷ quotientPlacesBehind f g h w
+
+unfoldable pub quotientNeeding : ℕ → ℕ → Model → Model → Model → Model → Outcome Certificate
+quotientNeeding need len f g h w = outcome (quotientPlaces need len f g h w) (quotientCertificate f g h w) zeroCertificate
+
+-- 02, S-17: "Number 1 is now given below 16". In 01 it was given below 65.
+abbrev pub quotientOutcome : ℕ → Model → Model → Model → Model → Outcome Certificate
+quotientOutcome len f g h w = quotientNeeding scratchSize len f g h w
 
 -- the entry's definition. "A candidate is a model without a radius (taken as 0)."
 abbrev pub quotientTest : ℕ → Model → Model → Candidate → Candidate → Outcome Certificate

@@ -14,8 +14,8 @@ use Rattle.model.specs.definitions.Outcomes.{Outcome, outcome}
 use Rattle.model.specs.definitions.Multiply.{productList}
 use Rattle.model.specs.declared.types.Model.{Model}
 use Rattle.model.specs.declared.types.Candidate.{Candidate}
-use Rattle.certificate.specs.definitions.Tests.{scratchSize, withRadius, displacement, Certificate, makeCertificate}
-use Rattle.certificate.specs.definitions.Tests.{zeroCertificate, testPlaces}
+use Rattle.certificate.specs.definitions.Tests.{scratchSize, scratchPlace, withRadius, displacement}
+use Rattle.certificate.specs.definitions.Tests.{Certificate, makeCertificate, zeroCertificate, testPlaces}
 
 -- "m = up(weight(S² − C(w,h))/S)"
 unfoldable pub rootContraction : Model → Model → ℕ
@@ -33,11 +33,11 @@ rootResidual f h =
 unfoldable pub rootModel : Model → ℕ → ℕ → Model
 rootModel h m b = withRadius h (upℕ (2 * b * scale) (scale - m))
 
--- Root of f, through N: the places that every root command shares; "root: helper", 7, "Σ w_k ≤ 0"
-unfoldable pub rootPlaces : ℕ → Model → Model → Model → List (Bool × ℕ)
-rootPlaces len f h w =
-    (ltb len scratchSize, 1) ∷ badPlace f ∷ badPlace h ∷ badPlace w
-    ∷ (leZ (coefficientSum (w .coefficients)) (pos 0), 7) ∷ testPlaces (rootContraction h w) (rootResidual f h)
+-- Root of f, for m and N, behind the place of the scratch and through N: the places that every root command shares; "root:
+-- helper", 7, "Σ w_k ≤ 0"
+abbrev pub rootPlacesFor : ℕ → ℕ → Model → Model → Model → List (Bool × ℕ)
+rootPlacesFor m n f h w =
+    badPlace f ∷ badPlace h ∷ badPlace w ∷ (leZ (coefficientSum (w .coefficients)) (pos 0), 7) ∷ testPlaces m n
 
 -- behind them 8, "(S−m)² < 8·b·M", and the result; M is the weight of w
 abbrev pub negativeDiscriminant : ℕ → ℕ → ℕ → Bool
@@ -51,20 +51,37 @@ pub data RootRule : Type 0 where
   byDiscriminant : RootRule
 
 -- "The test: Σ w_k > 0, m < S, N ≤ 2^28, (S−m)² ≥ 8·b·M."
-abbrev pub rootTestPlaces : RootRule → ℕ → Model → Model → Model → List (Bool × ℕ)
-rootTestPlaces byDiscriminant len f h w =
-    rootPlaces len f h w
-    ++ rootLastPlaces h (weight (w .coefficients)) (rootContraction h w) (displacement w (rootResidual f h))
+abbrev pub rootRulePlaces : RootRule → ℕ → ℕ → Model → Model → List (Bool × ℕ)
+rootRulePlaces byDiscriminant m n h w = rootLastPlaces h (weight (w .coefficients)) m (displacement w n)
 
-abbrev pub rootCertificate : RootRule → Model → Model → Model → Certificate
-rootCertificate byDiscriminant f h w =
+-- what is given behind them
+abbrev pub rootCertificateFor : RootRule → ℕ → ℕ → Model → Model → Certificate
+rootCertificateFor byDiscriminant m n h w = let b = displacement w n in makeCertificate (rootModel h m b) m n b
+
+-- the same for the m and N above
+abbrev pub rootPlacesBehind : RootRule → Model → Model → Model → List (Bool × ℕ)
+rootPlacesBehind rule f h w =
     let m = rootContraction h w in
     let n = rootResidual f h in
-    let b = displacement w n in
-    makeCertificate (rootModel h m b) m n b
+    rootPlacesFor m n f h w ++ rootRulePlaces rule m n h w
 
-unfoldable pub rootOutcome : RootRule → ℕ → Model → Model → Model → Outcome Certificate
-rootOutcome rule len f h w = outcome (rootTestPlaces rule len f h w) (rootCertificate rule f h w) zeroCertificate
+abbrev pub rootCertificate : RootRule → Model → Model → Model → Certificate
+rootCertificate rule f h w = rootCertificateFor rule (rootContraction h w) (rootResidual f h) h w
+
+-- all places, with a scratch of len numbers, of which `need` are needed
+abbrev pub rootTestPlaces : RootRule → ℕ → ℕ → Model → Model → Model → List (Bool × ℕ)
+rootTestPlaces rule need len f h w = scratchPlace need len ∷ rootPlacesBehind rule f h w
+
+unfoldable pub rootNeeding : RootRule → ℕ → ℕ → Model → Model → Model → Outcome Certificate
+rootNeeding rule need len f h w = outcome (rootTestPlaces rule need len f h w) (rootCertificate rule f h w) zeroCertificate
+
+-- 02, S-17: "Number 1 is now given below 16". In 01 it was given below 65.
+abbrev pub rootOutcome : RootRule → ℕ → Model → Model → Model → Outcome Certificate
+rootOutcome rule len f h w = rootNeeding rule scratchSize len f h w
+
+-- the places through N, which every root command shares
+unfoldable pub rootPlaces : ℕ → Model → Model → Model → List (Bool × ℕ)
+rootPlaces len f h w = scratchPlace scratchSize len ∷ rootPlacesFor (rootContraction h w) (rootResidual f h) f h w
 
 -- the entry's definition. "A candidate is a model without a radius (taken as 0)."
 abbrev pub rootTest : ℕ → Model → Candidate → Candidate → Outcome Certificate

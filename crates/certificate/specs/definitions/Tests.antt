@@ -8,19 +8,23 @@ use lib.IntN.{ℤ, pos}
 use lib.ListN.{replicate, drop, length}
 use Rattle.integer.specs.definitions.Rounding.{upℕ}
 use Rattle.chebyshev.specs.definitions.Coefficients.{weight}
-use Rattle.model.specs.definitions.Models.{scale, productSize, maxRadius, makeModel, zeroModel}
+use Rattle.model.specs.definitions.Models.{scale, maxRadius, makeModel, zeroModel}
 use Rattle.model.specs.definitions.Outcomes.{Outcome, judged}
 use Rattle.model.specs.declared.types.Model.{Model}
 use Rattle.certificate.specs.declared.types.TestOutcome.{TestOutcome}
 
 -- ---- the scratch
 
--- "Each test borrows a scratch of 65 signed 64-bit numbers."
+-- 02, S-17: "Our smaller board can lend 16 signed 64-bit numbers to a test." In 01 it was 65, `productSize`.
 abbrev pub scratchSize : ℕ
-scratchSize = productSize
+scratchSize = 16
+
+-- "lent areas: 1, too short": a scratch of len numbers, of which `need` are needed
+abbrev pub scratchPlace : ℕ → ℕ → Bool × ℕ
+scratchPlace need len = (ltb len need, 1)
 
 -- "These are zero after every call, unless the scratch itself or a work area was too short; numbers behind them stay." A test
--- has no work area.
+-- has no work area. 02, S-17: "16 numbers are zero afterwards."
 unfoldable pub scratchAfter : List ℤ → List ℤ
 scratchAfter s = cond (leb scratchSize (length s)) (replicate scratchSize (pos 0) ++ drop scratchSize s) s
 

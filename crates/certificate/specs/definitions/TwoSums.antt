@@ -1,19 +1,14 @@
 -- Document 01, "The two tests", once more, with the list C( , ) formed by its two sums, place by place.
 use mathlib.Core.List.{List, [], _∷_}
-use Prim.Native.Nat.{ℕ, zero, suc, _+_, _*_, _-_, _^_, _≤_, _<_}
+use Prim.Native.Nat.{ℕ, _+_, _*_, _-_, _^_, _≤_, _<_}
 use lib.IntN.{ℤ, pos}
 use lib.Signed.{_<ℤ_}
 use Rattle.integer.specs.definitions.Integer.{ℤ-ring}
 use Rattle.integer.specs.definitions.Rounding.{upℕ}
 use Rattle.chebyshev.specs.definitions.Coefficients.{weight, subtractLists, scaleList, coefficientSum}
-use Rattle.chebyshev.specs.definitions.TwoSums.{twoSums}
+use Rattle.chebyshev.specs.definitions.TwoSums.{tabulate, twoSums}
 use Rattle.model.specs.definitions.Models.{scale, productSize}
 use Rattle.model.specs.declared.types.Model.{Model}
-
--- f 0, f 1, …, f (n − 1)
-unfoldable pub tabulate : ℕ → (ℕ → ℤ) → List ℤ
-tabulate zero f = []
-tabulate (suc n) f = f 0 ∷ tabulate n (λ k. f (suc k))
 
 -- C_0, …, C_64: "C_k = Σ a_i·b_j over i+j = k, plus Σ a_i·b_j over |i−j| = k; a pair that meets both conditions counts twice."
 unfoldable pub twoSumsList : List ℤ → List ℤ → List ℤ

@@ -20,7 +20,7 @@ use Rattle.chebyshev.specs.definitions.Product.{addAt, addPair, addTerm, addTer
 use Rattle.model.specs.definitions.Models.{scale, good, tooLarge, makeModel, constantModel, zeroModel}
 use Rattle.model.specs.definitions.Multiply.{productList}
 use Rattle.model.specs.definitions.Outcomes.{number, passing}
-use Rattle.certificate.specs.definitions.Root.{byDiscriminant, rootOutcome, rootPlaces, rootContraction, rootResidual, rootModel}
+use Rattle.certificate.specs.definitions.Root.{byDiscriminant, rootOutcome, rootNeeding, rootPlaces, rootContraction, rootResidual, rootModel}
 use Rattle.certificate.specs.definitions.Tests.{displacement}
 
 pub discriminant-quotient : (b M m : ℕ) → 0 < M → (8 * b * M ≤ (scale - m) * (scale - m)) ↔ (b ≤ (scale - m) * (scale - m) / (8 * M))
@@ -61,11 +61,11 @@ numbers e =
     let n = rootResidual f h in
     let b = displacement w n in
     let d = 8 * b * weight (w .coefficients) in
-    m ∷ n ∷ b ∷ d ∷ (d % 2 ^ 64) ∷ ((scale - m) * (scale - m)) ∷ number (rootOutcome byDiscriminant 65 f h w) ∷ []
+    m ∷ n ∷ b ∷ d ∷ (d % 2 ^ 64) ∷ ((scale - m) * (scale - m)) ∷ number (rootOutcome byDiscriminant 16 f h w) ∷ []
 
 pub wrapped-discriminant : (numbers 0 ∷ numbers 4 ∷ [])
     ≡ (0 ∷ (2 ^ 28 - 4) ∷ (2 ^ 36 - 2 ^ 10) ∷ (2 ^ 67 - 2 ^ 41) ∷ (2 ^ 64 - 2 ^ 41) ∷ 2 ^ 40 ∷ 8 ∷ [])
     ∷ (0 ∷ 2 ^ 28 ∷ 2 ^ 36 ∷ 2 ^ 67 ∷ 0 ∷ 2 ^ 40 ∷ 8 ∷ [])
     ∷ []
-unfolding rootOutcome rootPlaces rootContraction rootResidual rootModel displacement coefficientSum productList passing good tooLarge constantModel zeroModel weight addLists subtractLists scaleList addAt addPair addTerm addTerms product upℕ
+unfolding rootNeeding rootPlaces rootContraction rootResidual rootModel displacement coefficientSum productList passing good tooLarge constantModel zeroModel weight addLists subtractLists scaleList addAt addPair addTerm addTerms product upℕ
 wrapped-discriminant = refl

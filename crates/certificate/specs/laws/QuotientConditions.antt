@@ -9,7 +9,7 @@ use Rattle.model.specs.definitions.Outcomes.{accepted, Passed}
 use Rattle.model.specs.laws.PlaceLaws.{outcome-passed, outcome-accepted, not-of-true}
 use Rattle.model.specs.declared.types.Model.{Model}
 use Rattle.certificate.specs.definitions.Tests.{scratchSize, displacement, Certificate, zeroCertificate}
-use Rattle.certificate.specs.definitions.Quotient.{quotientPlaces, quotientOutcome, quotientModel, quotientContraction, quotientResidual, quotientCertificate}
+use Rattle.certificate.specs.definitions.Quotient.{quotientPlaces, quotientOutcome, quotientNeeding, quotientModel, quotientContraction, quotientResidual, quotientCertificate}
 
 -- b and the result of the test
 abbrev pub quotientDisplacement : Model → Model → Model → Model → ℕ
@@ -29,7 +29,7 @@ pub record QuotientConditions (len : ℕ) (f g h w : Model) : Type 0 where
   pub result : tooLarge (quotientResult f g h w) ≡ false
 
 module _ (len : ℕ) (f g h w : Model) where
-  pub quotient-conditions : Passed (quotientPlaces len f g h w) ↔ QuotientConditions len f g h w
+  pub quotient-conditions : Passed (quotientPlaces scratchSize len f g h w) ↔ QuotientConditions len f g h w
   quotient-conditions = (
     λ p. record {
       scratch = ltb-false len scratchSize (p .0);
@@ -47,12 +47,12 @@ module _ (len : ℕ) (f g h w : Model) where
   -- accepted exactly where these hold, with model, m, N and b of the test
   pub quotient-passes : {c : Certificate} → quotientOutcome len f g h w ≡ accepted c
       → QuotientConditions len f g h w × (c ≡ quotientCertificate f g h w)
-  unfolding quotientOutcome
+  unfolding quotientNeeding
   quotient-passes e =
-      let (passed, same) = outcome-accepted (quotientPlaces len f g h w) (quotientCertificate f g h w) zeroCertificate e in
+      let (passed, same) = outcome-accepted (quotientPlaces scratchSize len f g h w) (quotientCertificate f g h w) zeroCertificate e in
       (quotient-conditions .0 passed, same)
 
   pub quotient-result : QuotientConditions len f g h w → quotientOutcome len f g h w ≡ accepted (quotientCertificate f g h w)
-  unfolding quotientOutcome
+  unfolding quotientNeeding
   quotient-result c =
-      outcome-passed (quotientPlaces len f g h w) (quotientCertificate f g h w) zeroCertificate (quotient-conditions .1 c)
+      outcome-passed (quotientPlaces scratchSize len f g h w) (quotientCertificate f g h w) zeroCertificate (quotient-conditions .1 c)

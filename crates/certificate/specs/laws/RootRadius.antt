@@ -20,7 +20,7 @@ use Rattle.model.specs.definitions.Models.{scale, maxRadius, productSize, terms
 use Rattle.model.specs.laws.ModelLaws.{good-is}
 use Rattle.model.specs.definitions.Multiply.{productList}
 use Rattle.model.specs.declared.types.Model.{Model}
-use Rattle.certificate.specs.definitions.Root.{byDiscriminant, rootOutcome, rootPlaces, negativeDiscriminant, rootModel, rootContraction}
+use Rattle.certificate.specs.definitions.Root.{byDiscriminant, rootOutcome, rootNeeding, rootPlaces, negativeDiscriminant, rootModel, rootContraction}
 use Rattle.model.specs.definitions.Outcomes.{number}
 use Rattle.model.specs.laws.PlaceLaws.{passed-append, last-unused}
 use Rattle.certificate.specs.laws.Stages.{large-radius}
@@ -74,7 +74,7 @@ module _ (len : ℕ) (f h w : Model) where
 
   -- refusal 3 is never answered
   pub root-never-large : number (rootOutcome byDiscriminant len f h w) ≢ 3
-  unfolding rootOutcome rootPlaces
+  unfolding rootNeeding rootPlaces
   root-never-large =
       let eighth : List (Bool × ℕ) = (negativeDiscriminant (rootContraction h w) (rootDisplacement f h w) (weight (w .coefficients)), 8) ∷ [] in
       last-unused (rootPlaces len f h w ++ eighth) (tooLarge (rootResult f h w)) 3 _ _ (omega arith) (omega arith)

@@ -7,7 +7,7 @@ use Rattle.model.specs.laws.ModelLaws.{good-is}
 use Rattle.model.specs.definitions.Outcomes.{accepted, refused}
 use Rattle.model.specs.laws.PlaceLaws.{outcome-accepted, outcome-behind, outcome-refused}
 use Rattle.model.specs.declared.types.Model.{Model}
-use Rattle.certificate.specs.definitions.Root.{rootPlaces, rootContraction, rootResidual, byDiscriminant, rootOutcome}
+use Rattle.certificate.specs.definitions.Root.{rootPlaces, rootContraction, rootResidual, byDiscriminant, rootOutcome, rootNeeding}
 use Rattle.certificate.specs.definitions.Tests.{displacement, zeroCertificate}
 use Rattle.certificate.specs.definitions.InnerContracts.{RootLast, Reach, makeReach, zeroReach, rootReach, refusedTest, rootEnd}
 use Rattle.certificate.specs.laws.Stages.{displacement-bound}
@@ -25,7 +25,7 @@ module _ (len : ℕ) (f h w : Model) where
     pub last : rootOutcome byDiscriminant len f h w ≡ rootEnd h M m n b
 
   pub root-reached-is : (M m n b : ℕ) → rootReach len f h w ≡ accepted (makeReach M m n b) → RootReached M m n b
-  unfolding rootReach rootOutcome
+  unfolding rootReach rootNeeding rootPlaces
   root-reached-is M m n b e =
       let (passed, same) = outcome-accepted (rootPlaces len f h w) _ zeroReach e in
       let eM : M ≡ weight (w .coefficients) = ap (λ (r : Reach). r .M) same in
@@ -55,5 +55,5 @@ module _ (len : ℕ) (f h w : Model) where
       }
 
   pub root-refused-is : (k : ℕ) → rootReach len f h w ≡ refused k zeroReach → rootOutcome byDiscriminant len f h w ≡ refusedTest k
-  unfolding rootReach rootOutcome
+  unfolding rootReach rootNeeding rootPlaces
   root-refused-is k e = outcome-refused (rootPlaces len f h w) _ _ zeroReach _ zeroCertificate e

@@ -4,11 +4,11 @@ use mathlib.Core.Bool.{Bool, true, false, true≢false, not, _&&_, cond, or-fals
 use mathlib.Core.List.{List, _++_}
 use Prim.Native.Nat.{ℕ, _*_, _^_, _≤_, _<_}
 use native.Mathlib.Omega.{arith}
-use native.Mathlib.Nat.{mul-le-mul}
+use native.Mathlib.Nat.{mul-le-mul, le-refl}
 use lib.Dec.{ltb}
 use lib.IntN.{ℤ}
-use lib.ListN.{length, drop, length-append, length-drop}
-use lib.Seq.{drop-at}
+use lib.ListN.{length, take, drop, length-append, length-drop}
+use lib.Seq.{length-take-le, drop-at}
 use borrow.Author.Tests.{ltb-true, ltb-false, le-ltb, le-leb, lt-leb}
 use Rattle.integer.specs.definitions.Lists.{zeros}
 use Rattle.integer.specs.definitions.Rounding.{upℕ}
@@ -19,8 +19,8 @@ use Rattle.model.specs.definitions.Models.{scale, maxDegree, maxWeight, maxRadi
 use Rattle.model.specs.laws.ModelLaws.{good-is}
 use Rattle.model.specs.declared.types.Model.{Model}
 use Rattle.certificate.specs.definitions.Tests.{withRadius, scratchSize, scratchAfter}
-use Rattle.certificate.specs.definitions.Quotient.{quotientOutcome}
-use Rattle.certificate.specs.definitions.Root.{rootPlaces, byDiscriminant, rootOutcome}
+use Rattle.certificate.specs.definitions.Quotient.{quotientNeeding, quotientOutcome}
+use Rattle.certificate.specs.definitions.Root.{RootRule, byDiscriminant, rootNeeding, rootOutcome}
 
 -- ---- the place of the result
 
@@ -47,6 +47,10 @@ unfolding scratchAfter zeros
 scratch-cleared s e = rw (le-leb scratchSize (length s) e)
 
 module _ (s : List ℤ) where
+  -- the part that a test is lent
+  pub scratch-first : scratchSize ≤ length s → length (take scratchSize s) ≡ scratchSize
+  scratch-first room = length-take-le scratchSize s room
+
   -- a scratch stays as long as it was
   pub scratch-length : length (scratchAfter s) ≡ length s
   scratch-length = go (ltb (length s) scratchSize) refl
@@ -58,6 +62,13 @@ module _ (s : List ℤ) where
           ap length (scratch-cleared s room) ∙ length-append (zeros scratchSize) (drop scratchSize s)
           ∙ omega (arith, room, length-zeros scratchSize, length-drop scratchSize s)
 
+  -- whatever a call has left in its numbers Z
+  pub scratch-again : (Z : List ℤ) → scratchSize ≤ length s → length Z ≡ scratchSize → scratchAfter (Z ++ drop scratchSize s) ≡ scratchAfter s
+  scratch-again Z room e =
+      scratch-cleared (Z ++ drop scratchSize s) (omega (arith, length-append Z (drop scratchSize s)))
+      ∙ ap (λ (l : List ℤ). zeros scratchSize ++ l) (drop-at Z (drop scratchSize s) scratchSize e)
+      ∙ sym (scratch-cleared s room)
+
   -- a second call finds it cleared
   pub scratch-twice : scratchAfter (scratchAfter s) ≡ scratchAfter s
   scratch-twice = go (ltb (length s) scratchSize) refl
@@ -66,20 +77,24 @@ module _ (s : List ℤ) where
       go true e = ap scratchAfter (scratch-short s (ltb-true (length s) scratchSize e))
       go false e =
           let room = ltb-false (length s) scratchSize e in
-          scratch-cleared (scratchAfter s) (omega (arith, room, scratch-length))
-          ∙ ap (λ (l : List ℤ). zeros scratchSize ++ drop scratchSize l) (scratch-cleared s room)
-          ∙ ap (λ (l : List ℤ). zeros scratchSize ++ l) (drop-at (zeros scratchSize) (drop scratchSize s) scratchSize (length-zeros scratchSize))
-          ∙ sym (scratch-cleared s room)
+          ap scratchAfter (scratch-cleared s room) ∙ scratch-again (zeros scratchSize) room (length-zeros scratchSize)
 
--- ---- a scratch that is long enough plays no further part
+-- ---- a scratch that is long enough plays no further part, however long it has to be
+
+module _ {need len need′ len′ : ℕ} (room : need ≤ len) (room′ : need′ ≤ len′) where
+  pub quotient-needs : (f g h w : Model) → quotientNeeding need len f g h w ≡ quotientNeeding need′ len′ f g h w
+  unfolding quotientNeeding
+  quotient-needs f g h w = rw (le-ltb len need room, le-ltb len′ need′ room′)
+
+  pub root-needs : (rule : RootRule) (f h w : Model) → rootNeeding rule need len f h w ≡ rootNeeding rule need′ len′ f h w
+  unfolding rootNeeding
+  root-needs rule f h w = rw (le-ltb len need room, le-ltb len′ need′ room′)
 
 pub quotient-room : (len : ℕ) (f g h w : Model) → scratchSize ≤ len → quotientOutcome len f g h w ≡ quotientOutcome scratchSize f g h w
-unfolding quotientOutcome
-quotient-room len f g h w room = rw (le-ltb len scratchSize room)
+quotient-room len f g h w room = quotient-needs room (le-refl scratchSize) f g h w
 
 pub root-room : (len : ℕ) (f h w : Model) → scratchSize ≤ len → rootOutcome byDiscriminant len f h w ≡ rootOutcome byDiscriminant scratchSize f h w
-unfolding rootOutcome rootPlaces
-root-room len f h w room = rw (le-ltb len scratchSize room)
+root-room len f h w room = root-needs room (le-refl scratchSize) byDiscriminant f h w
 
 -- ---- models and candidates
 

@@ -1,4 +1,4 @@
--- Laws of lists of coefficients over a commutative ring: the value is linear; lengths and elements of sums, multiples and
+-- Laws of lists of coefficients over a commutative ring: the value is linear; lengths, elements and parts of sums, multiples and
 -- differences; whole numbers in the ring. Lists of different lengths count as padded with zeros.
 use mathlib.Core.Path.{_≡_, refl, sym, _∙_, ap, ap₂}
 use mathlib.Core.List.{List, [], _∷_, _++_, map}
@@ -139,6 +139,8 @@ module _ (R : CommutativeRing) where
   scale-add s (x ∷ a) [] = refl
   scale-add s (x ∷ a) (y ∷ b) = ap₂ _∷_ (dist s x y) (scale-add s a b)
 
+  -- ---- parts
+
   -- where b is the shorter list, the sum changes only the places of b
   pub add-split : (a b : List A) → length b ≤ length a → addLists R a b ≡ addLists R (take (length b) a) b ++ drop (length b) a
   unfolding addLists
@@ -150,6 +152,47 @@ module _ (R : CommutativeRing) where
   pub subtract-split : (a b : List A) → length b ≤ length a → subtractLists R a b ≡ subtractLists R (take (length b) a) b ++ drop (length b) a
   unfolding subtractLists
   subtract-split a b h = rw length-map at (add-split a (map ⊖_ b) (rw length-map h))
+
+  take-add : (n : ℕ) (a b : List A) → take n (addLists R a b) ≡ addLists R (take n a) (take n b)
+  unfolding addLists
+  take-add zero a b = refl
+  take-add (suc n) [] b = refl
+  take-add (suc n) (x ∷ a) [] = refl
+  take-add (suc n) (x ∷ a) (y ∷ b) = ap (λ l. (x ⊕ y) ∷ l) (take-add n a b)
+
+  drop-add : (n : ℕ) (a b : List A) → drop n (addLists R a b) ≡ addLists R (drop n a) (drop n b)
+  unfolding addLists
+  drop-add zero a b = refl
+  drop-add (suc n) [] b = refl
+  drop-add (suc n) (x ∷ a) [] = sym (add-nil (drop n a))
+  drop-add (suc n) (x ∷ a) (y ∷ b) = drop-add n a b
+
+  module _ (g : A → A) where
+    take-map : (n : ℕ) (a : List A) → take n (map g a) ≡ map g (take n a)
+    take-map zero a = refl
+    take-map (suc n) [] = refl
+    take-map (suc n) (x ∷ a) = ap (λ l. g x ∷ l) (take-map n a)
+
+    drop-map : (n : ℕ) (a : List A) → drop n (map g a) ≡ map g (drop n a)
+    drop-map zero a = refl
+    drop-map (suc n) [] = refl
+    drop-map (suc n) (x ∷ a) = drop-map n a
+
+  pub take-subtract : (n : ℕ) (a b : List A) → take n (subtractLists R a b) ≡ subtractLists R (take n a) (take n b)
+  unfolding subtractLists
+  take-subtract n a b = take-add n a (map ⊖_ b) ∙ ap (addLists R (take n a)) (take-map ⊖_ n b)
+
+  pub drop-subtract : (n : ℕ) (a b : List A) → drop n (subtractLists R a b) ≡ subtractLists R (drop n a) (drop n b)
+  unfolding subtractLists
+  drop-subtract n a b = drop-add n a (map ⊖_ b) ∙ ap (addLists R (drop n a)) (drop-map ⊖_ n b)
+
+  pub take-scale : (n : ℕ) (s : A) (a : List A) → take n (scaleList R s a) ≡ scaleList R s (take n a)
+  unfolding scaleList
+  take-scale n s a = take-map (λ x. s ⊗ x) n a
+
+  pub drop-scale : (n : ℕ) (s : A) (a : List A) → drop n (scaleList R s a) ≡ scaleList R s (drop n a)
+  unfolding scaleList
+  drop-scale n s a = drop-map (λ x. s ⊗ x) n a
 
   -- ---- whole numbers in the ring
 

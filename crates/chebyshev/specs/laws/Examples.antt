@@ -3,6 +3,7 @@ use mathlib.Core.Path.{_≡_, refl}
 use mathlib.Core.List.{[], _∷_}
 use lib.IntN.{pos, negsuc}
 use Rattle.integer.specs.definitions.Integer.{ℤ-ring}
+use Rattle.chebyshev.specs.definitions.Convolution.{convolution, correlation}
 use Rattle.chebyshev.specs.definitions.Product.{addAt, addPair, addTerm, addTerms, productWalk}
 use Rattle.integer.specs.definitions.Fraction.{whole}
 use Rattle.integer.specs.laws.FractionSolver.{reifyℚ, solveℚ}
@@ -28,6 +29,15 @@ six-visits = refl
 no-visit : productWalk ℤ-ring 2 (pos 3 ∷ []) [] ≡ (pos 0 ∷ pos 0 ∷ [], 0)
 unfolding addTerms addTerm
 no-visit = refl
+
+-- (1, 2, 3) and (4, 5): a_0·b_1 + a_1·b_0 of place 1, and b_0·a_1 + b_1·a_2
+convolution-of-three : convolution ℤ-ring 2 (pos 1 ∷ pos 2 ∷ pos 3 ∷ []) (pos 4 ∷ pos 5 ∷ []) ≡ pos 13
+unfolding convolution
+convolution-of-three = refl
+
+correlation-of-two : correlation ℤ-ring 1 (pos 4 ∷ pos 5 ∷ []) (pos 1 ∷ pos 2 ∷ pos 3 ∷ []) ≡ pos 23
+unfolding correlation
+correlation-of-two = refl
 
 -- three strips of width 2 from 5 on: 5·2 + 7·2 + 9·2
 three-strips : leftSum (λ x. x) (whole (pos 5)) (whole (pos 2)) 3 ≡ whole (pos 42)

@@ -24,17 +24,17 @@ module _ (R : CommutativeRing) where
   infixl 7 _⊗_
   -- ---- sums
 
-  sum-zero : (n : ℕ) → sum R n (λ k. ι (pos 0)) ≡ ι (pos 0)
+  pub sum-zero : (n : ℕ) → sum R n (λ k. ι (pos 0)) ≡ ι (pos 0)
   unfolding sum
   sum-zero zero = refl
   sum-zero (suc n) = ap (λ s. ι (pos 0) ⊕ s) (sum-zero n) ∙ zero-add (ι (pos 0))
 
-  sum-cong : (n : ℕ) (f g : ℕ → A) → ((k : ℕ) → f k ≡ g k) → sum R n f ≡ sum R n g
+  pub sum-cong : (n : ℕ) (f g : ℕ → A) → ((k : ℕ) → f k ≡ g k) → sum R n f ≡ sum R n g
   unfolding sum
   sum-cong zero f g h = refl
   sum-cong (suc n) f g h = ap₂ _⊕_ (h 0) (sum-cong n (λ k. f (suc k)) (λ k. g (suc k)) (λ k. h (suc k)))
 
-  sum-add : (n : ℕ) (f g : ℕ → A) → sum R n (λ k. f k ⊕ g k) ≡ sum R n f ⊕ sum R n g
+  pub sum-add : (n : ℕ) (f g : ℕ → A) → sum R n (λ k. f k ⊕ g k) ≡ sum R n f ⊕ sum R n g
   unfolding sum
   sum-add zero f g = sym (zero-add (ι (pos 0)))
   sum-add (suc n) f g =
@@ -114,17 +114,24 @@ module _ (R : CommutativeRing) where
       by-distance : ℕ → ℕ → A
       by-distance i j = cond (eqb (distance i j) k) (getD a i (ι (pos 0)) ⊗ getD b j (ι (pos 0))) (ι (pos 0))
 
-  sumWhere-symmetric : (test : ℕ → ℕ → Bool) → ((i j : ℕ) → test i j ≡ test j i) → (a b : List A) → sumWhere R test a b ≡ sumWhere R test b a
+  pub sumWhere-cong : (s t : ℕ → ℕ → Bool) → ((i j : ℕ) → s i j ≡ t i j) → (a b : List A) → sumWhere R s a b ≡ sumWhere R t a b
   unfolding sumWhere
-  sumWhere-symmetric test h a b =
+  sumWhere-cong s t h a b =
+      sum-cong (length a) _ _ (λ i. sum-cong (length b) _ _ (λ j. ap (λ c. cond c (getD a i (ι (pos 0)) ⊗ getD b j (ι (pos 0))) (ι (pos 0))) (h i j)))
+
+  -- the lists change places
+  pub sumWhere-swap : (test : ℕ → ℕ → Bool) (a b : List A) → sumWhere R test a b ≡ sumWhere R (λ j i. test i j) b a
+  unfolding sumWhere
+  sumWhere-swap test a b =
       sum-swap (length a) (length b) (λ i j. cond (test i j) (getD a i (ι (pos 0)) ⊗ getD b j (ι (pos 0))) (ι (pos 0)))
-      ∙ sum-cong (length b) _ _ (λ j. sum-cong (length a) _ _ (λ i. ap₂ (λ t v. cond t v (ι (pos 0))) (h i j) (mul-comm (getD a i (ι (pos 0))) (getD b j (ι (pos 0))))))
+      ∙ sum-cong (length b) _ _ (λ j. sum-cong (length a) _ _ (λ i. ap (λ v. cond (test i j) v (ι (pos 0))) (mul-comm (getD a i (ι (pos 0))) (getD b j (ι (pos 0))))))
 
   two-sums-symmetric : (k : ℕ) (a b : List A) → twoSums R k a b ≡ twoSums R k b a
   unfolding twoSums
   two-sums-symmetric k a b =
-      ap₂ _⊕_ (sumWhere-symmetric (λ i j. eqb (i + j) k) (λ i j. ap (λ (m : ℕ). eqb m k) (add-comm i j)) a b)
-      (sumWhere-symmetric (λ i j. eqb (distance i j) k) (λ i j. ap (λ (m : ℕ). eqb m k) (add-comm (i - j) (j - i))) a b)
+      ap₂ _⊕_
+      (sumWhere-swap (λ i j. eqb (i + j) k) a b ∙ sumWhere-cong _ _ (λ j i. ap (λ (m : ℕ). eqb m k) (add-comm i j)) b a)
+      (sumWhere-swap (λ i j. eqb (distance i j) k) a b ∙ sumWhere-cong _ _ (λ j i. ap (λ (m : ℕ). eqb m k) (add-comm (i - j) (j - i))) b a)
 
   pub product-symmetric : (width : ℕ) (a b : List A) → product R width a b ≡ product R width b a
   product-symmetric width a b =

@@ -5,10 +5,11 @@ use Prim.Native.Nat.{ℕ}
 use lib.IntN.{ℤ}
 use lib.ListN.{length}
 use Rattle.model.specs.definitions.Outcomes.{Outcome, refused, number, payload}
+use Rattle.model.specs.definitions.Models.{candidateModel}
 use Rattle.model.specs.definitions.Area.{modelSize, candidateSize, words, areaModel, areaCandidate}
 use Rattle.certificate.specs.definitions.Tests.{scratchSize, scratchAfter, Certificate, zeroCertificate}
-use Rattle.certificate.specs.definitions.Quotient.{quotientTest}
-use Rattle.certificate.specs.definitions.Root.{rootTest}
+use Rattle.certificate.specs.definitions.Quotient.{quotientNeeding}
+use Rattle.certificate.specs.definitions.Root.{byDiscriminant, rootNeeding}
 use Rattle.ferruntzo.specs.definitions.Areas.{fits, areaOut, numbersSize}
 
 -- refusal 1, whichever area is too short: "Any other number an entry answers … is zero on refusal too"
@@ -35,24 +36,30 @@ testIn t scratch out numbers =
     (areaOut modelSize (words (payload t .model)) out)
     (areaOut numbersSize (payload t .m ∷ payload t .N ∷ payload t .b ∷ []) numbers)
 
--- whether every area has its numbers: those of the models, of h and w, the scratch, the result, and m, N and b
-abbrev pub testFits : Bool → List ℤ → List ℤ → List ℤ → List ℤ → List ℕ → Bool
-testFits models h w scratch out numbers =
-    models && fits candidateSize h && fits candidateSize w && fits scratchSize scratch && fits modelSize out
-    && fits numbersSize numbers
+-- whether every area has its numbers: those of the models, of h and w, the scratch, of which `need` are needed, the result, and
+-- m, N and b
+abbrev pub testFits : ℕ → Bool → List ℤ → List ℤ → List ℤ → List ℤ → List ℕ → Bool
+testFits need models h w scratch out numbers =
+    models && fits candidateSize h && fits candidateSize w && fits need scratch && fits modelSize out && fits numbersSize numbers
+
+-- a call's outcome, by which its number, result and numbers go
+abbrev pub quotientCall : ℕ → List ℤ → List ℤ → List ℤ → List ℤ → List ℤ → List ℤ → List ℕ → Outcome Certificate
+quotientCall need f g h w scratch out numbers =
+    cond (testFits need (fits modelSize f && fits modelSize g) h w scratch out numbers)
+    (quotientNeeding need (length scratch) (areaModel f) (areaModel g) (candidateModel (areaCandidate h))
+    (candidateModel (areaCandidate w)))
+    shortTest
+
+abbrev pub rootCall : ℕ → List ℤ → List ℤ → List ℤ → List ℤ → List ℤ → List ℕ → Outcome Certificate
+rootCall need f h w scratch out numbers =
+    cond (testFits need (fits modelSize f) h w scratch out numbers)
+    (rootNeeding byDiscriminant need (length scratch) (areaModel f)
+    (candidateModel (areaCandidate h)) (candidateModel (areaCandidate w)))
+    shortTest
 
 abbrev pub quotientAnswer : List ℤ → List ℤ → List ℤ → List ℤ → List ℤ → List ℤ → List ℕ → TestAnswer
 quotientAnswer f g h w scratch out numbers =
-    testIn
-    (cond (testFits (fits modelSize f && fits modelSize g) h w scratch out numbers)
-    (quotientTest (length scratch) (areaModel f) (areaModel g) (areaCandidate h) (areaCandidate w))
-    shortTest)
-    scratch out numbers
+    testIn (quotientCall scratchSize f g h w scratch out numbers) scratch out numbers
 
 abbrev pub rootAnswer : List ℤ → List ℤ → List ℤ → List ℤ → List ℤ → List ℕ → TestAnswer
-rootAnswer f h w scratch out numbers =
-    testIn
-    (cond (testFits (fits modelSize f) h w scratch out numbers)
-    (rootTest (length scratch) (areaModel f) (areaCandidate h) (areaCandidate w))
-    shortTest)
-    scratch out numbers
+rootAnswer f h w scratch out numbers = testIn (rootCall scratchSize f h w scratch out numbers) scratch out numbers

@@ -7,7 +7,7 @@ use lib.ListN.{length}
 use Rattle.model.specs.definitions.Outcomes.{Outcome, refused, number, payload}
 use Rattle.model.specs.definitions.Area.{modelSize, areaModel}
 use Rattle.certificate.specs.definitions.Tests.{scratchSize, scratchAfter}
-use Rattle.selection.specs.definitions.Select.{Selected, makeSelected, selection}
+use Rattle.selection.specs.definitions.Select.{selectionNeeding, Selected, makeSelected}
 use Rattle.ferruntzo.specs.definitions.Areas.{fits, areaOut, selectionSize}
 
 -- refusal 1, where an area other than a proposal is too short
@@ -31,16 +31,19 @@ selectionIn o scratch answer =
     (scratchAfter scratch)
     (areaOut selectionSize (payload o .chosen ∷ payload o .radius ∷ []) answer)
 
--- whether the models, the scratch and the answer have their numbers. A short proposal "fails with 1, by itself", and is not
--- among them.
-abbrev pub selectionFits : List ℤ → List ℤ → List ℤ → List ℕ → Bool
-selectionFits f g scratch answer =
-    fits modelSize f && fits modelSize g && fits scratchSize scratch && fits selectionSize answer
+-- whether the models, the scratch, of which `need` numbers are needed, and the answer have their numbers. A short proposal
+-- "fails with 1, by itself", and is not among them.
+abbrev pub selectionFits : ℕ → List ℤ → List ℤ → List ℤ → List ℕ → Bool
+selectionFits need f g scratch answer =
+    fits modelSize f && fits modelSize g && fits need scratch && fits selectionSize answer
+
+-- a call's outcome, by which its number and answer go
+abbrev pub selectionCall : ℕ → List ℤ → List ℤ → List ℤ → List ℤ → List ℤ → List ℕ → Outcome Selected
+selectionCall need f g first second scratch answer =
+    cond (selectionFits need f g scratch answer)
+    (selectionNeeding need (length scratch) (areaModel f) (areaModel g) first second)
+    shortSelection
 
 abbrev pub quotientOfTwoAnswer : List ℤ → List ℤ → List ℤ → List ℤ → List ℤ → List ℕ → SelectionAnswer
 quotientOfTwoAnswer f g first second scratch answer =
-    selectionIn
-    (cond (selectionFits f g scratch answer)
-    (selection (length scratch) (areaModel f) (areaModel g) first second)
-    shortSelection)
-    scratch answer
+    selectionIn (selectionCall scratchSize f g first second scratch answer) scratch answer

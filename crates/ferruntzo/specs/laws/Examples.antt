@@ -1,6 +1,7 @@
 -- Closed examples of the answers at the C boundary, computed from the definitions: one of each shape, with numbers behind the areas,
 -- and areas that are too short.
 use mathlib.Core.Path.{_≡_, refl}
+use mathlib.Core.Bool.{true, false}
 use mathlib.Core.List.{List, [], _∷_, _++_}
 use Prim.Native.Nat.{ℕ, _-_}
 use lib.IntN.{ℤ, pos, negsuc}
@@ -17,9 +18,9 @@ use Rattle.model.specs.definitions.Multiply.{productList}
 use Rattle.model.specs.definitions.Round.{rounded, roundingLoss}
 use Rattle.model.specs.definitions.Evaluate.{pointTerm, pointSum, pointError, lowBound, highBound, evaluation}
 use Rattle.certificate.specs.definitions.Tests.{scratchAfter, displacement}
-use Rattle.certificate.specs.definitions.Root.{rootOutcome, rootPlaces, rootContraction, rootResidual, rootModel}
-use Rattle.certificate.specs.definitions.Quotient.{quotientOutcome, quotientContraction, quotientResidual, quotientModel}
-use Rattle.selection.specs.definitions.Proposal.{proposalTest}
+use Rattle.certificate.specs.definitions.Root.{rootNeeding, rootPlaces, rootContraction, rootResidual, rootModel}
+use Rattle.certificate.specs.definitions.Quotient.{quotientNeeding, quotientContraction, quotientResidual, quotientModel}
+use Rattle.selection.specs.definitions.Proposal.{proposalNeeding}
 use Rattle.selection.specs.definitions.Select.{tighter}
 use Rattle.series.specs.definitions.Convert.{goodSeries, expandedFrom, seriesModel, conversion}
 use Rattle.series.specs.definitions.Table.{expansionRow}
@@ -29,10 +30,10 @@ use Rattle.job.specs.definitions.Decode.{makerAt}
 use Rattle.job.specs.definitions.Reading.{readingPlaces}
 use Rattle.job.specs.definitions.Step.{command}
 use Rattle.job.specs.definitions.Run.{run, jobOutcome}
-use Rattle.job.specs.definitions.Work.{checkOutcome, workAfter, workWith, resultWords, scratchAfterJob}
+use Rattle.job.specs.definitions.Work.{checkNeeding, workNeeding, workWith, resultWords, scratchAfterJob}
 use Rattle.ferruntzo.specs.definitions.Areas.{areaOut}
 use Rattle.ferruntzo.specs.definitions.Operations.{operationAnswer, outcomeIn, binaryAnswer, evaluationAnswer, boundsIn, evaluateAnswer}
-use Rattle.ferruntzo.specs.definitions.Certificates.{testAnswer, testIn, rootAnswer}
+use Rattle.ferruntzo.specs.definitions.Certificates.{testAnswer, testIn, rootAnswer, testFits}
 use Rattle.ferruntzo.specs.definitions.Jobs.{jobAnswer, checkAnswer}
 use Rattle.ferruntzo.specs.definitions.Conversions.{seriesAnswer}
 use Rattle.ferruntzo.specs.definitions.Selections.{selectionAnswer, selectionIn, quotientOfTwoAnswer}
@@ -77,7 +78,7 @@ unfolding outcomeIn areaOut conversion goodSeries seriesModel expandedFrom expan
 conversions = (refl, refl, refl, refl)
 
 -- the root whose discriminant is 0: m, N and b; the root of 1 with the same candidates, refused with 8; an area of 34 numbers for the
--- result; a scratch of 64
+-- result; a scratch of 15; one of 64, where 65 were needed
 abbrev h : List ℤ
 h = area 0 (pos 2097152 ∷ []) 34
 
@@ -86,39 +87,40 @@ w = area 0 (pos 262144 ∷ []) 34
 
 pub tests :
     (rootAnswer (area 0 (pos 2097152 ∷ []) 35) h w (nines 66) (nines 36) (9 ∷ 9 ∷ 9 ∷ 9 ∷ [])
-    ≡ testAnswer 0 (zeros 65 ++ nines 1) (pos 0 ∷ pos 2097152 ∷ (zeros 32 ++ (pos 1048576 ∷ nines 1))) (0 ∷ 2097152 ∷ 524288 ∷ 9 ∷ []))
-    × (rootAnswer one h w (nines 66) (nines 36) (9 ∷ 9 ∷ 9 ∷ 9 ∷ []) ≡ testAnswer 8 (zeros 65 ++ nines 1) (zeros 35 ++ nines 1) (0 ∷ 0 ∷ 0 ∷ 9 ∷ []))
-    × (rootAnswer (area 0 (pos 2097152 ∷ []) 35) h w (nines 66) (nines 34) (9 ∷ 9 ∷ 9 ∷ 9 ∷ [])
-    ≡ testAnswer 1 (zeros 65 ++ nines 1) (nines 34) (0 ∷ 0 ∷ 0 ∷ 9 ∷ []))
-    × (rootAnswer (area 0 (pos 2097152 ∷ []) 35) h w (nines 64) (nines 36) (9 ∷ 9 ∷ 9 ∷ 9 ∷ [])
-    ≡ testAnswer 1 (nines 64) (zeros 35 ++ nines 1) (0 ∷ 0 ∷ 0 ∷ 9 ∷ []))
-unfolding testIn areaOut scratchAfter rootOutcome rootPlaces rootContraction rootResidual rootModel displacement coefficientSum productList passing good tooLarge zeroModel weight addLists subtractLists scaleList addAt addPair addTerm addTerms product upℕ zeros
-tests = (refl, refl, refl, refl)
+    ≡ testAnswer 0 (zeros 16 ++ nines 50) (pos 0 ∷ pos 2097152 ∷ (zeros 32 ++ (pos 1048576 ∷ nines 1))) (0 ∷ 2097152 ∷ 524288 ∷ 9 ∷ []))
+    × (rootAnswer one h w (nines 17) (nines 36) (9 ∷ 9 ∷ 9 ∷ 9 ∷ []) ≡ testAnswer 8 (zeros 16 ++ nines 1) (zeros 35 ++ nines 1) (0 ∷ 0 ∷ 0 ∷ 9 ∷ []))
+    × (rootAnswer (area 0 (pos 2097152 ∷ []) 35) h w (nines 17) (nines 34) (9 ∷ 9 ∷ 9 ∷ 9 ∷ [])
+    ≡ testAnswer 1 (zeros 16 ++ nines 1) (nines 34) (0 ∷ 0 ∷ 0 ∷ 9 ∷ []))
+    × (rootAnswer (area 0 (pos 2097152 ∷ []) 35) h w (nines 15) (nines 36) (9 ∷ 9 ∷ 9 ∷ 9 ∷ [])
+    ≡ testAnswer 1 (nines 15) (zeros 35 ++ nines 1) (0 ∷ 0 ∷ 0 ∷ 9 ∷ []))
+    × (testFits 65 true h w (nines 64) (nines 35) (9 ∷ 9 ∷ 9 ∷ []) ≡ false)
+unfolding testIn areaOut scratchAfter rootNeeding rootPlaces rootContraction rootResidual rootModel displacement coefficientSum productList passing good tooLarge zeroModel weight addLists subtractLists scaleList addAt addPair addTerm addTerms product upℕ zeros
+tests = (refl, refl, refl, refl, refl)
 
 -- two proposals for 1/3 with the helper 1/3: the first has 67 numbers, the second is chosen with radius 2; neither passes; a model area of
--- 34 numbers; a scratch of 64 and short proposals; an answer of 1
+-- 34 numbers; a scratch of 15 and short proposals; an answer of 1
 abbrev third : List ℤ
 third = area 0 (pos 349525 ∷ []) 34
 
 pub selections :
     (quotientOfTwoAnswer one (area 0 (pos 3145728 ∷ []) 35 ++ nines 1) (third ++ drop 1 third) (third ++ (third ++ nines 1)) (nines 66) (9 ∷ 9 ∷ 9 ∷ [])
-    ≡ selectionAnswer 0 (zeros 65 ++ nines 1) (2 ∷ 2 ∷ 9 ∷ []))
-    × (quotientOfTwoAnswer one (area 0 (pos 3145728 ∷ []) 35) (third ++ zeros 34) third (nines 66) (9 ∷ 9 ∷ 9 ∷ [])
-    ≡ selectionAnswer 5 (zeros 65 ++ nines 1) (0 ∷ 0 ∷ 9 ∷ []))
-    × (quotientOfTwoAnswer (drop 1 one) one (third ++ third) (third ++ third) (nines 66) (9 ∷ 9 ∷ 9 ∷ [])
-    ≡ selectionAnswer 1 (zeros 65 ++ nines 1) (0 ∷ 0 ∷ 9 ∷ []))
-    × (quotientOfTwoAnswer one one [] third (nines 64) (9 ∷ 9 ∷ 9 ∷ []) ≡ selectionAnswer 1 (nines 64) (0 ∷ 0 ∷ 9 ∷ []))
-    × (quotientOfTwoAnswer one one (third ++ third) (third ++ third) (nines 65) (9 ∷ []) ≡ selectionAnswer 1 (zeros 65) (9 ∷ []))
-unfolding selectionIn areaOut scratchAfter tighter proposalTest quotientOutcome quotientContraction quotientResidual quotientModel displacement productList passing good tooLarge zeroModel weight addLists subtractLists scaleList addAt addPair addTerm addTerms product upℕ zeros
+    ≡ selectionAnswer 0 (zeros 16 ++ nines 50) (2 ∷ 2 ∷ 9 ∷ []))
+    × (quotientOfTwoAnswer one (area 0 (pos 3145728 ∷ []) 35) (third ++ zeros 34) third (nines 17) (9 ∷ 9 ∷ 9 ∷ [])
+    ≡ selectionAnswer 5 (zeros 16 ++ nines 1) (0 ∷ 0 ∷ 9 ∷ []))
+    × (quotientOfTwoAnswer (drop 1 one) one (third ++ third) (third ++ third) (nines 17) (9 ∷ 9 ∷ 9 ∷ [])
+    ≡ selectionAnswer 1 (zeros 16 ++ nines 1) (0 ∷ 0 ∷ 9 ∷ []))
+    × (quotientOfTwoAnswer one one [] third (nines 15) (9 ∷ 9 ∷ 9 ∷ []) ≡ selectionAnswer 1 (nines 15) (0 ∷ 0 ∷ 9 ∷ []))
+    × (quotientOfTwoAnswer one one (third ++ third) (third ++ third) (nines 16) (9 ∷ []) ≡ selectionAnswer 1 (zeros 16) (9 ∷ []))
+unfolding selectionIn areaOut scratchAfter tighter proposalNeeding quotientNeeding quotientContraction quotientResidual quotientModel displacement productList passing good tooLarge zeroModel weight addLists subtractLists scaleList addAt addPair addTerm addTerms product upℕ zeros
 selections = (refl, refl, refl, refl, refl)
 
 -- a job refused at command 1, the count before the command; a job accepted with one result; and areas that are too short
 pub checks :
-    (checkAnswer (0x01 ∷ 1 ∷ []) (nines 1121) (nines 66) (9 ∷ 9 ∷ 9 ∷ [])
-    ≡ jobAnswer 10 (zeros 1120 ++ nines 1) (zeros 65 ++ nines 1) (0 ∷ 1 ∷ 9 ∷ []))
+    (checkAnswer (0x01 ∷ 1 ∷ []) (nines 1121) (nines 17) (9 ∷ 9 ∷ 9 ∷ [])
+    ≡ jobAnswer 10 (zeros 1120 ++ nines 1) (zeros 16 ++ nines 1) (0 ∷ 1 ∷ 9 ∷ []))
     × (checkAnswer (0x01 ∷ 1 ∷ 0x10 ∷ 1 ∷ (replicate 132 0 ++ (5 ∷ 0 ∷ 0 ∷ 0 ∷ 0x00 ∷ []))) (nines 1121) (nines 66) (9 ∷ 9 ∷ 9 ∷ [])
-    ≡ jobAnswer 0 (pos 1 ∷ (zeros 33 ++ (pos 5 ∷ (zeros 1085 ++ nines 1)))) (zeros 65 ++ nines 1) (1 ∷ 0 ∷ 9 ∷ []))
-    × (checkAnswer (0x01 ∷ 1 ∷ []) (nines 1119) (nines 66) (9 ∷ 9 ∷ 9 ∷ []) ≡ jobAnswer 1 (nines 1119) (nines 66) (0 ∷ 0 ∷ 9 ∷ []))
-    × (checkAnswer (0x01 ∷ 1 ∷ []) (nines 1120) (nines 65) (9 ∷ []) ≡ jobAnswer 1 (nines 1120) (nines 65) (9 ∷ []))
-unfolding checkAnswer areaOut checkOutcome workAfter workWith resultWords scratchAfterJob jobOutcome run command operation makerPlaces readingPlaces makerAt signedsAt good weight passing zeros
+    ≡ jobAnswer 0 (pos 1 ∷ (zeros 33 ++ (pos 5 ∷ (zeros 1085 ++ nines 1)))) (zeros 16 ++ nines 50) (1 ∷ 0 ∷ 9 ∷ []))
+    × (checkAnswer (0x01 ∷ 1 ∷ []) (nines 1119) (nines 17) (9 ∷ 9 ∷ 9 ∷ []) ≡ jobAnswer 1 (nines 1119) (nines 17) (0 ∷ 0 ∷ 9 ∷ []))
+    × (checkAnswer (0x01 ∷ 1 ∷ []) (nines 1120) (nines 16) (9 ∷ []) ≡ jobAnswer 1 (nines 1120) (nines 16) (9 ∷ []))
+unfolding checkAnswer areaOut checkNeeding workNeeding workWith resultWords scratchAfterJob jobOutcome run command operation makerPlaces readingPlaces makerAt signedsAt good weight passing zeros
 checks = (refl, refl, refl, refl)

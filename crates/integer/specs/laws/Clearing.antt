@@ -6,7 +6,7 @@ use native.Mathlib.Omega.{arith}
 use lib.IntN.{ℤ, pos}
 use lib.ListN.{length, getD, set, length-replicate, getD-replicate, replicate-append-replicate}
 use Rattle.integer.specs.definitions.Lists.{zeros}
-use Rattle.integer.specs.laws.Filling.{Filling, begins, turn, next, whole}
+use Rattle.integer.specs.laws.Filling.{Filling, begins, turn, whole}
 
 pub length-zeros : (n : ℕ) → length (zeros n) ≡ n
 unfolding zeros
@@ -29,9 +29,6 @@ clearing-begins n start h = begins (zeros n) start 0 n (length-zeros n) (omega a
 
 pub clearing-turn : {n : ℕ} {start l : List ℤ} {i : ℕ} → Clearing n start l i → i < n → Clearing n start (set l i (pos 0)) (i + 1)
 clearing-turn {n} {start} {l} {i} f h = turn i (pos 0) (pos 0) f h (omega arith) (sym (at-zeros n i h))
-
-pub clearing-next : {n : ℕ} {start l : List ℤ} {i : ℕ} → Clearing n start l i → getD l i (pos 0) ≡ getD start i (pos 0)
-clearing-next {n} {start} {l} {i} f = next i (pos 0) f (omega arith)
 
 -- a whole list
 pub clearing-ends : {n : ℕ} {start l : List ℤ} {i : ℕ} → Clearing n start l i → n ≤ i → length start ≡ n → l ≡ zeros n

@@ -106,7 +106,7 @@ pub record Storing (work : List ℤ) (i : ℕ) (m : Model) : Type 0 where
   pub inside : i < maxResults
   pub storable : Storable m
 
--- a scratch whose 65 numbers are zero
+-- a scratch whose 16 numbers are zero
 pub record Clear (scratch : List ℤ) : Type 0 where
   pub long : scratchSize ≤ length scratch
   pub clear : scratchAfter scratch ≡ scratch

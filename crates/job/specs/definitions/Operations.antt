@@ -11,9 +11,9 @@ use Rattle.model.specs.definitions.Outcomes.{Outcome, outcome}
 use Rattle.model.specs.definitions.Load.{loadingPlaces}
 use Rattle.model.specs.definitions.Add.{sumModel, additionPlaces, differenceModel, subtractionPlaces}
 use Rattle.model.specs.definitions.Multiply.{productModel, multiplicationPlaces}
-use Rattle.certificate.specs.definitions.Tests.{scratchSize, Certificate, makeCertificate, zeroCertificate}
-use Rattle.certificate.specs.definitions.Quotient.{quotientPlaces, quotientCertificate}
-use Rattle.certificate.specs.definitions.Root.{RootRule, rootTestPlaces, rootCertificate}
+use Rattle.certificate.specs.definitions.Tests.{Certificate, makeCertificate, zeroCertificate}
+use Rattle.certificate.specs.definitions.Quotient.{quotientPlacesBehind, quotientCertificate}
+use Rattle.certificate.specs.definitions.Root.{RootRule, rootPlacesBehind, rootCertificate}
 use Rattle.model.specs.declared.types.Model.{Model}
 use Rattle.job.specs.declared.types.Names.{Names}
 use Rattle.job.specs.declared.types.Names.the-variants.{Nothing, One, Two}
@@ -41,6 +41,7 @@ pub data Making : Type 0 where
   of-one : ℕ → (Model → Given) → Making
   of-two : ℕ → ℕ → (Model → Model → Given) → Making
 
+-- a test in a job has its scratch: the job's first places, areaPlaces, see to that
 abbrev pub makingFor : Maker → Making
 makingFor (load m) = of-none (record { places = loadingPlaces m; certificate = untested m })
 makingFor (add i j) = of-two i j (λ f g. record { places = additionPlaces f g; certificate = untested (sumModel f g) })
@@ -49,9 +50,9 @@ makingFor (subtract i j) =
 makingFor (multiply i j d) =
     of-two i j (λ f g. record { places = multiplicationPlaces d f g; certificate = untested (productModel d f g) })
 makingFor (quotient i j h w) =
-    of-two i j (λ f g. record { places = quotientPlaces scratchSize f g h w; certificate = quotientCertificate f g h w })
+    of-two i j (λ f g. record { places = quotientPlacesBehind f g h w; certificate = quotientCertificate f g h w })
 makingFor (root rule i h w) =
-    of-one i (λ f. record { places = rootTestPlaces rule scratchSize f h w; certificate = rootCertificate rule f h w })
+    of-one i (λ f. record { places = rootPlacesBehind rule f h w; certificate = rootCertificate rule f h w })
 
 -- ---- what follows from a making
 

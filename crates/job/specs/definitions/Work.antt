@@ -48,13 +48,19 @@ areaPlace size len = (not (leb size len), 1)
 abbrev pub areaPlaces : List ℤ → List ℤ → List (Bool × ℕ)
 areaPlaces w s = areaPlace workSize (length w) ∷ areaPlace scratchSize (length s) ∷ []
 
--- the lent areas are long enough
+-- the lent areas are long enough, where `need` numbers of the scratch are needed
+abbrev pub areasFitNeeding : ℕ → List ℤ → List ℤ → Bool
+areasFitNeeding need w s = leb workSize (length w) && leb need (length s)
+
 abbrev pub areasFit : List ℤ → List ℤ → Bool
-areasFit w s = leb workSize (length w) && leb scratchSize (length s)
+areasFit w s = areasFitNeeding scratchSize w s
 
 -- "too short; neither is touched"; "refusal 1 goes with command 0"
-unfoldable pub checkOutcome : List ℕ → List ℤ → List ℤ → JobOutcome (List Model)
-checkOutcome job w s = cond (areasFit w s) (jobOutcome job) (refused 1 0)
+unfoldable pub checkNeeding : ℕ → List ℕ → List ℤ → List ℤ → JobOutcome (List Model)
+checkNeeding need job w s = cond (areasFitNeeding need w s) (jobOutcome job) (refused 1 0)
+
+abbrev pub checkOutcome : List ℕ → List ℤ → List ℤ → JobOutcome (List Model)
+checkOutcome job w s = checkNeeding scratchSize job w s
 
 abbrev pub resultsIn : JobOutcome (List Model) → List Model
 resultsIn (accepted rs) = rs
@@ -62,9 +68,12 @@ resultsIn (refused n k) = []
 
 -- "An accepted job leaves later stretches zero; a refused one leaves all 1,120 zero, save that refusal 1 touches nothing.
 -- Numbers behind stay."
-unfoldable pub workAfter : List ℕ → List ℤ → List ℤ → List ℤ
-workAfter job w s = cond (areasFit w s) (workWith (resultsIn (jobOutcome job)) ++ drop workSize w) w
+unfoldable pub workNeeding : ℕ → List ℕ → List ℤ → List ℤ → List ℤ
+workNeeding need job w s = cond (areasFitNeeding need w s) (workWith (resultsIn (jobOutcome job)) ++ drop workSize w) w
 
--- the scratch after a job: its 65 numbers are zero unless an area was too short
+abbrev pub workAfter : List ℕ → List ℤ → List ℤ → List ℤ
+workAfter job w s = workNeeding scratchSize job w s
+
+-- the scratch after a job: its 16 numbers are zero unless an area was too short
 unfoldable pub scratchAfterJob : List ℤ → List ℤ → List ℤ
 scratchAfterJob w s = cond (areasFit w s) (zeros scratchSize ++ drop scratchSize s) s

@@ -16,7 +16,7 @@ use Rattle.job.specs.definitions.Reading.{shapeAt, maxResults, badKind, 
 use Rattle.model.specs.definitions.Outcomes.{payload}
 use Rattle.job.specs.definitions.Outcomes.{JobOutcome, accepted, refused, counted, refusedCommand, resultCount}
 use Rattle.job.specs.definitions.Run.{jobOutcome}
-use Rattle.job.specs.definitions.Work.{areasFit, checkOutcome}
+use Rattle.job.specs.definitions.Work.{areasFit, checkOutcome, checkNeeding}
 use Rattle.job.specs.definitions.Order.{resultsAfter, Reaches, start, next}
 use Rattle.job.specs.laws.OrderLaws.{reaches-bounds, refused-exactly, accepted-exactly}
 use Rattle.job.specs.laws.CommandLaws.{command-readable}
@@ -50,7 +50,7 @@ module _ (job : List ℕ) where
       record { results = omega arith; number = omega (arith, b .results, reaches-number (m .2)) }
 
   pub answer-small : (w s : List ℤ) → Small (counted (checkOutcome job w s))
-  unfolding checkOutcome
+  unfolding checkNeeding
   answer-small w s = by (areasFit w s) refl
     where
       by : (t : Bool) → areasFit w s ≡ t → Small (counted (checkOutcome job w s))

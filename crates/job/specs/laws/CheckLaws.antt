@@ -1,21 +1,23 @@
--- The order of 01's table at the entry: "lent areas, work area before scratch" come before the job.
+-- The order of 01's table at the entry: "lent areas, work area before scratch" come before the job; and how long the scratch must be.
 use mathlib.Core.Path.{_≡_, refl, ap₂, sym, _∙_}
 use mathlib.Core.Bool.{Bool, true, false, true≢false, false≢true, not, _&&_}
 use mathlib.Core.List.{List, [], _∷_}
 use mathlib.Core.Logic.{inl, inr, _↔_}
-use Prim.Native.Nat.{ℕ}
+use Prim.Native.Nat.{ℕ, _≤_, _<_}
 use native.Mathlib.Omega.{arith}
 use lib.Dec.{leb}
 use lib.IntN.{ℤ}
 use lib.ListN.{length}
+use borrow.Author.Tests.{le-leb, lt-leb}
 use Rattle.model.specs.definitions.Outcomes.{Passed, First, here, later}
+use Rattle.model.specs.definitions.Models.{productSize}
 use Rattle.certificate.specs.definitions.Tests.{scratchSize}
 use Rattle.model.specs.declared.types.Model.{Model}
 use Rattle.job.specs.definitions.Outcomes.{JobOutcome, accepted, refused}
 use Rattle.job.specs.definitions.Run.{jobOutcome}
 use Rattle.job.specs.definitions.Order.{EndsWith, Meets}
 use Rattle.job.specs.laws.OrderLaws.{refused-exactly, accepted-exactly}
-use Rattle.job.specs.definitions.Work.{workSize, areaPlaces, areasFit, checkOutcome}
+use Rattle.job.specs.definitions.Work.{workSize, areaPlaces, areasFit, checkOutcome, workAfter, checkNeeding, workNeeding}
 
 -- two tests that are to hold
 module _ where
@@ -60,11 +62,11 @@ module _ (job : List ℕ) (w s : List ℤ) where
   b = leb scratchSize (length s)
 
   fit : areasFit w s ≡ true → checkOutcome job w s ≡ jobOutcome job
-  unfolding checkOutcome
+  unfolding checkNeeding
   fit e = rw e
 
   short : areasFit w s ≡ false → checkOutcome job w s ≡ refused 1 0
-  unfolding checkOutcome
+  unfolding checkNeeding
   short e = rw e
 
   -- a check is refused with (n, k) exactly if that is the refusal that the job over these areas meets
@@ -89,3 +91,22 @@ module _ (job : List ℕ) (w s : List ℤ) where
       into : (t : Bool) → areasFit w s ≡ t → checkOutcome job w s ≡ accepted rs → Passed (areaPlaces w s) × EndsWith job rs
       into true e h = (areas-fit w s e, accepted-exactly job rs .0 (sym (fit e) ∙ h))
       into false e h = let x : refused 1 0 ≡ accepted rs = sym (short e) ∙ h in let z : _≡_ {A = ℕ} 0 1 = cc x in absurd (omega arith)
+
+-- 02, S-17: "With 16 or more, answers agree with those that 65 gave on the same other input". A job's outcome has no length of a
+-- scratch in it; that its tests give what 65 gave: `quotient-operation-as-65`, `root-operation-as-65` (MakerLaws).
+module _ (job : List ℕ) (w s former : List ℤ) (room : scratchSize ≤ length s) (room′ : productSize ≤ length former) where
+  pub check-as-65 : checkOutcome job w s ≡ checkNeeding productSize job w former
+  unfolding checkNeeding
+  check-as-65 = rw (le-leb scratchSize (length s) room, le-leb productSize (length former) room′)
+
+  pub work-as-65 : workAfter job w s ≡ workNeeding productSize job w former
+  unfolding workNeeding
+  work-as-65 = rw (le-leb scratchSize (length s) room, le-leb productSize (length former) room′)
+
+-- "Number 1 is now given below 16", whatever the work area
+pub check-below-16 : (job : List ℕ) (w s : List ℤ) → length s < scratchSize → checkOutcome job w s ≡ refused 1 0
+check-below-16 job w s e = short job w s (rw (lt-leb scratchSize (length s) e) (and-false (leb workSize (length w))))
+  where
+    and-false : (t : Bool) → (t && false) ≡ false
+    and-false true = refl
+    and-false false = refl

@@ -1,17 +1,19 @@
--- What each maker gives is what the library's operation or test gives for the results that it names.
-use mathlib.Core.Path.{_≡_, refl, ap}
+-- What each maker gives is what the library's operation or test gives for the results that it names; of a test it is what 65 gave.
+use mathlib.Core.Path.{_≡_, refl, _∙_, ap}
 use mathlib.Core.Bool.{Bool, true, false, cond}
 use mathlib.Core.List.{List, [], _∷_}
-use Prim.Native.Nat.{ℕ}
-use Rattle.model.specs.definitions.Models.{zeroModel}
+use Prim.Native.Nat.{ℕ, _≤_}
+use native.Mathlib.Nat.{le-refl}
+use Rattle.model.specs.definitions.Models.{productSize, zeroModel}
 use Rattle.model.specs.definitions.Outcomes.{Outcome, accepted, refused, payload, passing, outcome}
 use Rattle.model.specs.laws.PlaceLaws.{refused-not-accepted, outcome-accepted}
 use Rattle.model.specs.definitions.Load.{loadingPlaces, loading}
 use Rattle.model.specs.definitions.Add.{addition, subtraction}
 use Rattle.model.specs.definitions.Multiply.{multiplication}
 use Rattle.certificate.specs.definitions.Tests.{scratchSize, Certificate, zeroCertificate}
-use Rattle.certificate.specs.definitions.Quotient.{quotientOutcome}
-use Rattle.certificate.specs.definitions.Root.{RootRule, rootOutcome}
+use Rattle.certificate.specs.definitions.Quotient.{quotientOutcome, quotientNeeding}
+use Rattle.certificate.specs.definitions.Root.{RootRule, rootPlaces, rootOutcome, rootNeeding}
+use Rattle.certificate.specs.laws.GroupTheorem.{quotient-as-65, root-as-65}
 use Rattle.model.specs.declared.types.Model.{Model}
 use Rattle.job.specs.definitions.InnerContracts.{untestedOutcome}
 use Rattle.job.specs.definitions.Operations.{load, add, subtract, multiply, quotient, root, untested, resultAt, makerPlaces, operation}
@@ -55,10 +57,20 @@ multiply-operation i j d rs = untested-passing _ _
 
 pub quotient-operation : (i j : ℕ) (h w : Model) (rs : List Model)
     → operation (quotient i j h w) rs ≡ quotientOutcome scratchSize (resultAt rs i) (resultAt rs j) h w
-unfolding operation makerPlaces quotientOutcome
+unfolding operation makerPlaces quotientNeeding passing
 quotient-operation i j h w rs = refl
 
 pub root-operation : (rule : RootRule) (i : ℕ) (h w : Model) (rs : List Model)
     → operation (root rule i h w) rs ≡ rootOutcome rule scratchSize (resultAt rs i) h w
-unfolding operation makerPlaces rootOutcome
+unfolding operation makerPlaces rootNeeding rootPlaces passing
 root-operation rule i h w rs = refl
+
+-- 02, S-17: in a job too a test gives what 65 gave
+pub quotient-operation-as-65 : (i j : ℕ) (h w : Model) (rs : List Model) {former : ℕ} → productSize ≤ former
+    → operation (quotient i j h w) rs ≡ quotientNeeding productSize former (resultAt rs i) (resultAt rs j) h w
+quotient-operation-as-65 i j h w rs room =
+    quotient-operation i j h w rs ∙ quotient-as-65 (resultAt rs i) (resultAt rs j) h w (le-refl scratchSize) room
+
+pub root-operation-as-65 : (rule : RootRule) (i : ℕ) (h w : Model) (rs : List Model) {former : ℕ} → productSize ≤ former
+    → operation (root rule i h w) rs ≡ rootNeeding rule productSize former (resultAt rs i) h w
+root-operation-as-65 rule i h w rs room = root-operation rule i h w rs ∙ root-as-65 rule (resultAt rs i) h w (le-refl scratchSize) room

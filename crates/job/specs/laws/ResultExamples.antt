@@ -25,7 +25,7 @@ use Rattle.job.specs.definitions.Reading.{readingPlaces}
 use Rattle.job.specs.definitions.Outcomes.{JobOutcome, accepted, refused}
 use Rattle.job.specs.definitions.Step.{command}
 use Rattle.job.specs.definitions.Run.{run, jobOutcome}
-use Rattle.job.specs.definitions.Work.{checkOutcome, workWith, resultWords, workAfter, scratchAfterJob}
+use Rattle.job.specs.definitions.Work.{checkOutcome, checkNeeding, workWith, resultWords, workAfter, workNeeding, scratchAfterJob}
 use Rattle.job.specs.laws.ExampleBytes.{block, modelBy, job, loadBytes, one, two}
 
 -- 01: "A job of edition 1, load of constant 4·S with radius 0, root with h = 2·S and w = S/4, end"
@@ -81,20 +81,24 @@ abbrev sevens : ℕ → List ℤ
 sevens n = replicate n (pos 7)
 
 -- an area too short: 1, with command 0, whatever the job
-pub short-areas : (checkOutcome [] (sevens 1119) (sevens 65) ≡ refused 1 0) × (checkOutcome [] (sevens 1120) (sevens 64) ≡ refused 1 0)
-unfolding checkOutcome
-short-areas = (refl, refl)
+pub short-areas :
+    (checkOutcome [] (sevens 1119) (sevens 16) ≡ refused 1 0)
+    × (checkOutcome [] (sevens 1120) (sevens 15) ≡ refused 1 0)
+    × (checkNeeding 65 [] (sevens 1120) (sevens 64) ≡ refused 1 0)
+    × (workNeeding 65 [] (sevens 1120) (sevens 64) ≡ sevens 1120)
+unfolding checkNeeding workNeeding
+short-areas = (refl, refl, refl, refl)
 
 -- its results, and its work area, one number longer than asked: degree, 33 coefficients and radius of both results, zeros, and the
--- number behind; the scratch, one number longer
+-- number behind; a scratch of 66 numbers, of which the last 50 stay
 root-run : jobOutcome rootOfFour ≡ accepted (fourModel ∷ twoModel ∷ [])
 root-run = ap (λ l. getD l 4 (accepted [])) operands-are
 
-pub root-work : workAfter rootOfFour (sevens 1121) (sevens 65)
+pub root-work : workAfter rootOfFour (sevens 1121) (sevens 16)
     ≡ (pos 0 ∷ pos 4194304 ∷ replicate 33 (pos 0)) ++ ((pos 0 ∷ pos 2097152 ∷ replicate 33 (pos 0)) ++ (replicate 1050 (pos 0) ++ (pos 7 ∷ [])))
-unfolding workAfter workWith resultWords zeros
+unfolding workNeeding workWith resultWords zeros
 root-work = rw root-run
 
-pub root-scratch : scratchAfterJob (sevens 1121) (sevens 66) ≡ replicate 65 (pos 0) ++ (pos 7 ∷ [])
+pub root-scratch : scratchAfterJob (sevens 1121) (sevens 66) ≡ replicate 16 (pos 0) ++ sevens 50
 unfolding scratchAfterJob zeros
 root-scratch = refl

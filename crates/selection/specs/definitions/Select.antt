@@ -9,7 +9,8 @@ use lib.IntN.{ℤ}
 use denote.Ref.{RefT, ptr, now}
 use Rattle.model.specs.definitions.Outcomes.{Outcome, accepted, refused, numberOf}
 use Rattle.model.specs.declared.types.Model.{Model}
-use Rattle.selection.specs.definitions.Proposal.{proposedAnswer, proposalRadius}
+use Rattle.certificate.specs.definitions.Tests.{scratchSize}
+use Rattle.selection.specs.definitions.Proposal.{proposedAnswer, radiusNeeding}
 use Rattle.selection.specs.declared.types.Selection.{Selection}
 use Rattle.selection.specs.declared.types.Selection.the-variants.{First, Second, Neither}
 
@@ -31,9 +32,12 @@ tighter (accepted e) (refused m z) = accepted (makeSelected 1 e)
 tighter (refused n z) (accepted d) = accepted (makeSelected 2 d)
 tighter (refused n z) (refused m y) = refused n (makeSelected 0 0)
 
--- "an entry that tests both"
+-- "an entry that tests both", with a scratch of len numbers, of which a test needs `need`
+abbrev pub selectionNeeding : ℕ → ℕ → Model → Model → List ℤ → List ℤ → Outcome Selected
+selectionNeeding need len f g first second = tighter (radiusNeeding need len f g first) (radiusNeeding need len f g second)
+
 abbrev pub selection : ℕ → Model → Model → List ℤ → List ℤ → Outcome Selected
-selection len f g first second = tighter (proposalRadius len f g first) (proposalRadius len f g second)
+selection len f g first second = selectionNeeding scratchSize len f g first second
 
 -- what the code's answer means
 abbrev pub selectionOf : Selection → Outcome Selected

@@ -12,9 +12,9 @@ use Rattle.model.specs.definitions.Outcomes.{Outcome, accepted, refused, passin
 use Rattle.model.specs.definitions.Multiply.{productList}
 use Rattle.model.specs.declared.types.Model.{Model}
 use Rattle.certificate.specs.definitions.Tests.{displacement}
-use Rattle.certificate.specs.definitions.Quotient.{quotientOutcome, quotientContraction, quotientResidual, quotientModel}
-use Rattle.selection.specs.definitions.Proposal.{proposalTest}
-use Rattle.selection.specs.definitions.Select.{Selected, makeSelected, tighter, selection, partNumbers, partPointer}
+use Rattle.certificate.specs.definitions.Quotient.{quotientNeeding, quotientContraction, quotientResidual, quotientModel}
+use Rattle.selection.specs.definitions.Proposal.{proposalNeeding}
+use Rattle.selection.specs.definitions.Select.{selectionNeeding, Selected, makeSelected, tighter, selection, partNumbers, partPointer}
 
 -- a constant, as a candidate's 34 numbers
 abbrev constantCandidate : ℤ → List ℤ
@@ -34,7 +34,7 @@ abbrev w : ℕ
 w = 349525
 
 abbrev pair : List ℤ → List ℤ → Outcome Selected
-pair first second = selection 65 f g first second
+pair first second = selection 16 f g first second
 
 -- Radii of 699051, 699052 and 699050: 2, 3 and 2. A helper 0 does not contract; 134916779 leaves a residual above 2^28, 90177536 with the helper
 -- 600000 a radius above 2^28, which is no pass; a degree −1 is bad; 67 numbers are short.
@@ -52,13 +52,14 @@ Selections =
     × (pair (proposal 90177536 600000) (proposal 699052 w) ≡ accepted (makeSelected 2 3))
     × (pair (negsuc 0 ∷ []) (negsuc 0 ∷ proposal 699051 w) ≡ refused 1 (makeSelected 0 0))
     × (pair (negsuc 0 ∷ proposal 699051 w) [] ≡ refused 2 (makeSelected 0 0))
-    × (selection 65 (constantModel (pos 268435457)) g (take 67 (proposal 699051 w)) (proposal 699051 w) ≡ refused 1 (makeSelected 0 0))
-    × (selection 65 f (constantModel (pos 268435457)) (proposal 699051 w) (take 67 (proposal 699051 w)) ≡ refused 2 (makeSelected 0 0))
-    × (selection 64 f g (proposal 699051 w) (proposal 699051 w) ≡ refused 1 (makeSelected 0 0))
+    × (selection 16 (constantModel (pos 268435457)) g (take 67 (proposal 699051 w)) (proposal 699051 w) ≡ refused 1 (makeSelected 0 0))
+    × (selection 16 f (constantModel (pos 268435457)) (proposal 699051 w) (take 67 (proposal 699051 w)) ≡ refused 2 (makeSelected 0 0))
+    × (selection 15 f g (proposal 699051 w) (proposal 699051 w) ≡ refused 1 (makeSelected 0 0))
+    × (selectionNeeding 65 64 f g (proposal 699051 w) (proposal 699051 w) ≡ refused 1 (makeSelected 0 0))
 
 pub selections : Selections
-unfolding tighter proposalTest quotientOutcome quotientContraction quotientResidual quotientModel displacement productList passing good tooLarge constantModel zeroModel weight addLists subtractLists scaleList addAt addPair addTerm addTerms product upℕ
-selections = (refl, refl, refl, refl, refl, refl, refl, refl, refl, refl, refl, refl, refl, refl, refl)
+unfolding tighter proposalNeeding quotientNeeding quotientContraction quotientResidual quotientModel displacement productList passing good tooLarge constantModel zeroModel weight addLists subtractLists scaleList addAt addPair addTerm addTerms product upℕ
+selections = (refl, refl, refl, refl, refl, refl, refl, refl, refl, refl, refl, refl, refl, refl, refl, refl)
 
 -- h's coefficients behind the degree, in the chosen slice; of none an empty part where the first begins
 abbrev pub Parts : Type 0

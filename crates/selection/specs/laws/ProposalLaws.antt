@@ -1,6 +1,6 @@
--- One proposal: where it is short, where it passes, and what a test that passes says of its coefficients.
+-- One proposal: where it or the scratch is short, where it passes, and what a test that passes says of its coefficients.
 use mathlib.Core.Path.{_≡_, refl, sym, _∙_, ap}
-use mathlib.Core.Bool.{Bool, true, false}
+use mathlib.Core.Bool.{Bool, true, false, cond}
 use mathlib.Core.List.{List}
 use Prim.Native.Nat.{ℕ, _≤_, _<_}
 use native.Mathlib.Omega.{arith}
@@ -8,7 +8,7 @@ use borrow.Author.Tests.{ltb-true, ltb-false, le-ltb, lt-ltb}
 use lib.Dec.{ltb}
 use lib.IntN.{ℤ}
 use lib.ListN.{length, take, drop}
-use Rattle.model.specs.definitions.Models.{candidateModel, makeModel, zeroModel}
+use Rattle.model.specs.definitions.Models.{productSize, candidateModel, makeModel, zeroModel}
 use Rattle.model.specs.definitions.Area.{candidateSize, areaCandidate}
 use Rattle.model.specs.laws.AreaLaws.{candidate-front}
 use Rattle.model.specs.definitions.Outcomes.{accepted, refused, mapOutcome, judged}
@@ -17,23 +17,45 @@ use Rattle.model.specs.laws.OutcomeLaws.{judged-mapped}
 use Rattle.model.specs.definitions.Allowed.{position, AllowsAt}
 use Rattle.model.specs.declared.types.Model.{Model}
 use Rattle.model.specs.declared.types.Candidate.{Candidate}
-use Rattle.certificate.specs.definitions.Tests.{Certificate, zeroCertificate, testOf}
+use Rattle.certificate.specs.definitions.Tests.{scratchSize, Certificate, zeroCertificate, testOf}
 use Rattle.certificate.specs.declared.types.TestOutcome.{TestOutcome}
 use Rattle.certificate.specs.definitions.Quotient.{quotientTest, quotientModel}
+use Rattle.certificate.specs.laws.GroupTheorem.{quotient-as-65, quotient-below-16}
 use Rattle.certificate.specs.laws.QuotientConditions.{quotient-passes}
 use Rattle.certificate.specs.laws.QuotientSound.{quotient-nonzero, quotient-sound}
-use Rattle.selection.specs.definitions.Proposal.{proposalSize, proposedAnswer, proposedHelper, proposalTest, resultRadius, proposalRadius}
+use Rattle.selection.specs.definitions.Proposal.{proposalSize, proposedAnswer, proposedHelper, proposalNeeding, proposalTest, resultRadius, proposalRadius}
 use Rattle.selection.specs.definitions.Promise.{QuotientAllowed}
+
+-- ---- the scratch
+
+module _ (f g : Model) (s : List ℤ) where
+  pub proposal-as-65 : {len former : ℕ} → scratchSize ≤ len → productSize ≤ former → proposalTest len f g s ≡ proposalNeeding productSize former f g s
+  unfolding proposalNeeding
+  proposal-as-65 room room′ =
+      ap (cond (ltb (length s) proposalSize) (refused 1 zeroCertificate))
+      (quotient-as-65 f g (candidateModel (proposedAnswer s)) (candidateModel (proposedHelper s)) room room′)
+
+  -- a proposal that is short is refused with 1 too
+  pub proposal-below-16 : (len : ℕ) → len < scratchSize → proposalTest len f g s ≡ refused 1 zeroCertificate
+  unfolding proposalNeeding
+  proposal-below-16 len e =
+      ap (cond (ltb (length s) proposalSize) (refused 1 zeroCertificate))
+      (quotient-below-16 f g (candidateModel (proposedAnswer s)) (candidateModel (proposedHelper s)) len e)
+      ∙ either (ltb (length s) proposalSize)
+    where
+      either : (t : Bool) → cond t (refused 1 zeroCertificate) (refused 1 zeroCertificate) ≡ refused 1 zeroCertificate
+      either true = refl
+      either false = refl
 
 -- ---- short and long
 
 module _ (len : ℕ) (f g : Model) (s : List ℤ) where
   pub proposal-short : length s < proposalSize → proposalTest len f g s ≡ refused 1 zeroCertificate
-  unfolding proposalTest
+  unfolding proposalNeeding
   proposal-short e = rw (lt-ltb (length s) proposalSize e)
 
   pub proposal-long : proposalSize ≤ length s → proposalTest len f g s ≡ quotientTest len f g (proposedAnswer s) (proposedHelper s)
-  unfolding proposalTest
+  unfolding proposalNeeding
   proposal-long e = rw (le-ltb (length s) proposalSize e)
 
   pub short-radius : length s < proposalSize → proposalRadius len f g s ≡ refused 1 0

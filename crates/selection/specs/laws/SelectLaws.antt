@@ -1,16 +1,22 @@
--- What a selection tells of the two proposals, and what the lent numbers mean.
-use mathlib.Core.Path.{_≡_, refl, sym, _∙_, ap}
+-- What a selection tells of the two proposals, what the lent numbers mean, and how long the scratch must be.
+use mathlib.Core.Path.{_≡_, refl, sym, _∙_, ap, ap₂}
 use mathlib.Core.Logic.{_⊎_, inl, inr}
 use mathlib.Core.Bool.{Bool, true, false, cond}
+use mathlib.Core.List.{List}
 use Prim.Native.Nat.{ℕ, _≤_, _<_}
 use native.Mathlib.Omega.{arith}
 use borrow.Author.Tests.{ltb-true, ltb-false, le-ltb, lt-ltb, eqb-true}
 use lib.Dec.{eqb, ltb}
-use Rattle.model.specs.definitions.Outcomes.{Outcome, accepted, refused, number, payload}
+use lib.IntN.{ℤ}
+use Rattle.model.specs.definitions.Models.{productSize, zeroModel}
+use Rattle.model.specs.definitions.Outcomes.{Outcome, accepted, refused, number, payload, mapOutcome}
 use Rattle.model.specs.laws.PlaceLaws.{refused-not-accepted}
 use Rattle.model.specs.laws.OutcomeLaws.{judged-injective, numberOf-injective}
-use Rattle.selection.specs.definitions.Proposal.{proposalOf}
-use Rattle.selection.specs.definitions.Select.{Selected, makeSelected, tighter, selectionOf, selectedOf}
+use Rattle.model.specs.declared.types.Model.{Model}
+use Rattle.certificate.specs.definitions.Tests.{scratchSize}
+use Rattle.selection.specs.definitions.Proposal.{resultRadius, proposalOf}
+use Rattle.selection.specs.definitions.Select.{Selected, makeSelected, tighter, selection, selectionNeeding, selectionOf, selectedOf}
+use Rattle.selection.specs.laws.ProposalLaws.{proposal-as-65, proposal-below-16}
 use Rattle.selection.specs.declared.types.ProposalOutcome.{ProposalOutcome}
 use Rattle.selection.specs.declared.types.Selection.{Selection}
 use Rattle.selection.specs.declared.types.Selection.the-variants.{First, Second, Neither}
@@ -115,3 +121,18 @@ selectionOf-injective (Second e) (Neither v) h = absurd (refused-not-accepted (s
 selectionOf-injective (Neither v) (First d) h = absurd (refused-not-accepted h)
 selectionOf-injective (Neither v) (Second d) h = absurd (refused-not-accepted h)
 selectionOf-injective (Neither v) (Neither u) h = ap Neither (numberOf-injective v u (ap number h))
+
+-- ---- the scratch
+
+module _ (f g : Model) (first second : List ℤ) where
+  -- 02, S-17: "With 16 or more, answers agree with those that 65 gave on the same other input"
+  pub selection-as-65 : {len former : ℕ} → scratchSize ≤ len → productSize ≤ former
+      → selection len f g first second ≡ selectionNeeding productSize former f g first second
+  selection-as-65 room room′ =
+      ap₂ tighter (ap (mapOutcome resultRadius) (proposal-as-65 f g first room room′)) (ap (mapOutcome resultRadius) (proposal-as-65 f g second room room′))
+
+  -- "Number 1 is now given below 16"
+  pub selection-below-16 : (len : ℕ) → len < scratchSize → selection len f g first second ≡ refused 1 (makeSelected 0 0)
+  unfolding tighter zeroModel
+  selection-below-16 len e =
+      ap₂ tighter (ap (mapOutcome resultRadius) (proposal-below-16 f g first len e)) (ap (mapOutcome resultRadius) (proposal-below-16 f g second len e))

@@ -4,23 +4,35 @@ use mathlib.Core.Path.{_∙_, ap}
 use Prim.Native.Nat.{ℕ, _^_}
 use native.Mathlib.Omega.{arith}
 use Rattle.integer.specs.definitions.Rounding.{upℕ}
-use Rattle.model.specs.definitions.Multiply.{productList}
+use Rattle.model.specs.definitions.Models.{candidateModel}
+use Rattle.model.specs.laws.ModelLaws.{good-is}
 use Rattle.certificate.specs.definitions.Root.{rootContraction}
-use Rattle.certificate.proofs.Ranges.{factors}
+use Rattle.certificate.proofs.Ranges.{factors, of-constant, constant}
 use Rattle.certificate.proofs.numbers.root_contraction.Statement.{statement}
 use Rattle.certificate.proofs.numbers.root_contraction.Tie as tie
 
-constant-residual-requires : tie.Need-constant-residual-requires
-constant-residual-requires c κs =
-    let r = c .before .before .before .before .before .pre in
-    ((r .lent, factors r (search needs) (search needs)), omega arith)
+terms-requires : tie.Need-terms-requires
+terms-requires c κs = let s = c .before .before .before in good-is (candidateModel (s .args .t3)) (s .pre .first-good) .degree-fits
 
+terms-requires-2 : tie.Need-terms-requires-2
+terms-requires-2 c κs = let s = c .before .before .before .before .before .before in good-is (candidateModel (s .args .t2)) (s .pre .second-good) .degree-fits
+
+residual-requires : tie.Need-residual-requires
+residual-requires c κs =
+    let r = c .before .before .before .before .before .before .before .before .pre in
+    (r .room, factors r (c .before .before .before .before .terms .ensures) (c .before .terms2 .ensures) (search needs) (search needs), constant (2 ^ 19) (omega arith))
+
+-- S² is 2S·(S/2)
 returns : tie.Need-returns
-unfolding rootContraction productList
+unfolding rootContraction
 returns c =
-    let d = c .before .before .constant-residual in
-    (c .up-unsigned .ensures ∙ ap (λ (n : ℕ). upℕ n (2 ^ 20)) (d .ensures .0), d .ensures .1)
+    let d = c .before .before in
+    let x = d .before .before .before .before .before .terms .ensures in
+    let y = d .before .before .terms2 .ensures in
+    let s = d .before .before .before .before .before .before .before .before .before in
+    c .up-unsigned .ensures ∙ ap (λ (n : ℕ). upℕ n (2 ^ 20)) (of-constant (s .pre) x y (2 ^ 19) (omega arith) (d .residual .ensures) .0)
 
 pub root-contraction-spec : {M : Type 1} → statement M
 root-contraction-spec =
-    tie.close (tie.spec constant-residual-requires (λ c κs. search needs) (λ c. search needs) returns)
+    tie.close (tie.spec
+    terms-requires terms-requires-2 (λ c. search needs) residual-requires (λ c κs. search needs) (λ c. search needs) returns)

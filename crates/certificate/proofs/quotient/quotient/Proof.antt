@@ -1,14 +1,11 @@
 -- `quotient::quotient` meets its contract.
 use borrow.Author.Needs.{needs}
-use mathlib.Core.Path.{_≡_, sym, _∙_}
+use mathlib.Core.Path.{sym, _∙_}
 use native.Mathlib.Omega.{arith}
-use lib.ListN.{length, take}
-use lib.Seq.{length-take-le}
+use lib.ListN.{length}
 use Rattle.model.specs.definitions.Models.{candidateModel}
-use Rattle.certificate.specs.definitions.Tests.{scratchSize}
-use Rattle.certificate.specs.laws.Stages.{quotient-room, scratch-short}
+use Rattle.certificate.specs.laws.Stages.{quotient-room, scratch-short, scratch-again, scratch-first}
 use Rattle.certificate.specs.laws.QuotientStages.{quotient-short}
-use Rattle.certificate.proofs.Formed.{scratch-after}
 use Rattle.certificate.proofs.quotient.quotient.Statement.{statement}
 use Rattle.certificate.proofs.quotient.quotient.Tie as tie
 
@@ -19,18 +16,17 @@ returns c =
       sym (scratch-short (a .scratch .now) (omega arith)),
     )
 
-first-part : (c : tie.Else1) → length (take scratchSize (c .before .args .scratch .now)) ≡ scratchSize
-first-part c = length-take-le scratchSize (c .before .args .scratch .now) (omega arith)
-
 returns-2 : tie.Need-returns-2
 returns-2 c =
-    let a = c .before .before .before .before .args in (
-      c .before .test-in .ensures .0 ∙ sym (quotient-room (length (a .scratch .now)) (a .f) (a .g) (candidateModel (a .h)) (candidateModel (a .w)) (omega arith)),
-      scratch-after (a .scratch .now) (omega arith) (c .before .test-in .ensures .1),
+    let d = c .before .before .before .before in
+    let a = d .before .before .before .args in
+    let z = d .test-in in (
+      z .ensures ∙ sym (quotient-room (length (a .scratch .now)) (a .f) (a .g) (candidateModel (a .h)) (candidateModel (a .w)) (omega arith)),
+      c .before .clear-scratch .ensures ∙ scratch-again (a .scratch .now) (z .last .0) (omega arith) (z .kept .0 ∙ scratch-first (a .scratch .now) (omega arith)),
     )
 
 pub quotient-spec : {M : Type 1} → statement M
 quotient-spec =
     tie.close (tie.spec
-    (λ c κs. search needs) returns (λ c. search needs) (λ c. sym (first-part (c .before))) (λ c κs. first-part (c .before))
-    (λ c. search needs) returns-2)
+    (λ c κs. search needs) returns (λ c. search needs) (λ c. sym (scratch-first (c .before .before .args .scratch .now) (omega arith))) (λ c κs. omega (arith, scratch-first (c .before .before .args .scratch .now) (omega arith)))
+    (λ c κs. search needs) (λ c. search needs) returns-2)

@@ -26,30 +26,26 @@ returns c =
     let d = c .before .before in
     let of-n = d .before .before .before .quotient-residual in
     let of-m = d .before .before .before .before .before .before .before .quotient-contraction in
-    let s = d .before .before .before .before .before .before .before .before .before in (
-      c .formed .ensures
-          ∙ sym (quotient-formed (s .pre .0) (of-m .result) (of-m .ensures .0) (omega arith) (of-n .result) (of-n .ensures .0) (omega arith)
-          (s .args .w-weight) (d .displacement .result) (c .before .quotient-radius .result)
-          (s .pre .1 .1) (d .displacement .ensures) (c .before .quotient-radius .ensures)),
-      of-n .ensures .1,
-    )
+    let s = d .before .before .before .before .before .before .before .before .before in
+    c .formed .ensures
+    ∙ sym (quotient-formed (s .pre .0) (of-m .result) (of-m .ensures) (omega arith) (of-n .result) (of-n .ensures) (omega arith)
+    (s .args .w-weight) (d .displacement .result) (c .before .quotient-radius .result)
+    (s .pre .1 .1) (d .displacement .ensures) (c .before .quotient-radius .ensures))
 
 returns-2 : tie.Need-returns-2
 returns-2 c =
     let of-n = c .before .before .before .quotient-residual in
     let of-m = c .before .before .before .before .before .before .before .quotient-contraction in
     let s = c .before .before .before .before .before .before .before .before .before in
-    let refusal : testOf (c .refused .result) ≡ refusedTest 6 = c .refused .ensures in (
-      refusal ∙ sym (quotient-large-residual (s .pre .0) (of-m .result) (of-m .ensures .0) (omega arith) (of-n .result) (of-n .ensures .0) (omega arith)),
-      of-n .ensures .1,
-    )
+    let refusal : testOf (c .refused .result) ≡ refusedTest 6 = c .refused .ensures in
+    refusal ∙ sym (quotient-large-residual (s .pre .0) (of-m .result) (of-m .ensures) (omega arith) (of-n .result) (of-n .ensures) (omega arith))
 
 returns-3 : tie.Need-returns-3
 returns-3 c =
     let of-m = c .before .before .before .quotient-contraction in
     let s = c .before .before .before .before .before in
     let refusal : testOf (c .refused2 .result) ≡ refusedTest 5 = c .refused2 .ensures in
-    (refusal ∙ sym (quotient-not-contracting (s .pre .0) (of-m .result) (of-m .ensures .0) (omega arith)), of-m .ensures .1)
+    refusal ∙ sym (quotient-not-contracting (s .pre .0) (of-m .result) (of-m .ensures) (omega arith))
 
 pub test-good-spec : {M : Type 1} → statement M
 test-good-spec =

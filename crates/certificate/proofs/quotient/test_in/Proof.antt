@@ -4,14 +4,9 @@ use mathlib.Core.Path.{_≡_, sym, _∙_}
 use mathlib.Core.Logic.{⊎-elim}
 use mathlib.Core.Bool.{false, _&&_}
 use Rattle.model.specs.definitions.Models.{good, candidateModel}
-use Rattle.certificate.specs.definitions.InnerContracts.{Lent}
 use Rattle.certificate.specs.laws.QuotientStages.{quotient-bad}
-use Rattle.certificate.proofs.Formed.{lent-scratch}
 use Rattle.certificate.proofs.quotient.test_in.Statement.{statement}
 use Rattle.certificate.proofs.quotient.test_in.Tie as tie
-
-is-lent : (c : tie.After-clear) → Lent (c .clear .last .0)
-is-lent c = lent-scratch (c .before .before .args .part .now) (c .before .before .pre) (c .clear .ensures)
 
 test-good-requires : tie.Need-test-good-requires
 test-good-requires c κs =
@@ -20,7 +15,7 @@ test-good-requires c κs =
     let of-g = of-h .before .before in
     let of-f = of-g .before .before in (
       record {
-        lent = is-lent (of-f .before .before);
+        room = of-f .before .pre;
         good-f = sym (of-f .measure .ensures .0) ∙ of-g .before .if1 .taken;
         good-g = sym (of-g .measure2 .ensures .0) ∙ of-h .before .if2 .taken;
         good-h = sym (of-h .measure-candidate .ensures .0) ∙ of-w .before .if3 .taken;
@@ -30,7 +25,7 @@ test-good-requires c κs =
     )
 
 -- one of the four is bad
-bad : (c : tie.Joined1) → let a = c .before .before .before .before .before .args in
+bad : (c : tie.Joined1) → let a = c .before .before .args in
     (good (a .f) && (good (a .g) && (good (candidateModel (a .h)) && good (candidateModel (a .w))))) ≡ false
 bad c =
     let of-f = sym (c .before .measure .ensures .0) in
@@ -46,13 +41,11 @@ bad c =
 
 returns-2 : tie.Need-returns-2
 returns-2 c =
-    let s = c .before .before .before .before .before .before in (
-      c .refused .ensures ∙ sym (quotient-bad (s .args .f) (s .args .g) (candidateModel (s .args .h)) (candidateModel (s .args .w)) (bad (c .before))),
-      is-lent (c .before .before .before .before),
-    )
+    let a = c .before .before .before .args in
+    c .refused .ensures ∙ sym (quotient-bad (a .f) (a .g) (candidateModel (a .h)) (candidateModel (a .w)) (bad (c .before)))
 
 pub test-in-spec : {M : Type 1} → statement M
 test-in-spec =
     tie.close (tie.spec
-    (λ c κs. search needs) (λ c κs. search needs) (λ c κs. search needs) (λ c κs. search needs) (λ c κs. search needs)
-    test-good-requires (λ c. search needs) (λ c. search needs) (λ c κs. search needs) (λ c. search needs) returns-2)
+    (λ c κs. search needs) (λ c κs. search needs) (λ c κs. search needs) (λ c κs. search needs) test-good-requires (λ c. search needs)
+    (λ c. search needs) (λ c κs. search needs) returns-2)

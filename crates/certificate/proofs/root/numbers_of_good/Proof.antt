@@ -27,8 +27,7 @@ positive c = sym (sign-is (c .before)) ∙ c .if1 .left
 
 returns : tie.Need-returns
 returns c =
-    let p = c .before .before .before .before .pre .0 in
-    (sym (numbers-helper p (sym (sign-is (c .before)) ∙ c .if1 .taken)), p .lent)
+    sym (numbers-helper (c .before .before .before .before .pre .0) (sym (sign-is (c .before)) ∙ c .if1 .taken))
 
 displacement-requires : tie.Need-displacement-requires
 displacement-requires c κs =
@@ -42,11 +41,9 @@ returns-2 c =
     let at-m = c .before .before .before .before .before .before .before in
     let of-m = at-m .root-contraction in
     let q = at-m .before .before in
-    let s = q .before .before .before .before in (
-      sym (numbers-reached (s .pre .0) (positive q) (of-m .result) (of-m .ensures .0) contracting (of-n .result) (of-n .ensures .0) (omega arith)
-          (s .args .weight) (c .displacement .result) (s .pre .1) (c .displacement .ensures)),
-      of-n .ensures .1,
-    )
+    let s = q .before .before .before .before in
+    sym (numbers-reached (s .pre .0) (positive q) (of-m .result) (of-m .ensures) contracting (of-n .result) (of-n .ensures) (omega arith)
+    (s .args .weight) (c .displacement .result) (s .pre .1) (c .displacement .ensures))
 
 returns-3 : tie.Need-returns-3
 returns-3 c =
@@ -54,17 +51,15 @@ returns-3 c =
     let at-m = c .before .before .before .before .before .before in
     let of-m = at-m .root-contraction in
     let q = at-m .before .before in
-    let s = q .before .before .before .before in (
-      sym (numbers-large-residual (s .pre .0) (positive q) (of-m .result) (of-m .ensures .0) (omega arith) (of-n .result) (of-n .ensures .0) (omega arith)),
-      of-n .ensures .1,
-    )
+    let s = q .before .before .before .before in
+    sym (numbers-large-residual (s .pre .0) (positive q) (of-m .result) (of-m .ensures) (omega arith) (of-n .result) (of-n .ensures) (omega arith))
 
 returns-4 : tie.Need-returns-4
 returns-4 c =
     let of-m = c .before .before .root-contraction in
     let q = c .before .before .before .before in
     let s = q .before .before .before .before in
-    (sym (numbers-not-contracting (s .pre .0) (positive q) (of-m .result) (of-m .ensures .0) (omega arith)), of-m .ensures .1)
+    sym (numbers-not-contracting (s .pre .0) (positive q) (of-m .result) (of-m .ensures) (omega arith))
 
 pub numbers-of-good-spec : {M : Type 1} → statement M
 numbers-of-good-spec =

@@ -1,0 +1,4 @@
+pub mod PairWalks
+pub mod ConvolutionWalk
+pub mod CorrelationWalk
+pub mod PlaceSums
