@@ -1,0 +1,9 @@
+pub mod ValueLaws
+pub mod RoundsLaws
+pub mod UnitsLaws
+pub mod BitsLaws
+pub mod ValueExact
+pub mod MakerLaws
+pub mod ConstantProduct
+pub mod PowerLaws
+pub mod ExactCase
