@@ -4,6 +4,3 @@ pub mod UnitsLaws
 pub mod BitsLaws
 pub mod ValueExact
 pub mod MakerLaws
-pub mod ConstantProduct
-pub mod PowerLaws
-pub mod ExactCase

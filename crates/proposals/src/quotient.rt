@@ -31,22 +31,24 @@ pub fn make_quotient(f: Model, g: Model) -> QuotientOutcome
     let ending = made.ending;
     let values = round.coefficients;
     let quotient = multiply(values_of(dividend), values);
-    let h = to_units(quotient);
-    let of_h = h.verdict;
-    match of_h {
+    let first = to_units(quotient);
+    let of_first = first.verdict;
+    let h = first.candidate;
+    match of_first {
         Verdict::Refused(refusal) => QuotientOutcome::refused(refusal),
         Verdict::Accepted => {
-            let w = to_units(values);
-            let of_w = w.verdict;
-            match of_w {
+            let second = to_units(values);
+            let of_second = second.verdict;
+            let w = second.candidate;
+            match of_second {
                 Verdict::Refused(refusal) => QuotientOutcome::refused(refusal),
                 Verdict::Accepted => QuotientOutcome {
                     verdict: Verdict::Accepted,
                     ending,
                     quotient,
                     round,
-                    h: h.candidate,
-                    w: w.candidate,
+                    h,
+                    w,
                 },
             }
         }

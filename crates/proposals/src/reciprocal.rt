@@ -57,13 +57,14 @@ pub fn make_reciprocal(g: Model) -> ReciprocalOutcome
     let values = round.coefficients;
     let converted = to_units(values);
     let verdict = converted.verdict;
+    let w = converted.candidate;
     match verdict {
         Verdict::Refused(refusal) => ReciprocalOutcome::refused(refusal),
         Verdict::Accepted => ReciprocalOutcome {
             verdict: Verdict::Accepted,
             ending,
             round,
-            w: converted.candidate,
+            w,
         },
     }
 }

@@ -51,6 +51,18 @@ module _ {A : Type 0} (_⊕_ : A → A → A) where
     length-addTermsBy w i [] b = refl
     length-addTermsBy w i (y ∷ a) b = length-addTermsBy (addTermBy _⊕_ _⊗_ w y i 0 b) (suc i) a b ∙ length-addTermBy w y i 0 b
 
+    -- the list does not depend on the count
+    term-list : (v w : Walk A) (y : A) (i j : ℕ) (b : List A) → v .0 ≡ w .0 → addTermBy _⊕_ _⊗_ v y i j b .0 ≡ addTermBy _⊕_ _⊗_ w y i j b .0
+    unfolding addTermBy
+    term-list v w y i j [] h = h
+    term-list v w y i j (z ∷ b) h =
+        term-list (addPairBy _⊕_ (v .0) i j (y ⊗ z), v .1 + 1) (addPairBy _⊕_ (w .0) i j (y ⊗ z), w .1 + 1) y i (suc j) b (ap (λ c. addPairBy _⊕_ c i j (y ⊗ z)) h)
+
+    pub terms-list : (v w : Walk A) (i : ℕ) (a b : List A) → v .0 ≡ w .0 → addTermsBy _⊕_ _⊗_ v i a b .0 ≡ addTermsBy _⊕_ _⊗_ w i a b .0
+    unfolding addTermsBy
+    terms-list v w i [] b h = h
+    terms-list v w i (y ∷ a) b h = terms-list (addTermBy _⊕_ _⊗_ v y i 0 b) (addTermBy _⊕_ _⊗_ w y i 0 b) (suc i) a b (term-list v w y i 0 b h)
+
     pub terms-by-step : (w : Walk A) (i : ℕ) (a b : List A) (d : A) → i < length a
         → addTermsBy _⊕_ _⊗_ w i (drop i a) b ≡ addTermsBy _⊕_ _⊗_ (addTermBy _⊕_ _⊗_ w (getD a i d) i 0 b) (i + 1) (drop (i + 1) a) b
     unfolding addTermsBy

@@ -94,12 +94,13 @@ changeIn (GivenUp d) = d
 pub rounds-change : (n : ℕ) (g : List Float) (r : Round) → changeIn (rounds n g r .ending) ≡ rounds n g r .round .change
 unfolding rounds
 rounds-change zero g r = refl
-rounds-change (suc n) g r = go (finiteRound s) (le (s .change) settledLimit)
+rounds-change (suc n) g r = go (finiteRound s) (le (s .change) settledLimit) (rounds-change n g (nextRound g r))
   where
     s : Round
     s = nextRound g r
 
-    go : (b c : Bool) → let m = cond b (cond c (madeOf true (Settled (s .change)) s) (rounds n g s)) (madeOf false (GivenUp (s .change)) s) in changeIn (m .ending) ≡ m .round .change
-    go true true = refl
-    go true false = rounds-change n g s
-    go false c = refl
+    go : (b c : Bool) → changeIn (rounds n g s .ending) ≡ rounds n g s .round .change
+        → let m = cond b (cond c (madeOf true (Settled (s .change)) s) (rounds n g s)) (madeOf false (GivenUp (s .change)) s) in changeIn (m .ending) ≡ m .round .change
+    go true true h = refl
+    go true false h = h
+    go false c h = refl

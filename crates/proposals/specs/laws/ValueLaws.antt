@@ -1,4 +1,4 @@
--- Constants as code has them, by their bits; the test for finite values; tests that code turns round.
+-- Constants as code has them, by their bits; the test for finite values.
 use mathlib.Core.Path.{_≡_, refl, sym}
 use mathlib.Core.Bool.{Bool, true, false, not, _&&_}
 use mathlib.Core.List.{List, [], _∷_}
@@ -71,13 +71,3 @@ unfolding isNan
 no-nan nan h = absurd h
 no-nan (inf s) h = absurd h
 no-nan (fin s m e) h = tt
-
--- ---- a test that code turns round
-
-pub not-true : (b : Bool) → not b ≡ true → b ≡ false
-not-true true e = sym e
-not-true false e = refl
-
-pub not-false : (b : Bool) → not b ≡ false → b ≡ true
-not-false true e = refl
-not-false false e = sym e

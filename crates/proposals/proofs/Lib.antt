@@ -1,0 +1,4 @@
+pub mod Mapping
+pub mod Reversal
+pub mod Tests
+pub mod Passes
