@@ -9,9 +9,12 @@ use lib.IntN.{ℤ}
 use lib.Ieee.{Float, nan, binary64, div, eq}
 use Rattle.chebyshev.specs.definitions.Coefficients.{weight}
 use Rattle.model.specs.definitions.Models.{good, maxWeight, badPlace}
-use Rattle.model.specs.definitions.Outcomes.{Outcome, accepted, refused, passing}
+use Rattle.model.specs.definitions.Outcomes.{Outcome, accepted, refused, passing, numberOf, judged}
 use Rattle.model.specs.declared.types.Model.{Model}
 use Rattle.model.specs.declared.types.Candidate.{Candidate}
+use Rattle.model.specs.declared.types.Refusal.{Refusal}
+use Rattle.model.specs.declared.types.Verdict.{Verdict}
+use Rattle.model.specs.declared.types.Verdict.the-variants.{Accepted, Refused}
 use Rattle.proposals.specs.definitions.Values.{nought, one, allFinite}
 use Rattle.proposals.specs.definitions.Product.{product}
 use Rattle.proposals.specs.definitions.Rounds.{rounds, roundOf, madeOf}
@@ -66,6 +69,13 @@ made-change g = go (eq (firstValue g) nought)
 abbrev pub thenUnits : {A : Type 0} → (Candidate → Outcome A) → A → Outcome Candidate → Outcome A
 thenUnits k z (accepted c) = k c
 thenUnits k z (refused n c) = refused n z
+
+module _ {A : Type 0} (k : Candidate → Outcome A) (z : A) (v : Verdict) (c : Candidate) (o : Outcome Candidate) (e : judged v c ≡ o) where
+  pub units-go-on : v ≡ Accepted → k c ≡ thenUnits k z o
+  units-go-on a = ap (λ u. thenUnits k z (judged u c)) (sym a) ∙ ap (thenUnits k z) e
+
+  pub units-stop : (r : Refusal) → v ≡ Refused r → refused (numberOf r) z ≡ thenUnits k z o
+  units-stop r a = ap (λ u. thenUnits k z (judged u c)) (sym a) ∙ ap (thenUnits k z) e
 
 -- a list that is finite
 finite-units : {A : Type 0} (k : Candidate → Outcome A) (z : A) (v : List Float) → allFinite v ≡ true
