@@ -5,4 +5,5 @@ pub mod certificates;
 pub mod conversions;
 pub mod jobs;
 pub mod operations;
+pub mod proposals;
 pub mod selections;

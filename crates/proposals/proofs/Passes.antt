@@ -17,10 +17,10 @@ abbrev from : List Float → Float → ℕ → List Float → List Float
 from = addFromBy (add binary64) (mul binary64)
 
 -- the part from p to the end
-part-rest : (c : List Float) (p : ℕ) → midOf p (length c - p) c ≡ drop p c
+pub part-rest : (c : List Float) (p : ℕ) → midOf p (length c - p) c ≡ drop p c
 part-rest c p = take-all (length c - p) (drop p c) (rw length-drop (omega arith))
 
-put-rest : (c d : List Float) (p : ℕ) → putMid p (length c - p) c d ≡ take p c ++ d
+pub put-rest : (c d : List Float) (p : ℕ) → putMid p (length c - p) c d ≡ take p c ++ d
 put-rest c d p =
     ap (λ (l : List Float). take p c ++ (d ++ l)) (drop-of-length-le (drop p c) {i = length c - p} (rw length-drop (omega arith)))
     ∙ ap (λ (l : List Float). take p c ++ l) (append-nil d)

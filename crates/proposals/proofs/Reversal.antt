@@ -4,13 +4,9 @@ use mathlib.Core.List.{List, [], _∷_, _++_, reverse, reverse-cons, reverse-app
 use Prim.Native.Nat.{ℕ, zero, suc, _+_, _-_, _<_, _≤_}
 use native.Mathlib.Omega.{arith}
 use lib.ListN.{length, getD, take, drop, length-reverse, length-drop, take-append-drop, List·getD-append}
+use lib.Seq.{drop-append-seam}
 
 module _ {A : Type 0} where
-  -- behind the first |a| elements of a ++ b stands b
-  drop-append : (a b : List A) → drop (length a) (a ++ b) ≡ b
-  drop-append [] b = refl
-  drop-append (x ∷ a) b = drop-append a b
-
   -- the first n elements reversed are the last n of all reversed
   pub reverse-take : (n k : ℕ) (b : List A) → k + n ≡ length b → drop k (reverse b) ≡ reverse (take n b)
   reverse-take n k b h =
@@ -18,7 +14,7 @@ module _ {A : Type 0} where
       ap (λ l. drop k (reverse l)) (sym (take-append-drop n b))
       ∙ ap (drop k) (reverse-append (take n b) (drop n b))
       ∙ ap (λ (m : ℕ). drop m (reverse (drop n b) ++ reverse (take n b))) e
-      ∙ drop-append (reverse (drop n b)) (reverse (take n b))
+      ∙ drop-append-seam (reverse (drop n b)) (reverse (take n b))
 
   getD-behind : (a : List A) (y : A) (b : List A) (d : A) → getD (a ++ y ∷ b) (length a) d ≡ y
   getD-behind [] y b d = refl

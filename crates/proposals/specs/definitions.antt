@@ -5,3 +5,4 @@ pub mod Units
 pub mod Reciprocal
 pub mod Quotient
 pub mod InnerContracts
+pub mod Areas

@@ -6,6 +6,7 @@ use mathlib.Core.List.{List, [], _∷_, _++_}
 use Prim.Native.Nat.{ℕ, _-_}
 use lib.IntN.{ℤ, pos, negsuc}
 use lib.ListN.{length, drop, replicate}
+use Rattle.model.specs.definitions.Area.{areaOut}
 use Rattle.integer.specs.definitions.Lists.{zeros}
 use Rattle.integer.specs.definitions.Rounding.{floor, up, upℕ, near}
 use Rattle.chebyshev.specs.definitions.Coefficients.{weight, addLists, subtractLists, scaleList, coefficientSum}
@@ -31,7 +32,6 @@ use Rattle.job.specs.definitions.Reading.{readingPlaces}
 use Rattle.job.specs.definitions.Step.{command}
 use Rattle.job.specs.definitions.Run.{run, jobOutcome}
 use Rattle.job.specs.definitions.Work.{checkNeeding, workNeeding, workWith, resultWords, scratchAfterJob}
-use Rattle.ferruntzo.specs.definitions.Areas.{areaOut}
 use Rattle.ferruntzo.specs.definitions.Operations.{operationAnswer, outcomeIn, binaryAnswer, evaluationAnswer, boundsIn, evaluateAnswer}
 use Rattle.ferruntzo.specs.definitions.Certificates.{testAnswer, testIn, rootAnswer, testFits}
 use Rattle.ferruntzo.specs.definitions.Jobs.{jobAnswer, checkAnswer}
