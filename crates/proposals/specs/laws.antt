@@ -4,3 +4,7 @@ pub mod UnitsLaws
 pub mod BitsLaws
 pub mod ValueExact
 pub mod MakerLaws
+pub mod ConstantProduct
+pub mod ValueOperations
+pub mod PowerLaws
+pub mod ExactCase
