@@ -8,3 +8,7 @@ pub mod ConstantProduct
 pub mod ValueOperations
 pub mod PowerLaws
 pub mod ExactCase
+pub mod FiniteOperations
+pub mod FiniteWalk
+pub mod FiniteChange
+pub mod FiniteLaws

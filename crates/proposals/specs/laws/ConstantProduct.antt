@@ -64,10 +64,11 @@ still-pair : (c : List Float) (i j : ℕ) (v : Float) → Still c → v ≡ noug
 unfolding addPairBy
 still-pair c i j v s e = rw (e, still-at c (i + j) s) (still-at c (distance i j) s)
 
-abbrev walkTerm : Walk Float → Float → ℕ → ℕ → List Float → Walk Float
+-- the walk of pairs, in f64
+abbrev pub walkTerm : Walk Float → Float → ℕ → ℕ → List Float → Walk Float
 walkTerm = addTermBy (add binary64) (mul binary64)
 
-abbrev walkTerms : Walk Float → ℕ → List Float → List Float → Walk Float
+abbrev pub walkTerms : Walk Float → ℕ → List Float → List Float → Walk Float
 walkTerms = addTermsBy (add binary64) (mul binary64)
 
 -- the pairs of x with zeros

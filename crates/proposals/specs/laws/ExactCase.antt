@@ -3,7 +3,7 @@ use borrow.Author.Tests.{le-leb, lt-ltb, le-ltb}
 use mathlib.Core.Path.{_≡_, refl, sym, _∙_, ap}
 use mathlib.Core.Bool.{true, false}
 use mathlib.Core.List.{List, _∷_, map}
-use Prim.Native.Nat.{ℕ, _+_, _-_, _*_, _^_, _≤_, _<_}
+use Prim.Native.Nat.{ℕ, suc, _+_, _-_, _*_, _^_, _≤_, _<_}
 use native.Mathlib.Omega.{arith}
 use lib.IntN.{ℤ, pos, _*ℤ_}
 use lib.ListN.{replicate}
@@ -17,7 +17,7 @@ use Rattle.chebyshev.specs.laws.Weight.{weight-zeros}
 use Rattle.model.specs.definitions.Models.{scale, maxWeight, good, constantModel}
 use Rattle.model.specs.definitions.Outcomes.{accepted, refused, passing}
 use Rattle.proposals.specs.definitions.Values.{nought, settledLimit, valueOf}
-use Rattle.proposals.specs.definitions.Rounds.{nextRound, finiteRound, roundOf, madeOf, improved}
+use Rattle.proposals.specs.definitions.Rounds.{nextRound, finiteRound, roundOf, madeOf, improved, rounds}
 use Rattle.proposals.specs.definitions.Units.{signed, unitsOf, candidateIn}
 use Rattle.proposals.specs.definitions.Reciprocal.{constantList, valuesOf, reciprocalRounds, makeReciprocal, refusedReciprocal, reciprocalProposal}
 use Rattle.proposals.specs.laws.UnitsLaws.{units-value, signed-scaled}
@@ -80,15 +80,17 @@ module _ (j : ℕ) (l : j ≤ 28) where
   unfolding finiteRound
   round-finite = rw (constant-finite (inverse j) (inverse-finite j l))
 
-  rounds-from : reciprocalRounds (constantList (powerValue j)) ≡ madeOf true (Settled nought) (exactRound j)
-  unfolding reciprocalRounds inverse constantList
-  rounds-from =
-      rw (power-nonzero j l)
-      (round-settled (constantList (powerValue j)) (exactRound j) (exactRound j) 12 11 (sym first-round) refl round-finite nought-settles)
+  -- settled in the first round, with change +0, however many rounds are allowed
+  pub exact-first : (n : ℕ) → rounds (suc n) (constantList (powerValue j)) (exactRound j) ≡ madeOf true (Settled nought) (exactRound j)
+  exact-first n = round-settled (constantList (powerValue j)) (exactRound j) (exactRound j) (suc n) n (sym first-round) refl round-finite nought-settles
 
-  -- settled in the first round, with change +0
+  of-constant : reciprocalRounds (constantList (powerValue j)) ≡ madeOf true (Settled nought) (exactRound j)
+  unfolding reciprocalRounds inverse constantList
+  of-constant = rw (power-nonzero j l) (exact-first 11)
+
+  -- so of the 12 rounds that are allowed one is made
   pub exact-rounds : reciprocalRounds (valuesOf (constantModel (pos (2 ^ j)))) ≡ madeOf true (Settled nought) (roundOf (constantList (inverse j)) nought)
-  exact-rounds = ap reciprocalRounds (constant-values (2 ^ j)) ∙ rounds-from
+  exact-rounds = ap reciprocalRounds (constant-values (2 ^ j)) ∙ of-constant
 
   -- "with no rounding at all": the inverse is exactly S / 2^j
   pub exact-value : HasValue (inverse j) false (2 ^ 20) (2 ^ j)
