@@ -12,3 +12,4 @@ pub mod FiniteOperations
 pub mod FiniteWalk
 pub mod FiniteChange
 pub mod FiniteLaws
+pub mod EndingLaws
