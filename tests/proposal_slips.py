@@ -1,0 +1,1 @@
+PROPOSAL_SLIPS = []
