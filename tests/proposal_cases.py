@@ -3,6 +3,7 @@ grounds and in their order, powers of two, a change of exactly 2^-24, ratios fro
 Each proposal that is made is put to the quotient test."""
 
 from itertools import cycle, product
+from math import isnan
 
 import oracle as o
 import proposal_oracle as p
@@ -30,6 +31,10 @@ def quotient_case(f, g):
     return Case('make_quotient', (f, g))
 
 
+def signed_by(value, count):
+    return value if count % 2 else -value
+
+
 def two_terms(first, place, other):
     """first, and other times T_place."""
     return model([first] + [0] * (place - 1) + [other])
@@ -42,6 +47,8 @@ SETTLING = {3: (1, 1048), 4: (1, 65536), 5: (1, 262144), 6: (1, 524288), 7: (31,
             11: (2, 851968), 12: (3, 786432)}
 # w is given up with the largest change that is finite, and f times w is not if f is large.
 DIVERGING = two_terms(S, 1, 1248179)
+# In round 12 sums leave the doubles whose halves do not: 15, since they are halved last.
+HALVED_LAST = [two_terms(S, 1, other) for other in (1248190, 1248200, 1248300)]
 VANISHING = two_terms(S, 31, S)             # at -1; settles in round 7
 
 
@@ -79,14 +86,23 @@ def settling():
 
 def huge_ratios():
     """The rounds leave the doubles, in round 6 at the earliest, or come near their end."""
-    yield from (DIVERGING, model([1] + [(LIMIT - 1) // MAX_DEGREE] * MAX_DEGREE))
+    yield from (DIVERGING, *HALVED_LAST, model([1] + [(LIMIT - 1) // MAX_DEGREE] * MAX_DEGREE))
     for k in range(28):
         for place in (1, 16, 32):
             yield two_terms(1, place, 1 << k)
     for other in (S + S // 8, S + S // 6, 1248178, 1248180, S + S // 5, S + S // 4, 3 * S // 2, 2 * S):
         yield from (two_terms(S, 1, other), two_terms(-S, 2, other))
     for place in range(1, COEFFICIENTS):                # tiny ones beside it
-        yield two_terms(LIMIT - 1, place, (-1) ** place)
+        yield two_terms(LIMIT - 1, place, signed_by(1, place))
+
+
+def at_weight_limit():
+    """1/(g_0 - g_k) is the weight of w before rounding: 2^28 units, one more by rounding alone, and a last place that decides."""
+    for place in (1, 2, 16, 17):
+        for other in (*range(1, 25), 46, 200, 460, 760):
+            yield two_terms(4096 + other, place, signed_by(other, place))
+    for other in (1, 2, 3, 50):
+        yield from (two_terms(4095 + other, MAX_DEGREE, other), two_terms(-4095 - other, MAX_DEGREE, -other))
 
 
 def without_first():
@@ -97,7 +113,7 @@ def without_first():
 
 
 def good_divisors():
-    for divisors in (constants, at_small_change, settling, huge_ratios, without_first):
+    for divisors in (constants, at_small_change, settling, huge_ratios, at_weight_limit, without_first):
         yield from divisors()
 
 
@@ -122,6 +138,7 @@ def fixed_orders():
     yield from (quotient_case(constant(f), g) for f in (0, 1, S, LIMIT) for g in (constant(0), constant(1), constant(2048)))
     for f in (model([S, 5]), model([S, -5]), model([2 * S, 0, 5]), TWO):
         yield from (quotient_case(f, constant(sign << k)) for k in (12, 13, 14) for sign in (1, -1))
+    yield from (quotient_case(constant(LIMIT - 256 + more), constant(S - 1)) for more in range(4))     # h of 2^28, and 2^28 + 1
     for f in range(-2, 3):                              # h at the limit, w within it: the nearest units, a tie, one above
         yield from (quotient_case(constant(LIMIT // 2 + f), constant(S // 2)), quotient_case(constant(LIMIT + min(f, 0)), constant(S)),
                     quotient_case(two_terms(LIMIT // 2, 1, f), constant(S // 2)), quotient_case(two_terms(LIMIT - 2, 1, f), constant(S - 1)))
@@ -186,11 +203,12 @@ def tests_of(drawn):
 
 # ---- What the cases are -----------------------------------------------------------------------
 
-def large_lists(drawn, made):
-    """Which lists of a quotient weigh too much in units."""
-    f = drawn.inputs[0]
-    lists = {'h': p.product(p.values(f.coefficients), made.w), 'w': made.w}
-    return ' and '.join(name for name, row in lists.items() if o.weight(p.in_units(row)) > LIMIT)
+def weights(drawn, made):
+    """The weight in units of each list that is made."""
+    lists = {'w': made.w}
+    if len(drawn.inputs) == 2:
+        lists = {'h': p.product(p.values(drawn.inputs[0].coefficients), made.w), **lists}
+    return {name: o.weight(p.in_units(row)) for name, row in lists.items()}
 
 
 def is_power(g):
@@ -217,20 +235,21 @@ def kinds(drawn, lengths, number):
         assert o.weight(p.in_units(made.w)) > LIMIT
         return [*found, (entry, '15, f times w')]
     ending = 'settled' if made.outcome == SETTLED else 'given up'
+    weighed = weights(drawn, made)
     if number == LARGE_PROPOSAL:
-        which = large_lists(drawn, made) if entry == 'make_quotient' else 'w'
-        powers = [(entry, '16, power of two', g.coefficients[0])] * is_power(g)
-        return [*found, (entry, f'16, {ending}'), (entry, f'16 of {which}'), *powers]
+        found += [(entry, '16, power of two', g.coefficients[0])] * is_power(g)
+        found += [(entry, 'weight 2^28 + 1')] * (LIMIT + 1 in weighed.values())
+        which = ' and '.join(name for name, size in weighed.items() if size > LIMIT)
+        return [*found, (entry, f'16, {ending}'), (entry, f'16 of {which}')]
+    found += [(entry, 'weight 2^28')] * (LIMIT in weighed.values())
     found += [(entry, 'settled', made.rounds) if made.outcome == SETTLED else (entry, 'given up')]
     found += [(entry, 'power of two', g.coefficients[0])] * is_power(g)
     found += [(entry, 'change 2^-24')] * (made.change == p.SMALL) + [(entry, 'change 0')] * (made.change == 0)
-    if entry == 'make_quotient' and sum(o.weight(one.coefficients) for one in made_candidates(drawn)) > LIMIT:
-        found.append((entry, 'both lists together above 2^28'))
-    return found
+    return found + [(entry, 'both lists together above 2^28')] * (sum(weighed.values()) > LIMIT)
 
 
 OF_BOTH = (*NUMBERS, *(('settled', rounds) for rounds in range(1, p.ROUNDS + 1)), 'given up', '16, settled', '16, given up',
-           '15, g_0 is zero', '15 in round 12', '15 in an earlier round', 'change 2^-24', 'change 0',
+           '15, g_0 is zero', '15 in round 12', '15 in an earlier round', 'change 2^-24', 'change 0', 'weight 2^28', 'weight 2^28 + 1',
            *(('power of two', sign << k) for k in range(12, 29) for sign in (1, -1)),
            *(('16, power of two', sign << k) for k in range(12) for sign in (1, -1)))
 OF_ONE = {'make_reciprocal': ('16 of w',),
@@ -283,6 +302,9 @@ def check_makers():
     # 15 of f times w before 16 of w; each list's own weight.
     assert p.make_quotient(constant(LIMIT), DIVERGING)[0] == NOT_FINITE and p.make_quotient(ONE, DIVERGING)[0] == LARGE_PROPOSAL
     assert p.made_reciprocal(DIVERGING.coefficients).outcome == GIVEN_UP
+    for g in HALVED_LAST:
+        made = p.made_reciprocal(g.coefficients)
+        assert (made.rounds, made.outcome) == (p.ROUNDS, None) and not any(map(isnan, made.w))
     assert p.make_quotient(model([S, 5]), constant(1 << 13))[0] == ACCEPTED
 
 
