@@ -1,5 +1,5 @@
-"""Do proposals made on the mill serve realistic jobs (document 02, S-19)?  Makes one for each quotient of the accepted example jobs,
-puts it to the ordinary test, and prints its radius beside that of the desktop's candidates in the job.
+"""Do proposals made on the mill serve realistic jobs (document 02, S-19)?  Makes one for each quotient of the accepted example
+jobs, puts it to the ordinary test, and prints its radius beside that of the desktop's candidates in the job.
 
   made_examples.py                             plain C
   made_examples.py --library libferruntzo.a    the product

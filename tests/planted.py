@@ -76,7 +76,8 @@ def leave(batch, answers, entry):
         if case.entry == entry and number == SHORT_AREA:
             for start, area in places_of(case, areas, ANSWERS):
                 before = areas[area][2].tobytes()
-                if area not in chosen and all(i != one for one, _, _ in chosen.values()) and not expected.startswith(before, start):
+                taken = area in chosen or any(i == one for one, _, _ in chosen.values())
+                if not taken and not expected.startswith(before, start):
                     chosen[area] = i, start, before
     if set(chosen) != {area for area, (_, _, what) in enumerate(AREAS[entry]) if what in ANSWERS}:
         return set()

@@ -1,6 +1,9 @@
-"""Cases for the makers of proposals, document 02's S-19: both outcomes, every number of rounds, both new refusals by each of their
-grounds and in their order, powers of two, a change of exactly 2^-24, ratios from tiny to huge, lists at the limit of the weight.
-Each proposal that is made is put to the quotient test."""
+"""Cases for the makers of proposals, document 02's S-19: both outcomes, every number of rounds, both new refusals by each of
+their grounds and in their order, powers of two, a change of exactly 2^-24, ratios from tiny to huge, lists at the limit of the
+weight.  Each proposal that is made is put to the quotient test.
+
+No model is known whose change alone is not finite: the v and w of a round would both have to be near the largest double, and a
+round squares what it finds."""
 
 from itertools import cycle, product
 from math import isnan
@@ -10,12 +13,15 @@ import proposal_oracle as p
 from cases import BORDER_MODELS, Case, perhaps_spoiled, random_degree, random_model, random_radius, random_total, signed, spread
 from certificate_cases import divisor
 from header import (ACCEPTED, BAD_MODEL, CANDIDATE_SIZE, COEFFICIENTS, GIVEN_UP, LARGE_PROPOSAL, MAX_DEGREE, MODEL_SIZE,
-                    NOT_CONTRACTING, NOT_FINITE, OUTCOME_SIZE, QUOTIENT_RECORD_SIZE, RECIPROCAL_RECORD_SIZE, S, SETTLED, SHORT_AREA)
+                    NOT_CONTRACTING, NOT_FINITE, OUTCOME_SIZE, QUOTIENT_RECORD_SIZE, RECIPROCAL_RECORD_SIZE, S, SETTLED,
+                    SHORT_AREA)
 from oracle import LIMIT, Model, constant, model, term
 
 # What each entry writes, in the order of the oracle's answer.
-WRITTEN = {'make_reciprocal': ('record', 'w', 'outcome'), 'make_quotient': ('record', 'h', 'w', 'outcome'), 'to_units': ('units',)}
-AREA_SIZES = {'make_reciprocal': {'g': MODEL_SIZE, 'record': RECIPROCAL_RECORD_SIZE, 'w': CANDIDATE_SIZE, 'outcome': OUTCOME_SIZE},
+WRITTEN = {'make_reciprocal': ('record', 'w', 'outcome'), 'make_quotient': ('record', 'h', 'w', 'outcome'),
+           'to_units': ('units',)}
+AREA_SIZES = {'make_reciprocal': {'g': MODEL_SIZE, 'record': RECIPROCAL_RECORD_SIZE, 'w': CANDIDATE_SIZE,
+                                  'outcome': OUTCOME_SIZE},
               'make_quotient': {'f': MODEL_SIZE, 'g': MODEL_SIZE, 'record': QUOTIENT_RECORD_SIZE, 'h': CANDIDATE_SIZE,
                                 'w': CANDIDATE_SIZE, 'outcome': OUTCOME_SIZE}}
 MAKERS = tuple(AREA_SIZES)
@@ -43,8 +49,8 @@ def two_terms(first, place, other):
 # ---- Divisors ---------------------------------------------------------------------------------
 
 # A divisor for each number of rounds that settles, S and a term beside it.
-SETTLING = {3: (1, 1048), 4: (1, 65536), 5: (1, 262144), 6: (1, 524288), 7: (31, S), 8: (1, 917504), 9: (3, 688128), 10: (3, 720896),
-            11: (2, 851968), 12: (3, 786432)}
+SETTLING = {3: (1, 1048), 4: (1, 65536), 5: (1, 262144), 6: (1, 524288), 7: (31, S), 8: (1, 917504), 9: (3, 688128),
+            10: (3, 720896), 11: (2, 851968), 12: (3, 786432)}
 # w is given up with the largest change that is finite, and f times w is not if f is large.
 DIVERGING = two_terms(S, 1, 1248179)
 # In round 12 sums leave the doubles whose halves do not: 15, since they are halved last.
@@ -140,8 +146,10 @@ def fixed_orders():
         yield from (quotient_case(f, constant(sign << k)) for k in (12, 13, 14) for sign in (1, -1))
     yield from (quotient_case(constant(LIMIT - 256 + more), constant(S - 1)) for more in range(4))     # h of 2^28, and 2^28 + 1
     for f in range(-2, 3):                              # h at the limit, w within it: the nearest units, a tie, one above
-        yield from (quotient_case(constant(LIMIT // 2 + f), constant(S // 2)), quotient_case(constant(LIMIT + min(f, 0)), constant(S)),
-                    quotient_case(two_terms(LIMIT // 2, 1, f), constant(S // 2)), quotient_case(two_terms(LIMIT - 2, 1, f), constant(S - 1)))
+        yield from (quotient_case(constant(LIMIT // 2 + f), constant(S // 2)),
+                    quotient_case(constant(LIMIT + min(f, 0)), constant(S)),
+                    quotient_case(two_terms(LIMIT // 2, 1, f), constant(S // 2)),
+                    quotient_case(two_terms(LIMIT - 2, 1, f), constant(S - 1)))
 
 
 def fixed_quotients():
@@ -249,7 +257,8 @@ def kinds(drawn, lengths, number):
 
 
 OF_BOTH = (*NUMBERS, *(('settled', rounds) for rounds in range(1, p.ROUNDS + 1)), 'given up', '16, settled', '16, given up',
-           '15, g_0 is zero', '15 in round 12', '15 in an earlier round', 'change 2^-24', 'change 0', 'weight 2^28', 'weight 2^28 + 1',
+           '15, g_0 is zero', '15 in round 12', '15 in an earlier round', 'change 2^-24', 'change 0', 'weight 2^28',
+           'weight 2^28 + 1',
            *(('power of two', sign << k) for k in range(12, 29) for sign in (1, -1)),
            *(('16, power of two', sign << k) for k in range(12) for sign in (1, -1)))
 OF_ONE = {'make_reciprocal': ('16 of w',),
@@ -273,7 +282,7 @@ def counted(found, entries):
         rounds = ' '.join(f'{n}:{found[entry, "settled", n]}' for n in range(1, p.ROUNDS + 1))
         rest = ', '.join(f'{kind} {found[entry, kind]}' for kind in (*OF_BOTH, *OF_ONE[entry]) if isinstance(kind, str))
         tests = {kind[2]: calls for kind, calls in found.items() if kind[:2] == (entry, 'test')}
-        assert not tests or {ACCEPTED, NOT_CONTRACTING} <= set(tests), f'{entry}: no made proposal that passes, or none that fails'
+        assert not tests or {ACCEPTED, NOT_CONTRACTING} <= set(tests), f'{entry}: none made passes, or none fails'
         tested = f'; put to the test (number:calls) {" ".join(f"{n}:{c}" for n, c in sorted(tests.items()))}' if tests else ''
         rows.append(f'{entry} (settled, rounds:calls {rounds}) {rest}{tested}')
     models = sum(kind[1] == 'model' for kind in found)

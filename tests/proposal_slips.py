@@ -1,17 +1,18 @@
 """Slips of the makers of proposals, for slips.py: wrong versions of plain/proposals.c.
 
-Left out, since every answer is the same: |i - j| before i + j (the places differ, or get the same number twice); -p_k for 0 - p_k
+Left out, since no answer differs: |i - j| before i + j (the places differ, or get the same number twice); -p_k for 0 - p_k
 (a zero of either sign adds nothing); no look at g_0 (1/0 makes NaNs in the first round); values tested once, after the last round
-(none becomes finite again); no test of the change (v - w leaves the doubles only where v does); in a quotient no test of w (f times
-w is then not finite either).
+(none becomes finite again); in a quotient no test of w (f times w is then not finite either).  And no test of the change: no model
+is known for which v - w leaves the doubles where v does not.
 """
 
 RECIPROCAL, QUOTIENT, UNITS = 'make_reciprocal', 'make_quotient', 'to_units'
+BOTH, ALL = (RECIPROCAL, QUOTIENT), (RECIPROCAL, QUOTIENT, UNITS)
 
 # ---- Products and rounds: what is wrong, old text, new text; each must show in both makers
 
 LOOPS = '    for (int i = 0; i < COEFFICIENTS; i++) {\n        for (int j = 0; j < COEFFICIENTS; j++) {\n            double v'
-I, J = ('int i = 0; i < COEFFICIENTS; i++', 'int j = 0; j < COEFFICIENTS; j++')
+I, J = 'int i = 0; i < COEFFICIENTS; i++', 'int j = 0; j < COEFFICIENTS; j++'
 V_LINE = 'double v = a[i] * b[j];'
 SUM, DIFFERENCE = 'c[i + j] += v;', 'c[i > j ? i - j : j - i] += v;'
 PAIR = f'            if (i + j < COEFFICIENTS)\n                {SUM}\n            {DIFFERENCE}'
@@ -39,7 +40,8 @@ OF_PRODUCTS = [
      f'                continue;\n            }}\n{PAIR}'),
     ('place 32 dropped', 'if (i + j < COEFFICIENTS)', 'if (i + j < MAX_DEGREE)'),
     ('|i - j| dropped with i + j', PAIR, PAIR_AND),
-    ('places beyond 32 put back', PAIR, f'{PAIR}\n            if (i + j > MAX_DEGREE)\n                c[2 * MAX_DEGREE - i - j] += v;'),
+    ('places beyond 32 put back', PAIR,
+     f'{PAIR}\n            if (i + j > MAX_DEGREE)\n                c[2 * MAX_DEGREE - i - j] += v;'),
     ('|i - j| = 0 left out', DIFFERENCE, f'if (i != j || i == 0)\n                {DIFFERENCE}'),
 ]
 
@@ -48,16 +50,20 @@ SUBTRACTED = 'p[k] = (k == 0 ? 2.0 : 0.0) - p[k];\n    product(w, p, v);\n'
 STARTS = '    record[0] = 1.0 / g[0];\n'
 ROUND = '        record[COEFFICIENTS] = improve(g, record);\n'
 FINITE = '        if (!all_finite(record, RECIPROCAL_RECORD_SIZE))\n            return NOT_FINITE;\n'
-END = '            *outcome = SETTLED;\n    }\n    return 0;\n'
+IF_SETTLED = '        if (record[COEFFICIENTS] <= small)\n            *outcome = SETTLED;\n'
+END = '    }\n    return 0;\n'
 LOOP = ('    *outcome = GIVEN_UP;\n    for (int round = 0; round < ROUNDS && *outcome == GIVEN_UP; round++) {\n'
-        f'{ROUND}{FINITE}        if (record[COEFFICIENTS] <= small)\n{END}')
+        f'{ROUND}{FINITE}{IF_SETTLED}{END}')
 VALUE = 'values[k] = model[1 + k] / 1048576.0;'
+KEEP = 'kept = record[COEFFICIENTS];\n'
 
 
-def keeping(step, declared='double kept = 0.0;'):
-    """The rounds with a number kept beside them, which is answered as the change."""
-    loop = LOOP.replace(ROUND, f'{step}{ROUND}').replace('    return 0;\n', '    record[COEFFICIENTS] = kept;\n    return 0;\n')
-    return f'    {declared}\n{loop}'
+ANSWER_KEPT = END.replace('    return', '    record[COEFFICIENTS] = kept;\n    return')
+
+
+def keeping(before='', behind='', settled=IF_SETTLED, end=ANSWER_KEPT):
+    """The rounds with a change kept beside them, before each round or behind it; it is answered in place of the last one."""
+    return f'    double kept = 0.0;\n{LOOP}'.replace(ROUND, before + ROUND + behind).replace(IF_SETTLED + END, settled + end)
 
 
 OF_ROUNDS = [
@@ -73,14 +79,11 @@ OF_ROUNDS = [
     ('the largest value for the difference', 'double x = v[k] - w[k];', 'double x = v[k];'),
     ('11 rounds', '#define ROUNDS 12', '#define ROUNDS 11'),
     ('13 rounds', '#define ROUNDS 12', '#define ROUNDS 13'),
-    ('the change of the round before', LOOP, keeping('        kept = round == 0 ? 0.0 : record[COEFFICIENTS];\n')),
-    ('the change of the first round', LOOP, keeping('        if (round == 1)\n            kept = record[COEFFICIENTS];\n')),
-    ('the largest change of all rounds', LOOP,
-     LOOP.replace(ROUND, ROUND + '        if (kept < record[COEFFICIENTS])\n            kept = record[COEFFICIENTS];\n')
-     .replace('    *outcome = G', '    double kept = 0.0;\n    *outcome = G').replace('    return 0;\n', '    record[COEFFICIENTS] = kept;\n    return 0;\n')),
-    ('settled by the change of the round before', LOOP,
-     LOOP.replace('    *outcome = G', '    double kept = 1.0;\n    *outcome = G').replace('record[COEFFICIENTS] <= small', 'kept <= small')
-     .replace(END, END.replace('    }\n', '        kept = record[COEFFICIENTS];\n    }\n'))),
+    ('the change of the round before', LOOP, keeping(f'        if (round > 0)\n            {KEEP}')),
+    ('the change of the first round', LOOP, keeping('', f'        if (round == 0)\n            {KEEP}')),
+    ('the largest change of all rounds', LOOP, keeping('', f'        if (kept < record[COEFFICIENTS])\n            {KEEP}')),
+    ('settled by the change of the round before', LOOP, keeping(
+        '', '', IF_SETTLED.replace('record[COEFFICIENTS] <= small', 'round > 0 && kept <= small') + f'        {KEEP}', END)),
     ('settled below 2^-24 only', '<= small', '< small'),
     ('settled a little above 2^-24', '<= small', '<= small * (1.0 + 1.0 / 1048576.0)'),
     ('settled at 2^-23', '1.0 / 16777216.0', '2.0 / 16777216.0'),
@@ -88,7 +91,8 @@ OF_ROUNDS = [
     ('settled not tested in the twelfth round', '<= small', '<= small && round < ROUNDS - 1'),
     ('settled not tested in the first round', '<= small', '<= small && round > 0'),
     ('settled by the change over w_0', '<= small', '<= small * record[0]'),
-    ('one more round once settled', END, END.replace('    return', '    if (*outcome == SETTLED)\n        improve(g, record);\n    return')),
+    ('one more round once settled', IF_SETTLED,
+     IF_SETTLED.replace(')\n', ') {\n            improve(g, record);\n') + '        }\n'),
     ('starts at 1', STARTS, '    record[0] = 1.0;\n'),
     ('starts at 1/g_0 in whole units', STARTS, '    record[0] = (double)to_unit(1.0 / g[0]) / 1048576.0;\n'),
     ('starts in single precision', STARTS, '    record[0] = 1.0f / (float)g[0];\n'),
@@ -97,18 +101,19 @@ OF_ROUNDS = [
     ('the last coefficient left out', VALUE, 'values[k] = k < model[0] || k == 0 ? model[1 + k] / 1048576.0 : 0.0;'),
     ('infinities pass', 'list[k] >= -DBL_MAX && list[k] <= DBL_MAX', 'list[k] == list[k]'),
     ('NaNs pass', '!(list[k] >= -DBL_MAX && list[k] <= DBL_MAX)', 'list[k] < -DBL_MAX || list[k] > DBL_MAX'),
-    ('g_0 = 0 is 2', '    if (model[1] == 0)\n        return NOT_FINITE;', '    if (model[1] == 0)\n        return BAD_MODEL;'),
-    ('given up is 15', END, END.replace('return 0', 'return *outcome == SETTLED ? 0 : NOT_FINITE')),
+    ('g_0 = 0 is 2', '(model[1] == 0)\n        return NOT_FINITE;', '(model[1] == 0)\n        return BAD_MODEL;'),
+    ('given up is 15', IF_SETTLED + END, IF_SETTLED + END.replace('return 0', 'return *outcome == SETTLED ? 0 : NOT_FINITE')),
     ('settled and given up exchanged', 'GIVEN_UP = 0, SETTLED = 1', 'GIVEN_UP = 1, SETTLED = 0'),
 ]
 
-# ---- Units: each must show in the entry of its own, and in the makers.  A reciprocal has no tie that a case could be made of: 2^41/g_0
-# would have to be near an odd number, and the other coefficients are not exact.
+# ---- Units: each must show in the entry of its own, and in the makers.  A reciprocal has no tie that a case could be made of:
+# 2^41/g_0 would have to be near an odd number, and the other coefficients are not exact.
 
-RISES, FALLS = ('if (rest > 0.5 || (rest == 0.5 && whole % 2 != 0))', 'if (rest < -0.5 || (rest == -0.5 && whole % 2 != 0))')
+RISES, FALLS = 'if (rest > 0.5 || (rest == 0.5 && whole % 2 != 0))', 'if (rest < -0.5 || (rest == -0.5 && whole % 2 != 0))'
 NEAREST = f'    {RISES}\n        whole++;\n    {FALLS}\n        whole--;\n'
 CUT = '    if (!(scaled > -536870912.0 && scaled < 536870912.0))\n        return 536870912;\n'
 LARGE = 'return sum > LIMIT ? LARGE_PROPOSAL : 0;'
+WEIGH = 'sum += magnitude(unit);'
 DEGREE = '    candidate[0] = MAX_DEGREE;\n'
 
 
@@ -131,108 +136,115 @@ OF_UNITS = [
     ('2^28 refused', LARGE, LARGE.replace('>', '>=')),
     ('2^28 + 1 accepted', LARGE, LARGE.replace('LIMIT ?', 'LIMIT + 1 ?')),
     ('16 left out', LARGE, 'return sum < 0 ? LARGE_PROPOSAL : 0;'),
-    ('the largest coefficient for the weight', 'sum += magnitude(unit);', 'sum = magnitude(unit) > sum ? magnitude(unit) : sum;'),
-    ('the weight without the last', 'sum += magnitude(unit);', 'sum += k < MAX_DEGREE ? magnitude(unit) : 0;'),
+    ('the largest coefficient for the weight', WEIGH, 'sum = magnitude(unit) > sum ? magnitude(unit) : sum;'),
+    ('the weight without the last', WEIGH, 'sum += k < MAX_DEGREE ? magnitude(unit) : 0;'),
     ('degree of the last that is not zero', DEGREE, '    candidate[0] = 0;\n    for (int k = 0; k < COEFFICIENTS; k++)\n'
      '        if (to_unit(values[k]) != 0)\n            candidate[0] = k;\n'),
     ('degree 0', DEGREE, '    candidate[0] = 0;\n'),
 ]
+UNITS_FINITE = '    if (!all_finite(values, VALUES_SIZE))\n        return NOT_FINITE;\n'
+UNITS_LARGE = '    uint32_t number = to_candidate(values, made);\n'
+SOME_LARGE = ('    for (int k = 0; k < VALUES_SIZE; k++)\n        if (values[k] > 256.0 || values[k] < -256.0)\n'
+              '            return LARGE_PROPOSAL;\n')
+UNITS_SHORT = '!CLEAR(units, CANDIDATE_SIZE) || values_len < VALUES_SIZE'
 OF_UNITS_ALONE = [
     ('cut at 2^28', CUT, CUT.replace('536870912.0', '268435456.0')),
     ('no cut', CUT, ''),
     ('cut to 2^28', CUT, CUT.replace('return 536870912', 'return LIMIT')),
-    ('the sum with its signs', 'sum += magnitude(unit);', 'sum += unit;'),
+    ('the sum with its signs', WEIGH, 'sum += unit;'),
     ('the sum in 32 bits', 'int64_t sum = 0;', 'int32_t sum = 0;'),
-    ('the last value not looked at', '    if (!all_finite(values, VALUES_SIZE))', '    if (!all_finite(values, VALUES_SIZE - 1))'),
-    ('not finite is 16', '    if (!all_finite(values, VALUES_SIZE))\n        return NOT_FINITE;\n', ''),
-    ('16 before 15', '    if (!all_finite(values, VALUES_SIZE))\n        return NOT_FINITE;\n    uint32_t number = to_candidate(values, made);\n',
-     '    uint32_t number = to_candidate(values, made);\n    if (number != 0 && all_finite(values, VALUES_SIZE))\n        return number;\n'
-     '    int large = 0;\n    for (int k = 0; k < VALUES_SIZE; k++)\n        large += values[k] == values[k] && to_unit(values[k]) > LIMIT;\n'
-     '    if (large > 0)\n        return LARGE_PROPOSAL;\n    if (!all_finite(values, VALUES_SIZE))\n        return NOT_FINITE;\n'),
-    ('32 values', 'values_len < VALUES_SIZE', 'values_len < VALUES_SIZE - 1'), ('34 values', 'values_len < VALUES_SIZE', 'values_len < CANDIDATE_SIZE'),
-    ('units left on 1', '!CLEAR(units, CANDIDATE_SIZE) || values_len < VALUES_SIZE', 'values_len < VALUES_SIZE || !CLEAR(units, CANDIDATE_SIZE)'),
-    ('units left on refusal', '!CLEAR(units, CANDIDATE_SIZE) ||', 'units_len < CANDIDATE_SIZE ||'),
+    ('the last value not looked at', UNITS_FINITE, UNITS_FINITE.replace('SIZE', 'SIZE - 1')),
+    ('not finite is 16', UNITS_FINITE, ''),
+    ('16 before 15', UNITS_FINITE, SOME_LARGE + UNITS_FINITE),
+    ('32 values', 'values_len < VALUES_SIZE', 'values_len < VALUES_SIZE - 1'),
+    ('34 values', 'values_len < VALUES_SIZE', 'values_len < CANDIDATE_SIZE'),
+    ('units left on 1', UNITS_SHORT, 'values_len < VALUES_SIZE || !CLEAR(units, CANDIDATE_SIZE)'),
+    ('units left on refusal', UNITS_SHORT, UNITS_SHORT.replace('!CLEAR(units, CANDIDATE_SIZE)', 'units_len < CANDIDATE_SIZE')),
     ('units kept on 16', '    if (number == 0)\n        memcpy(units', '    if (number != 1)\n        memcpy(units'),
 ]
 
-# ---- Each maker
+# ---- Each maker: its areas, its models, what it stores
 
-FIT = {RECIPROCAL: 'CLEAR(record, RECIPROCAL_RECORD_SIZE) & CLEAR(w, CANDIDATE_SIZE)\n              & CLEAR(outcome, OUTCOME_SIZE);',
-       QUOTIENT: 'CLEAR(record, QUOTIENT_RECORD_SIZE) & CLEAR(h, CANDIDATE_SIZE)\n              & CLEAR(w, CANDIDATE_SIZE) '
-       '& CLEAR(outcome, OUTCOME_SIZE);'}
-SIZE = {RECIPROCAL: 'RECIPROCAL_RECORD_SIZE', QUOTIENT: 'QUOTIENT_RECORD_SIZE'}
-# From the models on, to the end of the function.
-MODELS = {RECIPROCAL: '    if (!good_model(g))\n        return BAD_MODEL;\n', QUOTIENT: '    if (!good_model(f) || !good_model(g))\n        return BAD_MODEL;\n'}
+FIT = {RECIPROCAL: 'CLEAR(record, RECIPROCAL_RECORD_SIZE) & CLEAR(w, CANDIDATE_SIZE)\n'
+       '              & CLEAR(outcome, OUTCOME_SIZE);\n',
+       QUOTIENT: 'CLEAR(record, QUOTIENT_RECORD_SIZE) & CLEAR(h, CANDIDATE_SIZE)\n'
+       '              & CLEAR(w, CANDIDATE_SIZE) & CLEAR(outcome, OUTCOME_SIZE);\n'}
+SIZES = {RECIPROCAL: {'record': 'RECIPROCAL_RECORD_SIZE', 'w': 'CANDIDATE_SIZE', 'outcome': 'OUTCOME_SIZE'},
+         QUOTIENT: {'record': 'QUOTIENT_RECORD_SIZE', 'h': 'CANDIDATE_SIZE', 'w': 'CANDIDATE_SIZE', 'outcome': 'OUTCOME_SIZE'}}
+MODELS = {RECIPROCAL: '    if (!good_model(g))\n        return BAD_MODEL;\n',
+          QUOTIENT: '    if (!good_model(f) || !good_model(g))\n        return BAD_MODEL;\n'}
 STORED = {RECIPROCAL: '    memcpy(record, made, sizeof made);\n    memcpy(w, units, sizeof units);\n    *outcome = ended;\n',
-          QUOTIENT: '    memcpy(record, made, sizeof made);\n    memcpy(h, answer, sizeof answer);\n    memcpy(w, helper, sizeof helper);\n'
-          '    *outcome = ended;\n'}
-
-
-def left(fit, area, size):
-    """The clearing of areas with one only measured."""
-    return fit.replace(f'CLEAR({area}, {size})', f'({area}_len >= {size})')
+          QUOTIENT: '    memcpy(record, made, sizeof made);\n    memcpy(h, answer, sizeof answer);\n'
+          '    memcpy(w, helper, sizeof helper);\n    *outcome = ended;\n'}
 
 
 def of_each(entry):
-    fit, size, models, stored = FIT[entry], SIZE[entry], MODELS[entry], STORED[entry]
-    areas = {'record': size, 'w': 'CANDIDATE_SIZE', 'outcome': 'OUTCOME_SIZE', **({'h': 'CANDIDATE_SIZE'} if entry == QUOTIENT else {})}
-    for area, numbers in areas.items():
-        yield f'{area} left on refusal', fit, left(fit, area, numbers)
-        yield f'{area} one number short is enough', fit, fit.replace(f'({area}, {numbers})', f'({area}, {numbers} - ({area}_len == {numbers} - 1))')
-        yield f'{area} one number longer', fit, fit.replace(f'({area}, {numbers})', f'({area}, {numbers} + 1)')
+    fit, models, stored = FIT[entry], MODELS[entry], STORED[entry]
+    for area, size in SIZES[entry].items():
+        clear = f'CLEAR({area}, {size})'
+        yield f'{area} left on refusal', fit, fit.replace(clear, f'({area}_len >= {size})')
+        yield f'{area} one number short accepted', fit, fit.replace(clear, f'CLEAR({area}, {size} - ({area}_len == {size} - 1))')
+        yield f'{area} one number longer', fit, fit.replace(clear, f'CLEAR({area}, {size} + 1)')
     yield 'areas left where another is short', fit, fit.replace('&', '&&')
-    yield 'areas left where a model is short', f'    int fit = {fit}\n    if (!fit || ', f'    if (g_len < MODEL_SIZE)\n        return SHORT_AREA;\n    int fit = {fit}\n    if (!fit || '
+    yield ('areas left where a model is short', f'    int fit = {fit}',
+           f'    if (g_len < MODEL_SIZE)\n        return SHORT_AREA;\n    int fit = {fit}')
     yield 'g not looked at', models, models.replace('!good_model(g)', '0')
     yield 'the radius of g not looked at', models, models.replace('good_model(g)', 'good_candidate(g)')
     yield 'lists left out once given up', stored, f'    if (ended == GIVEN_UP)\n        return 0;\n{stored}'
-    yield 'the last number of the record left out', stored, stored.replace('made, sizeof made', 'made, sizeof made - sizeof *made')
+    yield 'the last number of the record left out', stored, stored.replace('sizeof made', 'sizeof made - sizeof *made')
     yield 'outcome left at given up', stored, stored.replace('ended', 'GIVEN_UP')
     yield 'outcome always settled', stored, stored.replace('ended', 'SETTLED')
 
 
-FW = '    product(a, last, made);\n'
-FW_FINITE = '    if (!all_finite(made, COEFFICIENTS))\n        return NOT_FINITE;\n'
-LARGE_H, LARGE_W = 'to_candidate(made, answer) != 0', 'to_candidate(last, helper) != 0'
-FW_LARGE = f'    if ({LARGE_H} || {LARGE_W})\n        return LARGE_PROPOSAL;\n'
+MADE = '    uint32_t number = reciprocal(g, made, &ended);\n'
 MADE_UNITS = '    if (number == 0)\n        number = to_candidate(made, units);\n'
+ON_16 = '    if (number == LARGE_PROPOSAL)\n        '
 OF_RECIPROCAL = [
     ('not finite is 16', FINITE, ''),
     ('w_0 alone is tested', FINITE, FINITE.replace('RECIPROCAL_RECORD_SIZE', '1')),
     ('not finite passes in the twelfth round', FINITE, FINITE.replace('(!', '(round < ROUNDS - 1 && !')),
-    ('16 not once given up', MADE_UNITS, MADE_UNITS + '    if (number == LARGE_PROPOSAL && ended == GIVEN_UP)\n        number = 0;\n'),
-    ('record kept on 16', MADE_UNITS, MADE_UNITS + '    if (number == LARGE_PROPOSAL)\n        memcpy(record, made, sizeof made);\n'),
-    ('settled kept on 16', MADE_UNITS, MADE_UNITS + '    if (number == LARGE_PROPOSAL)\n        *outcome = ended;\n'),
-    ('w kept on 16', MADE_UNITS, MADE_UNITS + '    if (number == LARGE_PROPOSAL)\n        w[0] = MAX_DEGREE;\n'),
-    ('record kept on 15', '    uint32_t number = reciprocal(g, made, &ended);\n', '    uint32_t number = reciprocal(g, made, &ended);\n'
-     '    if (number != 0 && g[1] != 0)\n        memcpy(record, made, sizeof made);\n'),
+    ('16 not once given up', MADE_UNITS, MADE_UNITS + ON_16 + 'number = ended == GIVEN_UP ? 0 : number;\n'),
+    ('record kept on 16', MADE_UNITS, MADE_UNITS + ON_16 + 'memcpy(record, made, sizeof made);\n'),
+    ('settled kept on 16', MADE_UNITS, MADE_UNITS + ON_16 + '*outcome = ended;\n'),
+    ('degree kept on 16', MADE_UNITS, MADE_UNITS + ON_16 + 'w[0] = MAX_DEGREE;\n'),
+    ('record kept on 15', MADE, MADE + '    if (number != 0 && g[1] != 0)\n        memcpy(record, made, sizeof made);\n'),
 ]
+FW = '    product(a, last, made);\n'
+FW_FINITE = '    if (!all_finite(made, COEFFICIENTS))\n        return NOT_FINITE;\n'
+H, W = 'to_candidate(made, answer)', 'to_candidate(last, helper)'
+FW_LARGE = f'    if ({H} != 0 || {W} != 0)\n        return LARGE_PROPOSAL;\n'
+IS_16 = '\n        return LARGE_PROPOSAL;\n'
+GOOD = MODELS[QUOTIENT]
+STORE = STORED[QUOTIENT]
 OF_QUOTIENT = [
     ('factors of f w exchanged', FW, FW.replace('a, last', 'last, a')),
-    ('16 before 15 of f w', FW + FW_FINITE, FW + FW_LARGE.replace(f'{LARGE_H} || ', '') + FW_FINITE),
+    ('16 of w before 15 of f w', FW + FW_FINITE, f'{FW}    if ({W} != 0){IS_16}{FW_FINITE}'),
     ('f w not tested', FW_FINITE, ''),
-    ('16 of h alone', FW_LARGE, f'    to_candidate(last, helper);\n    if ({LARGE_H})\n        return LARGE_PROPOSAL;\n'),
-    ('16 of w alone', FW_LARGE, f'    to_candidate(made, answer);\n    if ({LARGE_W})\n        return LARGE_PROPOSAL;\n'),
-    ('16 of both only', FW_LARGE, f'    if (({LARGE_H}) & ({LARGE_W}))\n        return LARGE_PROPOSAL;\n'),
-    ('both weights together', FW_LARGE, FW_LARGE + '    if (model_weight(answer) + model_weight(helper) > LIMIT)\n        return LARGE_PROPOSAL;\n'),
-    ('16 not once given up', FW_LARGE, FW_LARGE.replace('    if (', '    if (ended == GIVEN_UP ? (to_candidate(made, answer), to_candidate(last, helper), 0) : ')),
-    ('15 and 16 of w before f is looked at', MODELS[QUOTIENT], MODELS[QUOTIENT].replace('!good_model(f) || ', '')
-     + f'    if (reciprocal(g, last, &ended) != 0)\n        return NOT_FINITE;\n{MODELS[QUOTIENT]}'),
-    ('f not looked at', MODELS[QUOTIENT], MODELS[QUOTIENT].replace('!good_model(f)', '0')),
-    ('the radius of f not looked at', MODELS[QUOTIENT], MODELS[QUOTIENT].replace('good_model(f)', 'good_candidate(f)')),
-    ('h and w exchanged', STORED[QUOTIENT], STORED[QUOTIENT].replace('h, answer', 'h, helper').replace('w, helper', 'w, answer')),
-    ('w before f w in the record', STORED[QUOTIENT], STORED[QUOTIENT].replace('    memcpy(record, made, sizeof made);\n',
-     '    memcpy(record, last, 34 * sizeof *record);\n    memcpy(record + 34, made, 33 * sizeof *record);\n')),
-    ('w in units times f', FW, '    for (int k = 0; k < COEFFICIENTS; k++)\n        last[k] = (double)to_unit(last[k]) / 1048576.0;\n' + FW),
+    ('16 of h alone', FW_LARGE, f'    {W};\n    if ({H} != 0){IS_16}'),
+    ('16 of w alone', FW_LARGE, f'    {H};\n    if ({W} != 0){IS_16}'),
+    ('16 of both only', FW_LARGE, f'    if (({H} != 0) & ({W} != 0)){IS_16}'),
+    ('both weights together', FW_LARGE, f'{FW_LARGE}    if (model_weight(answer) + model_weight(helper) > LIMIT){IS_16}'),
+    ('16 not once given up', FW_LARGE, f'    if ((({H} != 0) | ({W} != 0)) && ended == SETTLED){IS_16}'),
+    ('15 of w before 2 of f', GOOD,
+     f'{MODELS[RECIPROCAL]}    if (reciprocal(g, last, &ended) != 0)\n        return NOT_FINITE;\n{GOOD}'),
+    ('f not looked at', GOOD, GOOD.replace('!good_model(f)', '0')),
+    ('the radius of f not looked at', GOOD, GOOD.replace('good_model(f)', 'good_candidate(f)')),
+    ('h and w exchanged', STORE, STORE.replace('h, answer', 'h, helper').replace('w, helper', 'w, answer')),
+    ('w before f w in the record', STORE, STORE.replace(
+        'memcpy(record, made, sizeof made);',
+        'memcpy(record, last, 34 * sizeof *record);\n    memcpy(record + 34, made, 33 * sizeof *record);')),
+    ('f times w in whole units', FW, '    for (int k = 0; k < COEFFICIENTS; k++)\n'
+     f'        last[k] = (double)to_unit(last[k]) / 1048576.0;\n{FW}'),
     ('record kept on 16', FW_LARGE, f'    memcpy(record, made, sizeof made);\n{FW_LARGE}'),
     ('settled kept on 16', FW_LARGE, f'    *outcome = ended;\n{FW_LARGE}'),
 ]
 
 PROPOSAL_SLIPS = [
-    *((f'makers: {name}, {entry}', entry, old, new) for name, old, new in (*OF_PRODUCTS, *OF_ROUNDS) for entry in (RECIPROCAL, QUOTIENT)),
-    *((f'units: {name}, {entry}', entry, old, new) for name, old, new in OF_TIES for entry in (QUOTIENT, UNITS)),
-    *((f'units: {name}, {entry}', entry, old, new) for name, old, new in OF_UNITS for entry in (RECIPROCAL, QUOTIENT, UNITS)),
-    *((f'units: {name}', UNITS, old, new) for name, old, new in OF_UNITS_ALONE),
-    *((f'makers: {name}, {entry}', entry, old, new) for entry in (RECIPROCAL, QUOTIENT) for name, old, new in of_each(entry)),
-    *((f'{RECIPROCAL}: {name}', RECIPROCAL, old, new) for name, old, new in OF_RECIPROCAL),
-    *((f'{QUOTIENT}: {name}', QUOTIENT, old, new) for name, old, new in OF_QUOTIENT),
+    *((f'makers: {name}, {entry}', entry, *texts) for name, *texts in (*OF_PRODUCTS, *OF_ROUNDS) for entry in BOTH),
+    *((f'makers: {name}, {entry}', entry, *texts) for entry in BOTH for name, *texts in of_each(entry)),
+    *((f'units: {name}, {entry}', entry, *texts) for name, *texts in OF_TIES for entry in (QUOTIENT, UNITS)),
+    *((f'units: {name}, {entry}', entry, *texts) for name, *texts in OF_UNITS for entry in ALL),
+    *((f'units: {name}', UNITS, *texts) for name, *texts in OF_UNITS_ALONE),
+    *((f'reciprocal: {name}', RECIPROCAL, *texts) for name, *texts in OF_RECIPROCAL),
+    *((f'quotient: {name}', QUOTIENT, *texts) for name, *texts in OF_QUOTIENT),
 ]

@@ -253,7 +253,7 @@ SLIPS += [(f'walk: {name}, {entry}', entry, P_LINE, new)
 
 
 def spoiled_plain(folder, old, new, sources=('plain.c', 'areas.h')):
-    """The folder with a copy of the plain C version, a text altered at its first place in the first of the sources that has it."""
+    """The folder, with a copy of the plain C version: a text is altered at its first place in the first source that has it."""
     texts = {path.name: path.read_text() for path in PLAIN.iterdir() if path.suffix in ('.c', '.h')}
     altered = next((name for name in sources if old in texts[name]), None)
     assert altered, f'the text to alter is gone: {old}'

@@ -2,7 +2,6 @@
 neighbours, both limits, subnormal numbers, infinities and NaNs, one at a time at a changing place; and full lists whose weight is
 around 2^28.  A value is the 64 bits of its double."""
 
-from collections import Counter
 from fractions import Fraction
 from itertools import product
 from math import isfinite, isinf, isnan
@@ -49,8 +48,8 @@ def fixed_exponents():
 
 def fixed_ties():
     """Halves of units between whole numbers of both parities, whole numbers, and what stands beside them."""
-    whole = [*range(260), *(1 << k for k in range(8, 30)), *((1 << k) - 1 for k in range(8, 30)), 10 ** 6, 10 ** 8 + 1, MAX_WEIGHT + 1]
-    for n in whole:
+    powers = [1 << k for k in range(8, 30)]
+    for n in (*range(260), *powers, *(power - 1 for power in powers), 10 ** 6, 10 ** 8 + 1, MAX_WEIGHT + 1):
         for pattern in (units(n), units(n + Fraction(1, 2))):
             yield from (max(pattern - 1, 0), pattern, pattern + 1)
 
@@ -149,7 +148,8 @@ def kinds_of(pattern):
     if isinf(value):
         return ['infinity']
     found = ['zero'] * (size == 0) + ['subnormal'] * (0 < size <= FRACTION) + ['power of two'] * (size & FRACTION == 0 < size)
-    found += ['2^28 units'] * (size == LIMIT_BITS) + ['2^29 units'] * (size == DOUBLE_BITS) + ['beyond 2^29'] * (size > DOUBLE_BITS)
+    found += ['2^28 units'] * (size == LIMIT_BITS) + ['2^29 units'] * (size == DOUBLE_BITS)
+    found += ['beyond 2^29'] * (size > DOUBLE_BITS)
     if size < DOUBLE_BITS:
         below, rest = divmod(Fraction(value) * S, 1)
         found += ['tie, even below' if below % 2 == 0 else 'tie, odd below'] * (rest == Fraction(1, 2))
@@ -160,8 +160,9 @@ def kinds_of(pattern):
     return found
 
 
-KINDS = ('quiet NaN', 'signalling NaN', 'infinity', 'zero', 'subnormal', 'power of two', '2^28 units', '2^29 units', 'beyond 2^29',
-         'tie, even below', 'tie, odd below', 'whole units', 'below half a unit', 'next above a tie', 'next below a tie')
+KINDS = ('quiet NaN', 'signalling NaN', 'infinity', 'zero', 'subnormal', 'power of two', '2^28 units', '2^29 units',
+         'beyond 2^29', 'tie, even below', 'tie, odd below', 'whole units', 'below half a unit', 'next above a tie',
+         'next below a tie')
 LISTS = ('weight 2^28', 'weight 2^28 + 1', '15 beside a weight above 2^28')
 
 
@@ -200,13 +201,13 @@ WITNESSES = {ACCEPTED: at_limit(0).inputs, NOT_FINITE: alone(NANS[0], 32).inputs
 def check_units():
     """compare.py asks this before every comparison: stated values, and the makers' step back from units."""
     assert all(p.to_units(row)[0] == number for number, (row,) in WITNESSES.items())
-    for n, whole in ((Fraction(1, 2), 0), (Fraction(3, 2), 2), (Fraction(5, 2), 2), (Fraction(7, 2), 4), (MAX_WEIGHT, MAX_WEIGHT)):
+    for odd, whole in ((1, 0), (3, 2), (5, 2), (7, 4), (2 * MAX_WEIGHT - 1, MAX_WEIGHT)):
         for sign in (1, -1):
-            assert p.unit(float(sign * n / S)) == sign * whole
+            assert p.unit(float(Fraction(sign * odd, 2 * S))) == sign * whole
     assert all(p.unit(n / S) == n for n in (0, 1, -1, MAX_WEIGHT - 1, -(1 << 31), (1 << 31) - 1))
-    numbers = Counter(p.to_units(*alone(pattern, 3).inputs)[0] for pattern in (LIMIT_BITS, units(MAX_WEIGHT + Fraction(1, 2))))
-    assert numbers == {ACCEPTED: 2}                     # the tie above 2^28 goes to 2^28
-    assert p.to_units(*alone(units(MAX_WEIGHT + Fraction(1, 2)) + 1, 3).inputs)[0] == LARGE_PROPOSAL
+    tie = units(MAX_WEIGHT + Fraction(1, 2))            # goes to 2^28
+    for pattern, number in ((LIMIT_BITS, ACCEPTED), (tie, ACCEPTED), (tie + 1, LARGE_PROPOSAL)):
+        assert p.to_units(*alone(pattern, 3).inputs)[0] == number
 
 
 FIXED = {'to_units': fixed_to_units}
