@@ -1,9 +1,9 @@
 """Slips of the makers of proposals, for slips.py: wrong versions of plain/proposals.c.
 
 Left out, since no answer differs: |i - j| before i + j (the places differ, or get the same number twice); -p_k for 0 - p_k
-(a zero of either sign adds nothing); no look at g_0 (1/0 makes NaNs in the first round); values tested once, after the last round
-(none becomes finite again); in a quotient no test of w (f times w is then not finite either).  And no test of the change: no model
-is known for which v - w leaves the doubles where v does not.
+(a zero of either sign adds nothing); no look at g_0 (1/0 makes NaNs in the first round); values tested once, after the last
+round (none becomes finite again); in a quotient no test of w (f times w is then not finite either).  And no test of the change:
+no model is known for which v - w leaves the doubles where v does not.
 """
 
 RECIPROCAL, QUOTIENT, UNITS = 'make_reciprocal', 'make_quotient', 'to_units'
