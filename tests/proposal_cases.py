@@ -7,6 +7,7 @@ round squares what it finds."""
 
 from itertools import cycle, product
 from math import isnan
+from sys import float_info
 
 import oracle as o
 import proposal_oracle as p
@@ -290,7 +291,8 @@ def counted(found, entries):
 
 
 def check_makers():
-    """compare.py asks this before every comparison: what the request and its readings state of single models."""
+    """compare.py asks this before every comparison: floats are binary64, and what the request states of single models holds."""
+    assert (float_info.mant_dig, float_info.min_exp, float_info.max_exp, float_info.rounds) == (53, -1021, 1024, 1)
     for number, (g,) in WITNESSES['make_reciprocal'].items():
         assert p.make_reciprocal(g)[0] == number
     for j in range(12, 29):                         # with no rounding at all
