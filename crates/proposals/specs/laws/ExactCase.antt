@@ -76,13 +76,13 @@ module _ (j : ℕ) (l : j ≤ 28) where
       improved-constant (powerValue j) (inverse j) (value-plain j l) (correction-plain j l) ∙ ap constantList (improved-inverse j l) in
       rw (e, no-change (inverse j) (no-difference j l))
 
-  round-finite : finiteRound (exactRound j) ≡ true
+  exact-finite : finiteRound (exactRound j) ≡ true
   unfolding finiteRound
-  round-finite = rw (constant-finite (inverse j) (inverse-finite j l))
+  exact-finite = rw (constant-finite (inverse j) (inverse-finite j l))
 
   -- settled in the first round, with change +0, however many rounds are allowed
   pub exact-first : (n : ℕ) → rounds (suc n) (constantList (powerValue j)) (exactRound j) ≡ madeOf true (Settled nought) (exactRound j)
-  exact-first n = round-settled (constantList (powerValue j)) (exactRound j) (exactRound j) (suc n) n (sym first-round) refl round-finite nought-settles
+  exact-first n = round-settled (constantList (powerValue j)) (exactRound j) (exactRound j) (suc n) n (sym first-round) refl exact-finite nought-settles
 
   of-constant : reciprocalRounds (constantList (powerValue j)) ≡ madeOf true (Settled nought) (exactRound j)
   unfolding reciprocalRounds inverse constantList

@@ -1,4 +1,4 @@
--- The change of a round (Rounds.antt) loses no difference that is not finite.
+-- The change of a round (Rounds.antt): where it is finite, every difference that it is the largest of is finite.
 use mathlib.Core.Bool.{Bool, true, false, not, _&&_, cond, Bool·beq}
 use mathlib.Core.List.{List, [], _∷_}
 use Prim.Native.Nat.{ℕ, zero, suc, _+_, _-_, _*_, _/_, _%_, _^_, compare}

@@ -1,4 +1,5 @@
--- A result that is finite comes of finite numbers: no operation here turns a NaN or an infinity into a finite number.
+-- Sums, differences, products and halves that are finite come of finite numbers: none of these operations makes a finite number of
+-- a NaN or an infinity.
 use mathlib.Core.Bool.{Bool, true, false, cond}
 use mathlib.Core.List.{List, [], _∷_, map}
 use lib.Dec.{T, eqb}
