@@ -28,9 +28,9 @@ from random import Random
 
 import cases
 import certificate_cases
+import faults
 import job_cases
 import oracle as o
-import planted as faults
 import proposal_cases
 import proposal_oracle
 import scratch_cases

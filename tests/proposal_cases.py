@@ -52,7 +52,7 @@ def two_terms(first, place, other):
 # A divisor for each number of rounds that settles, S and a term beside it.
 SETTLING = {3: (1, 1048), 4: (1, 65536), 5: (1, 262144), 6: (1, 524288), 7: (31, S), 8: (1, 917504), 9: (3, 688128),
             10: (3, 720896), 11: (2, 851968), 12: (3, 786432)}
-# w is given up with the largest change that is finite, and f times w is not if f is large.
+# w is given up near the end of the doubles: it is finite, and f times w is not if f is large.
 DIVERGING = two_terms(S, 1, 1248179)
 # In round 12 sums leave the doubles whose halves do not: 15, since they are halved last.
 HALVED_LAST = [two_terms(S, 1, other) for other in (1248190, 1248200, 1248300)]
@@ -68,7 +68,7 @@ def constants():
 
 
 def at_small_change():
-    """The first change is g_1/g_0^2: exactly 2^-24, and the smallest steps on both sides of it."""
+    """The first change is g_k/g_0^2: exactly 2^-24, and the smallest steps on both sides of it."""
     for k in range(6):
         first, other = 1 << (22 + k), 1 << 2 * k
         for place in (1, 2, 17, 31, 32):

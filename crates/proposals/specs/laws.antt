@@ -13,3 +13,4 @@ pub mod FiniteWalk
 pub mod FiniteChange
 pub mod FiniteLaws
 pub mod EndingLaws
+pub mod Examples

@@ -1,12 +1,13 @@
-// The makers over lent areas: numbers behind those in use play no part and stay; an area that is itself too short is not written to.
-// If any is, refusal 1 before all else.
+// The makers over lent areas: numbers behind those in use play no part and stay; an area that is itself too short is not written
+// to. If any is, refusal 1 before all else.
 ghost use mathlib.Core.Path.{_≡_};
 ghost use mathlib.Core.List.{[], _∷_, _++_};
 ghost use Prim.Native.Nat.{_≤_};
 ghost use lib.ListN.{length};
 ghost use Rattle.model.specs.definitions.Area.{candidateSize, areaOut};
 ghost use Rattle.model.specs.definitions.Models.{maxDegree};
-ghost use Rattle.proposals.specs.definitions.Areas.{valueCount, roundSize, quotientSize, outcomeSize, roundNumbers, candidateNumbers};
+ghost use Rattle.proposals.specs.definitions.Areas.{valueCount, roundSize, quotientSize, outcomeSize};
+ghost use Rattle.proposals.specs.definitions.Areas.{roundNumbers, candidateNumbers};
 ghost use Rattle.proposals.specs.definitions.Areas.{endingNumber, reciprocalIn, reciprocalAnswer, makeReciprocalAnswer};
 ghost use Rattle.proposals.specs.definitions.Areas.{quotientIn, quotientAnswer, makeQuotientAnswer};
 ghost use Rattle.proposals.specs.definitions.Areas.{unitsIn, unitsAnswer, toUnitsAnswer, areaValues};

@@ -1,5 +1,5 @@
--- Lent areas, and models and candidates in areas of signed 32-bit numbers. A model is "35 numbers … (degree, coefficients, radius)"; "A
--- candidate is a model without a radius".
+-- Lent areas, and models and candidates in areas of signed 32-bit numbers. A model is "35 numbers … (degree, coefficients,
+-- radius)"; "A candidate is a model without a radius".
 use mathlib.Core.Bool.{Bool, cond}
 use mathlib.Core.List.{List, [], _∷_, _++_}
 use Prim.Native.Nat.{ℕ, _+_, _-_, _^_, _≤_}

@@ -1,5 +1,5 @@
--- What the makers answer and leave in lent areas. One that is too short for its numbers is refusal 1, before all else; what an area
--- holds afterwards depends on its own length alone.
+-- What the makers answer and leave in lent areas. One that is too short for its numbers is refusal 1, before all else; what an
+-- area holds afterwards depends on its own length alone.
 use mathlib.Core.Bool.{Bool, cond, _&&_}
 use mathlib.Core.List.{List, [], _∷_, _++_}
 use Prim.Native.Nat.{ℕ}
@@ -68,7 +68,8 @@ reciprocalIn p recorded w outcome =
     (areaOut outcomeSize (endingNumber (payload p .ending) ∷ []) outcome)
 
 abbrev pub reciprocalFits : List ℤ → List Float → List ℤ → List ℕ → Bool
-reciprocalFits g recorded w outcome = fits modelSize g && fits roundSize recorded && fits candidateSize w && fits outcomeSize outcome
+reciprocalFits g recorded w outcome =
+    fits modelSize g && fits roundSize recorded && fits candidateSize w && fits outcomeSize outcome
 
 abbrev pub makeReciprocalAnswer : List ℤ → List Float → List ℤ → List ℕ → ReciprocalAnswer
 makeReciprocalAnswer g recorded w outcome =
@@ -129,4 +130,6 @@ unitsIn p units = unitsAnswer (number p) (areaOut candidateSize (candidateNumber
 
 abbrev pub toUnitsAnswer : List Float → List ℤ → UnitsAnswer
 toUnitsAnswer values units =
-    unitsIn (cond (fits valueCount values && fits candidateSize units) (inUnits (areaValues values)) (refused 1 zeroCandidate)) units
+    unitsIn
+    (cond (fits valueCount values && fits candidateSize units) (inUnits (areaValues values)) (refused 1 zeroCandidate))
+    units

@@ -1,5 +1,5 @@
--- "A product adds its pairs to zero by rising i (first-named factor), then rising j, at i+j before |i−j|, and halves last, each step
--- rounded once." The walk is that of whole numbers (chebyshev's Product.antt), with f64's sum and product.
+-- "A product adds its pairs to zero by rising i (first-named factor), then rising j, at i+j before |i−j|, and halves last, each
+-- step rounded once." The walk is that of whole numbers (chebyshev's Product.antt), with f64's sum and product.
 use mathlib.Core.List.{List, map}
 use Prim.Native.Nat.{ℕ}
 use lib.ListN.{replicate}

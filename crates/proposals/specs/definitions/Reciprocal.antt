@@ -1,5 +1,5 @@
--- "Add a maker of reciprocal proposals in f64": what it answers. Nothing of it is promised but these numbers; "only the ordinary test
--- vouches for" a proposal.
+-- "Add a maker of reciprocal proposals in f64": what it answers. Nothing of it is promised but these numbers: "only the ordinary
+-- test vouches for" a proposal.
 use mathlib.Core.Bool.{false, cond}
 use mathlib.Core.List.{List, [], _∷_, map}
 use lib.ListN.{replicate, getD}

@@ -1,5 +1,5 @@
--- Numbers in f64. "Coefficients stand for units over S." "each step rounded once": each operation is lib.Ieee's at binary64, and no
--- two are fused.
+-- Numbers in f64. "Coefficients stand for units over S." "each step rounded once": each operation is lib.Ieee's at binary64, and
+-- no two are fused.
 use mathlib.Core.Bool.{Bool, true, false, _&&_, cond}
 use mathlib.Core.List.{List, [], _∷_}
 use lib.IntN.{ℤ, pos, negsuc}
