@@ -1,8 +1,8 @@
 // Makers of proposals in f64. What they make is fixed to the last bit, and nothing of it is trusted: the ordinary test vouches.
 pub mod areas;
 mod product;
-mod quotient;
-mod reciprocal;
+pub mod quotient;
+pub mod reciprocal;
 mod rounds;
 pub mod types;
 pub mod units;

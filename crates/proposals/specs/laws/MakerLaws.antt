@@ -10,6 +10,7 @@ use lib.Ieee.{Float, nan, binary64, div, eq}
 use Rattle.chebyshev.specs.definitions.Coefficients.{weight}
 use Rattle.model.specs.definitions.Models.{good, maxWeight, badPlace}
 use Rattle.model.specs.definitions.Outcomes.{Outcome, accepted, refused, passing, numberOf, judged}
+use Rattle.model.specs.laws.OutcomeLaws.{judged-injective}
 use Rattle.model.specs.declared.types.Model.{Model}
 use Rattle.model.specs.declared.types.Candidate.{Candidate}
 use Rattle.model.specs.declared.types.Refusal.{Refusal}
@@ -18,13 +19,16 @@ use Rattle.model.specs.declared.types.Verdict.the-variants.{Accepted, Refused}
 use Rattle.proposals.specs.definitions.Values.{nought, one, allFinite}
 use Rattle.proposals.specs.definitions.Product.{product}
 use Rattle.proposals.specs.definitions.Rounds.{rounds, roundOf, madeOf}
-use Rattle.proposals.specs.definitions.Units.{unitsOf, candidateIn, zeroCandidate, inUnits}
-use Rattle.proposals.specs.definitions.Reciprocal.{valuesOf, firstValue, constantList, zeroRound, reciprocalRounds, makeReciprocal, refusedReciprocal, reciprocalProposal}
-use Rattle.proposals.specs.definitions.Quotient.{Quotient, makeQuotient, refusedQuotient, quotientProposal}
+use Rattle.proposals.specs.definitions.Units.{unitsOf, candidateIn, zeroCandidate, inUnits, inUnitsOf}
+use Rattle.proposals.specs.definitions.Reciprocal.{valuesOf, firstValue, constantList, zeroRound, reciprocalRounds, makeReciprocal, refusedReciprocal, reciprocalProposal, reciprocalOf}
+use Rattle.proposals.specs.definitions.Quotient.{Quotient, makeQuotient, refusedQuotient, quotientProposal, quotientOf}
 use Rattle.proposals.specs.definitions.InnerContracts.{limitedUnits}
 use Rattle.proposals.specs.laws.UnitsLaws.{limited-list, weight-over, weight-within}
 use Rattle.proposals.specs.laws.RoundsLaws.{FiniteIn, rounds-finite, changeIn, rounds-change}
 use Rattle.proposals.specs.declared.types.Made.{Made}
+use Rattle.proposals.specs.declared.types.CandidateOutcome.{CandidateOutcome}
+use Rattle.proposals.specs.declared.types.ReciprocalOutcome.{ReciprocalOutcome}
+use Rattle.proposals.specs.declared.types.QuotientOutcome.{QuotientOutcome}
 use Rattle.proposals.specs.declared.types.Ending.the-variants.{GivenUp}
 
 -- ---- a list in units: u is the list that code has, with sizes cut at 2^29, and t its weight
@@ -149,3 +153,19 @@ module _ (f g : Model) where
               ∙ ap (cond (ltb maxWeight (weight (map unitsOf q))) (refused 16 refusedQuotient)) (finite-units (second h) refusedQuotient v finite)
               ∙ rw (bf, bg, ← em, e, ← eq, a)
           go false a = ap (thenUnits first refusedQuotient) (sym (units-not-finite q a)) ∙ rw (bf, bg, ← em, e, ← eq, a)
+
+-- ---- no two answers of code have one meaning
+
+pub inUnitsOf-injective : (r s : CandidateOutcome) → inUnitsOf r ≡ inUnitsOf s → r ≡ s
+inUnitsOf-injective r s e =
+    let (v, c) = judged-injective (r .verdict) (s .verdict) (r .candidate) (s .candidate) e in λ i. record { verdict = v i; candidate = c i }
+
+pub reciprocalOf-injective : (r s : ReciprocalOutcome) → reciprocalOf r ≡ reciprocalOf s → r ≡ s
+reciprocalOf-injective r s e =
+    let (v, m) = judged-injective (r .verdict) (s .verdict) _ _ e in
+    λ i. record { verdict = v i; ending = m i .ending; round = m i .round; w = m i .w }
+
+pub quotientOf-injective : (r s : QuotientOutcome) → quotientOf r ≡ quotientOf s → r ≡ s
+quotientOf-injective r s e =
+    let (v, m) = judged-injective (r .verdict) (s .verdict) _ _ e in
+    λ i. record { verdict = v i; ending = m i .ending; quotient = m i .quotient; round = m i .round; h = m i .h; w = m i .w }
