@@ -319,8 +319,9 @@ uint32_t ferruntzo_quotient_of_two(const int32_t *f, size_t f_len,
    of f and g play no part in making; the test counts them.
 
    A value is a coefficient in units over S, as a double.  w starts as the constant
-   1 / g_0.  A round makes w times (2 - g times w) of it; its change is the largest
-   absolute difference of a coefficient before and after.  After each round: settled,
+   1 / g_0.  A round makes w times (2 - g times w) of it, the constant 2 being zero
+   beyond place 0; its change is the largest absolute difference of a coefficient
+   before and after, each difference rounded.  After each round: settled,
    if the change is at most 2^-24; after 12 rounds without that: given up.  A product
    has degree 32: from zero, for each i of the first-named factor by rising i, and each
    j of the other by rising j, a_i b_j is added at place i + j, if that is at most 32,
@@ -332,21 +333,25 @@ uint32_t ferruntzo_quotient_of_two(const int32_t *f, size_t f_len,
    Settled and given up are both accepted (0), each with its lists:
    - record (double), of a reciprocal: w_0 .. w_32, then the change of the last round;
      of a quotient: the 33 values of f times w, then these 34 numbers.  Each is finite;
-   - h and w: candidates of degree 32, in units, as ferruntzo_quotient takes them;
+   - h and w: candidates of degree 32, in units, as ferruntzo_quotient takes them.  For
+     a proposal p of ferruntzo_quotient_of_two lend p, 34 as h and p + 34, 34 as w;
    - outcome[0]: FERRUNTZO_SETTLED or FERRUNTZO_GIVEN_UP.  Its change is the last
      number of record.
    Settled proves nothing: g = S + S T_31 vanishes at -1 and settles in round 7, and
-   ferruntzo_quotient then refuses w with 5.  Given up need not fail the test.  Where
+   ferruntzo_quotient then refuses it with 5.  (A lone w is tested as the quotient of
+   the constant S by g, with w as both h and w.)  Given up need not fail the test.  Where
    g has a zero from -1 to 1 no proposal passes.
 
    Refused, 1 included: each area that is written is zero, if it has its numbers:
    record is +0.0, h, w and units have degree 0, outcome[0] is 0 (given up).
 
    The machine's double must be IEEE binary64, with the floating environment that a C
-   program starts with: rounding to nearest, subnormal numbers kept.  (fesetround can
-   change that, and so does linking with gcc -ffast-math.)
+   program starts with: rounding to nearest, subnormal numbers kept, exceptions masked.
+   (fesetround can change that, and so does linking with gcc -ffast-math.)  Overflow
+   and invalid operations are how 15 arises: with exceptions enabled (feenableexcept) a
+   call may trap, and exception flags may be set after a call.
    An area of doubles that is written may hold any bits before, signalling NaNs too.
-   About 5.5 kB of stack. */
+   About 5.5 kB of stack.  There is no maker for roots; 15 and 16 never come of a job. */
 
 /* w for 1/g.  Sizes: g 35, record 34, w 34, outcome 1.
    Refusals: 1 (any area), 2 (g), 15 (g_0 is zero, or a value is not finite in some

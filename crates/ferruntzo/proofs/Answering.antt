@@ -1,15 +1,15 @@
 -- What the lengths of areas tell, and what operations and tests answer over them.
-use mathlib.Core.Path.{_≡_, refl, sym, ap, subst, _∙_}
-use mathlib.Core.Bool.{Bool, true, false, false≢true, _&&_}
-use mathlib.Core.List.{List, _++_}
-use Prim.Native.Nat.{ℕ, _≤_, _<_}
+use mathlib.Core.Path.{_≡_, ap, _∙_}
+use mathlib.Core.Bool.{Bool, true, _&&_}
+use mathlib.Core.List.{List}
+use Prim.Native.Nat.{ℕ, _≤_}
 use borrow.Author.Tests.{leb-true}
 use lib.IntN.{ℤ}
-use lib.ListN.{length, drop}
-use Rattle.model.specs.definitions.Area.{modelSize, candidateSize, Storable, fits, areaOut}
+use lib.ListN.{length}
+use Rattle.model.specs.definitions.Area.{modelSize, candidateSize, Storable, fits}
 use Rattle.model.specs.definitions.Outcomes.{Outcome, payload, outcomeOf}
 use Rattle.model.specs.laws.AreaLaws.{fit-last}
-use Rattle.model.specs.laws.OutcomeLaws.{payload-judged}
+use Rattle.model.specs.laws.OutcomeLaws.{held-judged}
 use Rattle.model.specs.declared.types.Model.{Model}
 use Rattle.model.specs.declared.types.ModelOutcome.{ModelOutcome}
 use Rattle.certificate.specs.definitions.Tests.{scratchSize, scratchAfter, Certificate, testOf}
@@ -49,11 +49,10 @@ pub answered : {A : Type 0} (f : A → Outcome Model) {o : Outcome Model} {read 
 answered f out a o r = a ∙ ap (λ x. outcomeIn x out) (o ∙ ap f r)
 
 pub outcome-storable : (r : ModelOutcome) {o : Outcome Model} → outcomeOf r ≡ o → Storable (payload o) → Storable (r .model)
-outcome-storable r e h = subst Storable (ap payload (sym e) ∙ payload-judged (r .verdict) (r .model)) h
+outcome-storable r e h = held-judged Storable (r .verdict) (r .model) e h
 
 pub test-storable : (r : TestOutcome) {o : Outcome Certificate} → testOf r ≡ o → Storable (payload o .model) → Storable (r .model)
-test-storable r e h =
-    subst (λ (c : Certificate). Storable (c .model)) (ap payload (sym e) ∙ payload-judged (r .verdict) _) h
+test-storable r e h = held-judged (λ (c : Certificate). Storable (c .model)) (r .verdict) _ e h
 
 -- ---- what a test answers over its areas
 

@@ -1,6 +1,6 @@
 -- What the makers store has degrees that 32-bit numbers hold, and what the lengths of their areas tell.
 use borrow.Author.Tests.{leb-true}
-use mathlib.Core.Path.{_≡_, sym, ap, subst, _∙_}
+use mathlib.Core.Path.{_≡_}
 use mathlib.Core.Bool.{true, _&&_}
 use mathlib.Core.List.{List}
 use Prim.Native.Nat.{ℕ, _≤_}
@@ -10,9 +10,9 @@ use lib.ListN.{length}
 use lib.Ieee.{Float}
 use Rattle.model.specs.definitions.Models.{maxDegree}
 use Rattle.model.specs.definitions.Area.{modelSize, candidateSize, fits}
-use Rattle.model.specs.definitions.Outcomes.{Outcome, refused, payload}
+use Rattle.model.specs.definitions.Outcomes.{refused}
 use Rattle.model.specs.laws.AreaLaws.{fit-last}
-use Rattle.model.specs.laws.OutcomeLaws.{payload-judged}
+use Rattle.model.specs.laws.OutcomeLaws.{held-judged}
 use Rattle.model.specs.laws.ResultLaws.{outcome-payload}
 use Rattle.model.specs.declared.types.Model.{Model}
 use Rattle.model.specs.declared.types.Candidate.{Candidate}
@@ -48,37 +48,28 @@ unfolding refusedQuotient
 zero-quotient = (zero-list, zero-list)
 
 module _ (r : CandidateOutcome) where
-  stored-list : {o : Outcome Candidate} → inUnitsOf r ≡ o → ofUnits (payload o) → ofUnits (r .candidate)
-  stored-list e h = subst ofUnits (ap payload (sym e) ∙ payload-judged (r .verdict) (r .candidate)) h
-
   pub list-degree : (v : List Float) → inUnitsOf r ≡ inUnits v → ofUnits (r .candidate)
   unfolding inUnits
-  list-degree v e = stored-list e (outcome-payload ofUnits _ _ _ (λ p. (omega arith)) zero-list)
+  list-degree v e = held-judged ofUnits (r .verdict) _ e (outcome-payload ofUnits _ _ _ (λ p. (omega arith)) zero-list)
 
   pub short-list-degree : inUnitsOf r ≡ refused 1 zeroCandidate → ofUnits (r .candidate)
-  short-list-degree e = stored-list e zero-list
+  short-list-degree e = held-judged ofUnits (r .verdict) _ e zero-list
 
 module _ (r : ReciprocalOutcome) where
-  stored-reciprocal : {o : Outcome Reciprocal} → reciprocalOf r ≡ o → ofReciprocal (payload o) → r .w .degree ≤ maxDegree
-  stored-reciprocal e h = subst ofReciprocal (ap payload (sym e) ∙ payload-judged (r .verdict) _) h
-
   pub reciprocal-degree : (g : Model) → reciprocalOf r ≡ reciprocalProposal g → r .w .degree ≤ maxDegree
   unfolding reciprocalProposal
-  reciprocal-degree g e = stored-reciprocal e (outcome-payload ofReciprocal _ _ _ (λ p. (omega arith)) zero-reciprocal)
+  reciprocal-degree g e = held-judged ofReciprocal (r .verdict) _ e (outcome-payload ofReciprocal _ _ _ (λ p. (omega arith)) zero-reciprocal)
 
   pub short-reciprocal-degree : reciprocalOf r ≡ refused 1 refusedReciprocal → r .w .degree ≤ maxDegree
-  short-reciprocal-degree e = stored-reciprocal e zero-reciprocal
+  short-reciprocal-degree e = held-judged ofReciprocal (r .verdict) _ e zero-reciprocal
 
 module _ (r : QuotientOutcome) where
-  stored-quotient : {o : Outcome Quotient} → quotientOf r ≡ o → ofQuotient (payload o) → (r .h .degree ≤ maxDegree) × (r .w .degree ≤ maxDegree)
-  stored-quotient e h = subst ofQuotient (ap payload (sym e) ∙ payload-judged (r .verdict) _) h
-
   pub quotient-degrees : (f g : Model) → quotientOf r ≡ quotientProposal f g → (r .h .degree ≤ maxDegree) × (r .w .degree ≤ maxDegree)
   unfolding quotientProposal
-  quotient-degrees f g e = stored-quotient e (outcome-payload ofQuotient _ _ _ (λ p. (omega arith, omega arith)) zero-quotient)
+  quotient-degrees f g e = held-judged ofQuotient (r .verdict) _ e (outcome-payload ofQuotient _ _ _ (λ p. (omega arith, omega arith)) zero-quotient)
 
   pub short-quotient-degrees : quotientOf r ≡ refused 1 refusedQuotient → (r .h .degree ≤ maxDegree) × (r .w .degree ≤ maxDegree)
-  short-quotient-degrees e = stored-quotient e zero-quotient
+  short-quotient-degrees e = held-judged ofQuotient (r .verdict) _ e zero-quotient
 
 -- ---- areas that have their numbers
 

@@ -1,10 +1,10 @@
 -- A reversed list by its places, and its end.
-use mathlib.Core.Path.{_≡_, refl, sym, _∙_, ap}
+use mathlib.Core.Path.{_≡_, sym, _∙_, ap}
 use mathlib.Core.List.{List, [], _∷_, _++_, reverse, reverse-cons, reverse-append}
-use Prim.Native.Nat.{ℕ, zero, suc, _+_, _-_, _<_, _≤_}
+use Prim.Native.Nat.{ℕ, zero, suc, _+_, _-_}
 use native.Mathlib.Omega.{arith}
 use lib.ListN.{length, getD, take, drop, length-reverse, length-drop, take-append-drop, List·getD-append}
-use lib.Seq.{drop-append-seam}
+use lib.Seq.{drop-append-seam, getD-at}
 
 module _ {A : Type 0} where
   -- the first n elements reversed are the last n of all reversed
@@ -16,15 +16,10 @@ module _ {A : Type 0} where
       ∙ ap (λ (m : ℕ). drop m (reverse (drop n b) ++ reverse (take n b))) e
       ∙ drop-append-seam (reverse (drop n b)) (reverse (take n b))
 
-  getD-behind : (a : List A) (y : A) (b : List A) (d : A) → getD (a ++ y ∷ b) (length a) d ≡ y
-  getD-behind [] y b d = refl
-  getD-behind (x ∷ a) y b d = getD-behind a y b d
-
   pub getD-reverse : (b : List A) (k j : ℕ) (d : A) → k + suc j ≡ length b → getD (reverse b) k d ≡ getD b j d
   getD-reverse [] k j d h = absurd (omega arith)
   getD-reverse (y ∷ b) k zero d h =
-      let e : k ≡ length (reverse b) = rw length-reverse (omega arith) in
-      ap (λ l. getD l k d) (reverse-cons y b) ∙ ap (λ (i : ℕ). getD (reverse b ++ y ∷ []) i d) e ∙ getD-behind (reverse b) y [] d
+      ap (λ l. getD l k d) (reverse-cons y b) ∙ getD-at (reverse b) y [] d k (rw length-reverse (omega arith))
   getD-reverse (y ∷ b) k (suc j) d h =
       ap (λ l. getD l k d) (reverse-cons y b)
       ∙ List·getD-append (reverse b) (y ∷ []) d k (rw length-reverse (omega arith))

@@ -1,5 +1,5 @@
 // The makers over lent areas: numbers behind those in use play no part and stay; an area that is itself too short is not written
-// to. If any is, refusal 1 before all else.
+// to. If any area is too short, refusal 1 before all else.
 ghost use mathlib.Core.Path.{_≡_};
 ghost use mathlib.Core.List.{[], _∷_, _++_};
 ghost use Prim.Native.Nat.{_≤_};

@@ -3,7 +3,7 @@ ghost use mathlib.Core.Path.{_≡_};
 ghost use mathlib.Core.List.{map};
 ghost use lib.Ieee.{binary64, sub};
 ghost use Rattle.proposals.specs.definitions.Values.{nought};
-ghost use Rattle.proposals.specs.definitions.Rounds.{twoLess, changeFrom, nextRound, finiteRound, rounds, roundOf};
+ghost use Rattle.proposals.specs.definitions.Rounds.{twoLess, changeFrom, nextRound, finiteRound, maxRounds, rounds, roundOf};
 use crate::product::multiply;
 use crate::types::Ending;
 use crate::types::Made;
@@ -75,7 +75,7 @@ fn is_finite_round(r: Round) -> bool
 
 // At most 12 rounds from w on.
 pub(crate) fn run_rounds(g: [f64; COEFFICIENTS], w: [f64; COEFFICIENTS]) -> Made
-    ensures { λ (m : Made). ⌜ m ≡ rounds 12 g (roundOf w nought) ⌝ }
+    ensures { λ (m : Made). ⌜ m ≡ rounds maxRounds g (roundOf w nought) ⌝ }
 {
     let mut r = Round {
         coefficients: w,

@@ -21,7 +21,7 @@ pub enum Ending {
     GivenUp(f64),
 }
 
-// The outcome beside the record; `finite` is false where a value was not.
+// The outcome beside the record; `finite` is false where refusal 15 is due.
 pub(crate) struct Made {
     pub finite: bool,
     pub ending: Ending,

@@ -39,7 +39,7 @@ pub(crate) fn greater(x: f64, y: f64) -> f64
     if x < y { y } else { x }
 }
 
-// Neither an infinity nor a NaN.
+// Neither an infinity nor a NaN. Rattle has no literal of the infinity.
 pub(crate) fn is_finite(x: f64) -> bool
     ensures { λ r. ⌜ r ≡ finite x ⌝ }
 {

@@ -3,10 +3,10 @@ use mathlib.Core.Path.{_≡_, refl, sym, _∙_, ap}
 use mathlib.Core.Bool.{Bool, true, false, cond}
 use mathlib.Core.List.{[], _∷_}
 use Prim.Native.Nat.{ℕ, suc, _+_, _*_, _/_, _≤_, _<_}
-use native.Mathlib.Nat.{mul-comm, mul-right-comm, mul-assoc, mul-le-mul-right, le-of-mul-le-mul-right, eq-of-mul-eq-mul-right, le-of-suc-le-suc, lt-of-not-le}
+use native.Mathlib.Nat.{mul-comm, mul-assoc, mul-le-mul-right, le-of-mul-le-mul-right, eq-of-mul-eq-mul-right, le-of-suc-le-suc, lt-of-not-le}
 use native.Mathlib.Omega.{arith}
 use lib.Dec.{leb}
-use lib.IntN.{ℤ, pos, negsuc, negℤ, natAbs, _+ℤ_, _-ℤ_, _*ℤ_}
+use lib.IntN.{ℤ, pos, natAbs, _+ℤ_, _-ℤ_, _*ℤ_}
 use Rattle.integer.specs.definitions.Rounding.{floor, near, parity}
 use Rattle.integer.specs.laws.Parts.{abs, apart, abs-mul, product, difference}
 use Rattle.integer.specs.laws.IntegerSolver.{reifyℤ, solveℤ}

@@ -1,5 +1,5 @@
 -- Two answers of the code with one meaning are the same answer.
-use mathlib.Core.Path.{_≡_, refl, sym, _∙_, ap}
+use mathlib.Core.Path.{_≡_, refl, sym, _∙_, ap, subst}
 use mathlib.Core.Bool.{cond}
 use Prim.Native.Nat.{ℕ, _<_}
 use native.Mathlib.Omega.{arith}
@@ -84,6 +84,10 @@ module _ {A : Type 0} where
   pub payload-judged : (v : Verdict) (a : A) → payload (judged v a) ≡ a
   payload-judged Accepted a = refl
   payload-judged (Refused r) a = refl
+
+  -- what holds of an outcome's values holds of the values that it was made of
+  pub held-judged : (P : A → Type 0) (v : Verdict) (a : A) {o : Outcome A} → judged v a ≡ o → P (payload o) → P a
+  held-judged P v a e h = subst P (ap payload (sym e) ∙ payload-judged v a) h
 
   pub number-judged : (v : Verdict) (a : A) → number (judged v a) ≡ verdictNumber v
   number-judged Accepted a = refl

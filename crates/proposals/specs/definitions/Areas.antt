@@ -1,5 +1,5 @@
--- What the makers answer and leave in lent areas. One that is too short for its numbers is refusal 1, before all else; what an
--- area holds afterwards depends on its own length alone.
+-- What the makers answer and leave in lent areas. One that is too short for its numbers is refusal 1, before all else; whether
+-- an area is written to depends on its own length alone.
 use mathlib.Core.Bool.{Bool, cond, _&&_}
 use mathlib.Core.List.{List, [], _∷_, _++_}
 use Prim.Native.Nat.{ℕ}

@@ -1,5 +1,5 @@
 -- What inner functions ask and give.
-use Prim.Native.Nat.{ℕ, _-_, _^_, min}
+use Prim.Native.Nat.{_-_, _^_, min}
 use lib.IntN.{ℤ, pos, negsuc}
 use lib.Ieee.{Float}
 use Rattle.proposals.specs.definitions.Units.{unitsOf}

@@ -9,7 +9,7 @@ use Rattle.model.specs.definitions.Outcomes.{Outcome, outcome, judged}
 use Rattle.model.specs.declared.types.Model.{Model}
 use Rattle.model.specs.declared.types.Candidate.{Candidate}
 use Rattle.proposals.specs.definitions.Values.{nought, one, valueOf}
-use Rattle.proposals.specs.definitions.Rounds.{roundOf, madeOf, rounds}
+use Rattle.proposals.specs.definitions.Rounds.{roundOf, madeOf, maxRounds, rounds}
 use Rattle.proposals.specs.definitions.Units.{unitsOf, candidateIn, zeroCandidate, notFinitePlace, weightPlace}
 use Rattle.proposals.specs.declared.types.Round.{Round}
 use Rattle.proposals.specs.declared.types.Made.{Made}
@@ -34,7 +34,7 @@ unfoldable pub reciprocalRounds : List Float → Made
 reciprocalRounds g =
     cond (eq (firstValue g) nought)
     (madeOf false (GivenUp nought) zeroRound)
-    (rounds 12 g (roundOf (constantList (div binary64 one (firstValue g))) nought))
+    (rounds maxRounds g (roundOf (constantList (div binary64 one (firstValue g))) nought))
 
 -- the coefficients of a model as values
 abbrev pub valuesOf : Model → List Float

@@ -40,9 +40,13 @@ nextRound g r =
 unfoldable pub finiteRound : Round → Bool
 finiteRound r = allFinite (r .coefficients) && finite (r .change)
 
--- what the rounds make: whether every value was finite, how they ended, and the last round
+-- what comes of the rounds: whether they are finite (if not, number 15 is due), how they ended, and the last round
 abbrev pub madeOf : Bool → Ending → Round → Made
 madeOf b e r = record { finite = b; ending = e; round = r }
+
+-- "for at most 12 rounds"
+abbrev pub maxRounds : ℕ
+maxRounds = 12
 
 -- "either settled, with the last change, once that is at most 2^-24, or given up, with the last change"
 unfoldable pub rounds : ℕ → List Float → Round → Made

@@ -35,6 +35,7 @@ magnitude x = cond (lt x nought) (neg x) x
 unfoldable pub difference : Float → Float → Float
 difference x y = magnitude (sub binary64 x y)
 
+-- a NaN as y is passed over: it comes of a coefficient that is not finite, for which the round is refused
 unfoldable pub greater : Float → Float → Float
 greater x y = cond (lt x y) y x
 

@@ -2,11 +2,11 @@
 use mathlib.Core.Path.{_≡_, refl, sym, _∙_, ap, subst}
 use mathlib.Core.Bool.{Bool, true, false, cond}
 use Prim.Native.Nat.{ℕ, zero, suc, _+_, _-_, _*_, _/_, _%_, _^_, _≤_, _<_}
-use native.Mathlib.Nat.{le-trans, le-of-eq, le-of-lt, lt-of-lt-of-le, mul-comm, mul-assoc, mul-le-mul-right, mul-le-mul-left, mod-lt, mod-eq-of-lt}
+use native.Mathlib.Nat.{le-trans, le-of-eq, lt-of-lt-of-le, mul-comm, mul-assoc, mul-le-mul-right, mul-le-mul-left, mod-lt, one-mul}
 use native.Mathlib.Omega.{arith}
 use lib.Dec.{T, leb, eqb}
-use lib.IntN.{ℤ, pos, natAbs, _*ℤ_}
-use lib.Pow.{pow-add, pow-pos, pow-mono, pow-lt, shl-lt}
+use lib.IntN.{pos, natAbs}
+use lib.Pow.{pow-add, pow-pos, pow-mono, shl-lt, shl-exact}
 use lib.Ieee.{Float, nan, inf, binary64, odd, ofFields, ofBits, fits, toBits}
 use lib.Ieee.Bits.{ofBits-toBits}
 use lib.Ieee.Exact.{HasValue, odd-sign}
@@ -14,15 +14,14 @@ use lib.Ieee.Scale.{finite}
 use Rattle.integer.specs.definitions.Rounding.{near}
 use Rattle.integer.specs.laws.NearLaws.{near-same, near-small, near-large, near-within}
 use Rattle.proposals.specs.definitions.Units.{signed, unitsOf}
-use Rattle.proposals.specs.definitions.InnerContracts.{limited, limitedUnits}
+use Rattle.proposals.specs.definitions.InnerContracts.{limitedUnits}
 use Rattle.proposals.specs.laws.UnitsLaws.{signed-scaled, signed-size, near-signed, units-value, limited-same, limited-large}
 
 -- 2^s as a shift of 1 has it
 pub shifted-one : (s : ℕ) → s < 54 → 1 * 2 ^ s % 2 ^ 64 ≡ 2 ^ s
 shifted-one s h =
-    let e : 1 * 2 ^ s ≡ 2 ^ s = omega arith in
-    let l : s < 64 = omega arith in
-    rw e (mod-eq-of-lt (pow-lt l))
+    let l : 1 + s ≤ 64 = omega arith in
+    shl-exact 1 s 64 (omega arith) l ∙ one-mul (2 ^ s)
 
 -- the digits with the leading one, which a field of 0 lacks
 abbrev digits : ℕ → ℕ → ℕ

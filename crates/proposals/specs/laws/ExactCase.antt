@@ -19,12 +19,13 @@ use Rattle.model.specs.definitions.Outcomes.{accepted, refused, passing}
 use Rattle.proposals.specs.definitions.Values.{nought, settledLimit, valueOf}
 use Rattle.proposals.specs.definitions.Rounds.{nextRound, finiteRound, roundOf, madeOf, improved, rounds}
 use Rattle.proposals.specs.definitions.Units.{signed, unitsOf, candidateIn}
-use Rattle.proposals.specs.definitions.Reciprocal.{constantList, valuesOf, reciprocalRounds, makeReciprocal, refusedReciprocal, reciprocalProposal}
+use Rattle.proposals.specs.definitions.Reciprocal.{constantList, reciprocalRounds, makeReciprocal, refusedReciprocal, reciprocalProposal}
 use Rattle.proposals.specs.laws.UnitsLaws.{units-value, signed-scaled}
 use Rattle.proposals.specs.laws.RoundsLaws.{round-settled}
 use Rattle.proposals.specs.laws.ConstantProduct.{map-replicate, improved-constant, no-change, constant-finite}
 use Rattle.proposals.specs.laws.PowerLaws.{powerValue, inverse, inverse-value, inverse-finite, power-nonzero, no-difference, value-plain, correction-plain, improved-inverse}
 use Rattle.proposals.specs.declared.types.Round.{Round}
+use Rattle.model.specs.declared.types.Model.{Model}
 use Rattle.proposals.specs.declared.types.Ending.the-variants.{Settled}
 
 -- ---- constants
@@ -49,8 +50,8 @@ no-units : unitsOf nought ≡ pos 0
 unfolding unitsOf near floor
 no-units = refl
 
-constant-values : (n : ℕ) → valuesOf (constantModel (pos n)) ≡ constantList (valueOf (pos n))
-unfolding constantModel constantList
+constant-values : (n : ℕ) → map valueOf (constantUnits (pos n)) ≡ constantList (valueOf (pos n))
+unfolding constantList
 constant-values n = ap (λ (a : List Float). valueOf (pos n) ∷ a) (map-replicate valueOf 32 (pos 0) nought no-value)
 
 constant-units : (x : Float) (c : ℤ) → unitsOf x ≡ c → map unitsOf (constantList x) ≡ constantUnits c
@@ -89,7 +90,7 @@ module _ (j : ℕ) (l : j ≤ 28) where
   of-constant = rw (power-nonzero j l) (exact-first 11)
 
   -- so of the 12 rounds that are allowed one is made
-  pub exact-rounds : reciprocalRounds (valuesOf (constantModel (pos (2 ^ j)))) ≡ madeOf true (Settled nought) (roundOf (constantList (inverse j)) nought)
+  pub exact-rounds : reciprocalRounds (map valueOf (constantUnits (pos (2 ^ j)))) ≡ madeOf true (Settled nought) (exactRound j)
   exact-rounds = ap reciprocalRounds (constant-values (2 ^ j)) ∙ of-constant
 
   -- "with no rounding at all": the inverse is exactly S / 2^j
@@ -105,7 +106,7 @@ module _ (j : ℕ) (l : j ≤ 28) where
   units-are = units-value (inverse j) false (2 ^ 20) (2 ^ j) (pow-pos j) exact-value ∙ rw whole-units (near-whole (pos (2 ^ (40 - j))) (2 ^ j) (pow-pos j))
 
   -- in units 2^(40−j), 0, …, 0
-  pub exact-units : map unitsOf (constantList (inverse j)) ≡ pos (2 ^ (40 - j)) ∷ replicate 32 (pos 0)
+  pub exact-units : map unitsOf (constantList (inverse j)) ≡ constantUnits (pos (2 ^ (40 - j)))
   exact-units = constant-units (inverse j) (pos (2 ^ (40 - j))) units-are
 
   good-power : good (constantModel (pos (2 ^ j))) ≡ true
@@ -113,19 +114,26 @@ module _ (j : ℕ) (l : j ≤ 28) where
 
 -- ---- the whole answer
 
--- nothing is refused
-pub exact-proposal : (j : ℕ) → 12 ≤ j → j ≤ 28
-    → reciprocalProposal (constantModel (pos (2 ^ j)))
-    ≡ accepted (makeReciprocal (Settled nought) (roundOf (constantList (inverse j)) nought) (candidateIn (pos (2 ^ (40 - j)) ∷ replicate 32 (pos 0))))
-unfolding reciprocalProposal passing
-exact-proposal j h l =
-    let i : 40 - j ≤ 28 = omega arith in
-    rw (good-power j l, exact-rounds j l, exact-units j l, constant-weight (2 ^ (40 - j)), le-ltb maxWeight (2 ^ (40 - j)) (pow-mono i))
+-- "A constant model whose coefficient is a power of two": whatever its degree and its radius
+module _ (g : Model) (j : ℕ) (b : good g ≡ true) (c : g .coefficients ≡ constantUnits (pos (2 ^ j))) where
+  -- "from 2^12 to 2^28": nothing is refused
+  pub exact-proposal : 12 ≤ j → j ≤ 28
+      → reciprocalProposal g ≡ accepted (makeReciprocal (Settled nought) (exactRound j) (candidateIn (constantUnits (pos (2 ^ (40 - j))))))
+  unfolding reciprocalProposal passing
+  exact-proposal h l =
+      let i : 40 - j ≤ 28 = omega arith in
+      rw (b, c, exact-rounds j l, exact-units j l, constant-weight (2 ^ (40 - j)), le-ltb maxWeight (2 ^ (40 - j)) (pow-mono i))
 
--- a smaller power: the reciprocal is as exact, and weighs more than 2^28
-pub below-the-exact-case : (j : ℕ) → j < 12 → reciprocalProposal (constantModel (pos (2 ^ j))) ≡ refused 16 refusedReciprocal
-unfolding reciprocalProposal passing
-below-the-exact-case j h =
-    let l : j ≤ 28 = omega arith in
-    let i : 28 < 40 - j = omega arith in
-    rw (good-power j l, exact-rounds j l, exact-units j l, constant-weight (2 ^ (40 - j)), lt-ltb maxWeight (2 ^ (40 - j)) (pow-lt i))
+  -- a smaller power: the reciprocal is as exact, and weighs more than 2^28
+  pub below-the-exact-case : j < 12 → reciprocalProposal g ≡ refused 16 refusedReciprocal
+  unfolding reciprocalProposal passing
+  below-the-exact-case h =
+      let l : j ≤ 28 = omega arith in
+      let i : 28 < 40 - j = omega arith in
+      rw (b, c, exact-rounds j l, exact-units j l, constant-weight (2 ^ (40 - j)), lt-ltb maxWeight (2 ^ (40 - j)) (pow-lt i))
+
+-- of degree 0 and radius 0
+pub exact-constant : (j : ℕ) → 12 ≤ j → j ≤ 28
+    → reciprocalProposal (constantModel (pos (2 ^ j))) ≡ accepted (makeReciprocal (Settled nought) (exactRound j) (candidateIn (constantUnits (pos (2 ^ (40 - j))))))
+unfolding constantModel
+exact-constant j h l = exact-proposal (constantModel (pos (2 ^ j))) j (good-power j l) refl h l

@@ -1,25 +1,27 @@
 -- Closed values of the makers' definitions.
-use mathlib.Core.Path.{_≡_, refl}
+use mathlib.Core.Path.{_≡_, refl, sym}
 use mathlib.Core.Bool.{true, false}
 use mathlib.Core.List.{List, [], _∷_, _++_, map}
 use Prim.Native.Nat.{_+_, _^_}
-use lib.IntN.{ℤ, pos, negsuc, negℤ}
+use lib.IntN.{pos, negsuc}
 use lib.ListN.{replicate}
-use lib.Ieee.{Float, nan, inf, fin, round, add, mul, div, sub, neg, sum, lt, le, eq, ofInt}
+use lib.Ieee.{Float, inf, fin, round, add, mul, div, sub, neg, sum, lt, le, eq, ofInt}
 use Rattle.integer.specs.definitions.Rounding.{floor, near}
 use Rattle.integer.specs.definitions.Lists.{zeros}
 use Rattle.chebyshev.specs.definitions.Coefficients.{weight}
 use Rattle.chebyshev.specs.definitions.Product.{addAtBy, addPairBy, addTermBy, addTermsBy}
 use Rattle.model.specs.definitions.Models.{good, zeroModel, makeModel}
 use Rattle.model.specs.definitions.Area.{areaOut}
-use Rattle.model.specs.definitions.Outcomes.{Outcome, accepted, refused, passing}
+use Rattle.model.specs.definitions.Outcomes.{accepted, refused, passing}
 use Rattle.proposals.specs.definitions.Values.{nought, one, two, settledLimit, difference, magnitude, greater, allFinite, valueOf}
 use Rattle.proposals.specs.definitions.Product.{half, productWide}
-use Rattle.proposals.specs.definitions.Rounds.{twoLess, changeFrom, finiteRound, roundOf, madeOf, rounds}
+use Rattle.proposals.specs.definitions.Rounds.{twoLess, improved, changeFrom, nextRound, finiteRound, roundOf, madeOf, rounds}
 use Rattle.proposals.specs.definitions.Units.{unitsOf, candidateIn, zeroCandidate, inUnits}
 use Rattle.proposals.specs.definitions.Reciprocal.{zeroRound, reciprocalRounds, refusedReciprocal, reciprocalProposal}
 use Rattle.proposals.specs.definitions.Quotient.{refusedQuotient, quotientProposal}
 use Rattle.proposals.specs.definitions.Areas.{reciprocalAnswer, reciprocalIn, makeReciprocalAnswer, quotientAnswer, quotientIn, makeQuotientAnswer, unitsAnswer, unitsIn, toUnitsAnswer}
+use Rattle.proposals.specs.laws.RoundsLaws.{round-settled}
+use Rattle.proposals.specs.declared.types.Round.{Round}
 use Rattle.proposals.specs.declared.types.Ending.the-variants.{Settled, GivenUp}
 
 -- 2^-52, 2^-21 (half a unit), 3 and 256
@@ -69,6 +71,34 @@ limit-settles = refl
 two-less-a-list : twoLess (one ∷ one ∷ nought ∷ []) ≡ one ∷ fin true 1 (pos 0) ∷ nought ∷ []
 unfolding twoLess sub add neg round sum
 two-less-a-list = refl
+
+-- ---- rounds
+
+-- g = (2^22, 1) units, as values, from w = 1/4: w becomes 1/4 − 2^-24·T_1, and the change is exactly 2^-24
+abbrev divisor : List Float
+divisor = fin false 1 (pos 2) ∷ fin false 1 (negsuc 19) ∷ []
+
+abbrev start : Round
+start = roundOf (fin false 1 (negsuc 1) ∷ nought ∷ []) one
+
+abbrev after : Round
+after = roundOf (fin false 1 (negsuc 1) ∷ fin true 1 (negsuc 23) ∷ replicate 31 nought) settledLimit
+
+one-round : nextRound divisor start ≡ after
+unfolding nextRound improved twoLess productWide addTermsBy addTermBy addPairBy addAtBy half changeFrom greater difference magnitude add mul div sub neg lt round sum
+one-round = refl
+
+after-finite : finiteRound after ≡ true
+unfolding finiteRound allFinite
+after-finite = refl
+
+-- it settles in the first of 12 rounds; where no round is allowed, it is given up with the change that is there
+settles-at-limit : rounds 12 divisor start ≡ madeOf true (Settled settledLimit) after
+settles-at-limit = round-settled divisor start after 12 11 (sym one-round) refl after-finite limit-settles
+
+no-round : rounds 0 divisor start ≡ madeOf true (GivenUp one) start
+unfolding rounds
+no-round = refl
 
 -- ---- units
 

@@ -1,14 +1,14 @@
 -- What the makers answer, by what code finds: a list in units (Units.antt) is refused or goes on.
 use borrow.Author.Tests.{lt-ltb, le-ltb}
 use mathlib.Core.Path.{_≡_, refl, sym, _∙_, ap, subst}
-use mathlib.Core.Bool.{Bool, true, false, not, _&&_, cond}
-use mathlib.Core.List.{List, [], _∷_, map}
+use mathlib.Core.Bool.{Bool, true, false, cond}
+use mathlib.Core.List.{List, map}
 use Prim.Native.Nat.{ℕ, _≤_, _<_, _^_}
 use lib.Dec.{T, ltb}
 use lib.IntN.{ℤ}
-use lib.Ieee.{Float, nan, binary64, div, eq}
+use lib.Ieee.{Float, binary64, div, eq}
 use Rattle.chebyshev.specs.definitions.Coefficients.{weight}
-use Rattle.model.specs.definitions.Models.{good, maxWeight, badPlace}
+use Rattle.model.specs.definitions.Models.{good, maxWeight}
 use Rattle.model.specs.definitions.Outcomes.{Outcome, accepted, refused, passing, numberOf, judged}
 use Rattle.model.specs.laws.OutcomeLaws.{judged-injective}
 use Rattle.model.specs.declared.types.Model.{Model}

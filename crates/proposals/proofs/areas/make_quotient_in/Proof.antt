@@ -1,6 +1,6 @@
 -- `areas::make_quotient_in` meets its contract.
 use borrow.Author.Needs.{needs}
-use mathlib.Core.Path.{_≡_, ap, ap₂, _∙_}
+use mathlib.Core.Path.{ap, ap₂, _∙_}
 use denote.Ref.{now}
 use Rattle.proposals.specs.definitions.Quotient.{quotientProposal}
 use Rattle.proposals.specs.definitions.Areas.{quotientIn}

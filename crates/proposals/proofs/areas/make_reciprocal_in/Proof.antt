@@ -1,6 +1,6 @@
 -- `areas::make_reciprocal_in` meets its contract.
 use borrow.Author.Needs.{needs}
-use mathlib.Core.Path.{_≡_, ap, _∙_}
+use mathlib.Core.Path.{ap, _∙_}
 use denote.Ref.{now}
 use Rattle.proposals.specs.definitions.Reciprocal.{reciprocalProposal}
 use Rattle.proposals.specs.definitions.Areas.{reciprocalIn}

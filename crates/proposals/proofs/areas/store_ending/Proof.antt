@@ -1,6 +1,6 @@
 -- `areas::store_ending` meets its contract.
 use borrow.Author.Needs.{needs}
-use mathlib.Core.Path.{_≡_, _∙_, ap}
+use mathlib.Core.Path.{_∙_, ap}
 use mathlib.Core.List.{[], _∷_}
 use lib.ListN.{set}
 use lib.Seq.{sets-eq}

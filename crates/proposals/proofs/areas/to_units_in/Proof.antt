@@ -1,7 +1,7 @@
 -- `areas::to_units_in` meets its contract.
 use borrow.Author.Needs.{needs}
 use borrow.Author.Tests.{leb-true}
-use mathlib.Core.Path.{_≡_, ap, _∙_}
+use mathlib.Core.Path.{ap, _∙_}
 use lib.ListN.{length}
 use denote.Ref.{now}
 use Rattle.model.specs.definitions.Area.{candidateSize, fits}

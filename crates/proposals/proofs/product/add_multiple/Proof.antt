@@ -1,5 +1,4 @@
 -- `product::add_multiple` meets its contract: what is left of b, added from place k on, gives the whole pass.
-use borrow.Author.Needs.{needs}
 use mathlib.Core.Path.{_≡_, refl, sym, _∙_, ap}
 use mathlib.Core.Logic.{inl, inr}
 use Prim.Native.Nat.{_+_, _-_, _<_}

@@ -1,6 +1,6 @@
 -- `product::add_term` meets its contract: three passes are the term.
 use borrow.Author.Needs.{needs}
-use mathlib.Core.Path.{_≡_, refl, sym, _∙_, ap}
+use mathlib.Core.Path.{_≡_, _∙_, ap}
 use native.Mathlib.Omega.{arith}
 use lib.ListN.{length, length-reverse}
 use denote.Ref.{now}

@@ -1,7 +1,7 @@
 -- `reciprocal::make_reciprocal` meets its contract.
 use borrow.Author.Needs.{needs}
 use borrow.Author.Tests.{not-true, not-false}
-use mathlib.Core.Path.{_≡_, sym, _∙_, ap}
+use mathlib.Core.Path.{_≡_, sym, _∙_}
 use mathlib.Core.Bool.{true}
 use Rattle.model.specs.definitions.Models.{good}
 use Rattle.model.specs.definitions.Outcomes.{Outcome, accepted}

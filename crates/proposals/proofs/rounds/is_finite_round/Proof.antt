@@ -1,6 +1,5 @@
 -- `rounds::is_finite_round` meets its contract.
 use borrow.Author.Needs.{needs}
-use mathlib.Core.Path.{_≡_}
 use Rattle.proposals.specs.definitions.Rounds.{finiteRound}
 use Rattle.proposals.proofs.rounds.is_finite_round.Statement.{statement}
 use Rattle.proposals.proofs.rounds.is_finite_round.Tie as tie

@@ -1,5 +1,4 @@
 -- `types::zero_round` meets its contract.
-use borrow.Author.Needs.{needs}
 use Rattle.proposals.specs.definitions.Reciprocal.{zeroRound}
 use Rattle.proposals.specs.laws.ValueLaws.{nought-is}
 use Rattle.proposals.proofs.types.zero_round.Statement.{statement}

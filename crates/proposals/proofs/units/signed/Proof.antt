@@ -4,13 +4,11 @@ use borrow.Author.Tests.{le-leb, lt-leb}
 use mathlib.Core.Path.{_≡_, refl}
 use mathlib.Core.Bool.{true}
 use Prim.Native.Nat.{ℕ, zero, suc, _<_, _^_}
-use native.Mathlib.Omega.{arith}
-use lib.IntN.{ℤ, pos, negsuc, negℤ, natAbs, _-ℤ_, +ℤ-idl}
+use lib.IntN.{pos, negsuc, negℤ, _-ℤ_, +ℤ-idl}
 use mir.Syntax.{w64}
 use mir.Val.{SFits, toZ}
 use mir.Facts.{toZ-ofZ, toZ-pos}
 use Rattle.integer.specs.laws.Machine.{abs-fits}
-use Rattle.proposals.specs.definitions.Units.{signed}
 use Rattle.proposals.specs.laws.UnitsLaws.{signed-size}
 use Rattle.proposals.proofs.units.signed.Statement.{statement}
 use Rattle.proposals.proofs.units.signed.Tie as tie
