@@ -13,4 +13,5 @@ pub mod FiniteWalk
 pub mod FiniteChange
 pub mod FiniteLaws
 pub mod EndingLaws
+pub mod FiniteMaking
 pub mod Examples

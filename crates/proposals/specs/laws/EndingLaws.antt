@@ -10,6 +10,7 @@ use lib.Ieee.{Float, binary64, div, eq, le}
 use Rattle.proposals.specs.definitions.Values.{nought, one, settledLimit}
 use Rattle.proposals.specs.definitions.Rounds.{roundOf, nextRound, finiteRound, madeOf, rounds}
 use Rattle.proposals.specs.definitions.Reciprocal.{constantList, firstValue, reciprocalRounds}
+use Rattle.proposals.specs.laws.RoundsLaws.{changeIn}
 use Rattle.proposals.specs.declared.types.Round.{Round}
 use Rattle.proposals.specs.declared.types.Made.{Made}
 use Rattle.proposals.specs.declared.types.Ending.the-variants.{Settled, GivenUp}
@@ -34,8 +35,10 @@ pub record Ends (n : ℕ) (g : List Float) (r : Round) (m : Made) : Type 0 where
   -- whether the last one was finite is what m says
   pub last : 0 < count → finiteRound (m .round) ≡ m .finite
   pub not-finite : m .finite ≡ false → 0 < count
-  pub settled : (d : Float) → m .ending ≡ Settled d → (0 < count) × (m .finite ≡ true) × (settles (m .round) ≡ true)
-  pub given-up : (d : Float) → m .ending ≡ GivenUp d → m .finite ≡ true → (count ≡ n) × ((n ≡ 0) ⊎ (settles (m .round) ≡ false))
+  -- and either outcome carries the last change
+  pub settled : (d : Float) → m .ending ≡ Settled d → (d ≡ m .round .change) × (0 < count) × (m .finite ≡ true) × (settles (m .round) ≡ true)
+  pub given-up : (d : Float) → m .ending ≡ GivenUp d
+      → (d ≡ m .round .change) × (m .finite ≡ true → (count ≡ n) × ((n ≡ 0) ⊎ (settles (m .round) ≡ false)))
 
 apart : (x y : Float) → GivenUp x ≡ Settled y → ⊥
 apart x y e = let z : _≡_ {A = ℕ} 0 1 = cc in omega arith
@@ -50,7 +53,7 @@ none-ends g r = record {
   last = λ p. absurd (omega arith);
   not-finite = λ e. absurd (true≢false e);
   settled = λ d e. absurd (apart (r .change) d e);
-  given-up = λ d e f. (refl, inl refl);
+  given-up = λ d e. (sym (ap changeIn e), λ f. (refl, inl refl));
 }
 
 module _ (n : ℕ) (g : List Float) (r : Round) where
@@ -64,7 +67,7 @@ module _ (n : ℕ) (g : List Float) (r : Round) where
     last = λ p. b;
     not-finite = λ e. omega arith;
     settled = λ d e. absurd (apart (nextRound g r .change) d e);
-    given-up = λ d e f. absurd (true≢false (sym f));
+    given-up = λ d e. (sym (ap changeIn e), λ f. absurd (true≢false (sym f)));
   }
 
   settled-ends : finiteRound (nextRound g r) ≡ true → settles (nextRound g r) ≡ true → Ends (suc n) g r (madeOf true (Settled (nextRound g r .change)) (nextRound g r))
@@ -76,8 +79,8 @@ module _ (n : ℕ) (g : List Float) (r : Round) where
     before = λ i p q. absurd (omega arith);
     last = λ p. b;
     not-finite = λ e. omega arith;
-    settled = λ d e. (omega arith, refl, c);
-    given-up = λ d e f. absurd (apart d (nextRound g r .change) (sym e));
+    settled = λ d e. (sym (ap changeIn e), omega arith, refl, c);
+    given-up = λ d e. absurd (apart d (nextRound g r .change) (sym e));
   }
 
   -- the round goes on, to an end that comes of n rounds
@@ -90,8 +93,11 @@ module _ (n : ℕ) (g : List Float) (r : Round) where
     before = earlier;
     last = λ p. ends (rest .count) refl;
     not-finite = λ e. omega arith;
-    settled = λ d e. let h = rest .settled d e in (omega arith, h .1, h .2);
-    given-up = λ d e f. let h = rest .given-up d e f in (ap suc (h .0), inr (elim (h .1) [ inl z ↦ ap settles (at-once (h .0 ∙ z)) ∙ c | inr o ↦ o ]));
+    settled = λ d e. let h = rest .settled d e in (h .0, omega arith, h .2, h .3);
+    given-up = λ d e. (
+      rest .given-up d e .0,
+      λ f. let h = rest .given-up d e .1 f in (ap suc (h .0), inr (elim (h .1) [ inl z ↦ ap settles (at-once (h .0 ∙ z)) ∙ c | inr o ↦ o ])),
+    );
   }
     where
       earlier : (i : ℕ) → 0 < i → i < suc (rest .count) → (finiteRound (iterated i g r) ≡ true) × (settles (iterated i g r) ≡ false)

@@ -22,7 +22,7 @@ use Rattle.proposals.specs.laws.FiniteChange.{differences, change-finite
 use Rattle.proposals.specs.laws.FiniteWalk.{productsFinite, allProductsFinite, terms-products-finite}
 
 -- a test that is passed, as a fact
-passes : {b : Bool} → b ≡ true → T b
+pub passes : {b : Bool} → b ≡ true → T b
 passes e = subst T (sym e) tt
 
 -- ---- a product
@@ -72,12 +72,12 @@ two-less-finite (x ∷ c) h =
     cons-finite x c (sub-finite binary64 two x (head-finite (sub binary64 two x) (map z c) h) .1)
     (map-finite z (λ y k. sub-finite binary64 nought y k .1) c (tail-finite (sub binary64 two x) (map z c) h))
 
-length-two-less : (c : List Float) → length (twoLess c) ≡ length c
+pub length-two-less : (c : List Float) → length (twoLess c) ≡ length c
 unfolding twoLess
 length-two-less [] = refl
 length-two-less (x ∷ c) = ap suc (length-map c (sub binary64 nought))
 
-length-product : (a b : List Float) → length (product a b) ≡ coefficientCount
+pub length-product : (a b : List Float) → length (product a b) ≡ coefficientCount
 unfolding productWide
 length-product a b =
     length-map (walkTerms (replicate coefficientCount nought, 0) 0 a b .0) half

@@ -6,10 +6,13 @@ use mathlib.Core.List.{List, [], _∷_, map}
 use Prim.Native.Nat.{ℕ, zero, suc, _+_, _-_, _*_, _^_, _≤_, _<_, min}
 use native.Mathlib.Nat.{mul-right-comm, mul-comm}
 use native.Mathlib.Omega.{arith}
+use lib.Dec.{T}
 use lib.IntN.{ℤ, pos, negsuc, negℤ, natAbs, _-ℤ_, _*ℤ_}
 use lib.Ieee.{Float, nan, inf, fin, up, down}
 use lib.Ieee.Fits.{down-pos}
 use lib.Ieee.Exact.{HasValue}
+use lib.Ieee.Positive.{num, den, den-pos}
+use lib.Ieee.Scale.{finite}
 use Rattle.integer.specs.definitions.Rounding.{near, parity}
 use Rattle.integer.specs.laws.Difference.{all2, differences}
 use Rattle.integer.specs.laws.RoundingLaws.{near-error, near-even, near-unique, near-opposite}
@@ -67,6 +70,30 @@ units-even x s a l p v t =
 pub units-unique : (x : Float) (s : Bool) (a l : ℕ) (c : ℤ) → 0 < l → HasValue x s a l → 2 * natAbs (c *ℤ pos l -ℤ signed s (a * scale)) ≤ l
     → (2 * natAbs (c *ℤ pos l -ℤ signed s (a * scale)) ≡ l → parity c ≡ 0) → c ≡ unitsOf x
 units-unique x s a l c p v h t = near-unique (signed s (a * scale)) c l p h t ∙ sym (units-value x s a l p v)
+
+-- ---- any finite f64, by itself: it is ±num x / den x
+
+-- the sign bit
+abbrev pub negative : Float → Bool
+negative nan = false
+negative (inf s) = s
+negative (fin s m e) = s
+
+finite-value : (x : Float) → T (finite x) → HasValue x (negative x) (num x) (den x)
+finite-value nan h = absurd h
+finite-value (inf s) h = absurd h
+finite-value (fin s m e) h = (refl, refl)
+
+module _ (x : Float) (h : T (finite x)) where
+  pub units-of-finite-nearest : 2 * natAbs (unitsOf x *ℤ pos (den x) -ℤ signed (negative x) (num x * scale)) ≤ den x
+  units-of-finite-nearest = units-nearest x (negative x) (num x) (den x) (den-pos x) (finite-value x h)
+
+  pub units-of-finite-even : 2 * natAbs (unitsOf x *ℤ pos (den x) -ℤ signed (negative x) (num x * scale)) ≡ den x → parity (unitsOf x) ≡ 0
+  units-of-finite-even = units-even x (negative x) (num x) (den x) (den-pos x) (finite-value x h)
+
+  pub units-of-finite-unique : (c : ℤ) → 2 * natAbs (c *ℤ pos (den x) -ℤ signed (negative x) (num x * scale)) ≤ den x
+      → (2 * natAbs (c *ℤ pos (den x) -ℤ signed (negative x) (num x * scale)) ≡ den x → parity c ≡ 0) → c ≡ unitsOf x
+  units-of-finite-unique c = units-unique x (negative x) (num x) (den x) c (den-pos x) (finite-value x h)
 
 -- ---- sizes cut at 2^29
 
