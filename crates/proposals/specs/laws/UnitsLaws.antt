@@ -3,8 +3,8 @@
 use mathlib.Core.Path.{_≡_, refl, sym, _∙_, ap}
 use mathlib.Core.Bool.{Bool, true, false}
 use mathlib.Core.List.{List, [], _∷_, map}
-use Prim.Native.Nat.{ℕ, zero, suc, _+_, _-_, _*_, _^_, _≤_, _<_, min}
-use native.Mathlib.Nat.{mul-right-comm, mul-comm}
+use Prim.Native.Nat.{ℕ, zero, suc, _-_, _*_, _^_, _≤_, _<_, min}
+use native.Mathlib.Nat.{mul-right-comm}
 use native.Mathlib.Omega.{arith}
 use lib.Dec.{T}
 use lib.IntN.{ℤ, pos, negsuc, negℤ, natAbs, _-ℤ_, _*ℤ_}
@@ -14,7 +14,7 @@ use lib.Ieee.Exact.{HasValue}
 use lib.Ieee.Positive.{num, den, den-pos}
 use lib.Ieee.Scale.{finite}
 use Rattle.integer.specs.definitions.Rounding.{near, parity}
-use Rattle.integer.specs.laws.Difference.{all2, differences}
+use Rattle.integer.specs.laws.Difference.{differences}
 use Rattle.integer.specs.laws.RoundingLaws.{near-error, near-even, near-unique, near-opposite}
 use Rattle.integer.specs.laws.NearLaws.{near-same, near-natural}
 use Rattle.chebyshev.specs.definitions.Coefficients.{weight}
@@ -74,26 +74,26 @@ units-unique x s a l c p v h t = near-unique (signed s (a * scale)) c l p h t �
 -- ---- any finite f64, by itself: it is ±num x / den x
 
 -- the sign bit
-abbrev pub negative : Float → Bool
-negative nan = false
-negative (inf s) = s
-negative (fin s m e) = s
+abbrev pub signOf : Float → Bool
+signOf nan = false
+signOf (inf s) = s
+signOf (fin s m e) = s
 
-finite-value : (x : Float) → T (finite x) → HasValue x (negative x) (num x) (den x)
+finite-value : (x : Float) → T (finite x) → HasValue x (signOf x) (num x) (den x)
 finite-value nan h = absurd h
 finite-value (inf s) h = absurd h
 finite-value (fin s m e) h = (refl, refl)
 
 module _ (x : Float) (h : T (finite x)) where
-  pub units-of-finite-nearest : 2 * natAbs (unitsOf x *ℤ pos (den x) -ℤ signed (negative x) (num x * scale)) ≤ den x
-  units-of-finite-nearest = units-nearest x (negative x) (num x) (den x) (den-pos x) (finite-value x h)
+  pub units-of-finite-nearest : 2 * natAbs (unitsOf x *ℤ pos (den x) -ℤ signed (signOf x) (num x * scale)) ≤ den x
+  units-of-finite-nearest = units-nearest x (signOf x) (num x) (den x) (den-pos x) (finite-value x h)
 
-  pub units-of-finite-even : 2 * natAbs (unitsOf x *ℤ pos (den x) -ℤ signed (negative x) (num x * scale)) ≡ den x → parity (unitsOf x) ≡ 0
-  units-of-finite-even = units-even x (negative x) (num x) (den x) (den-pos x) (finite-value x h)
+  pub units-of-finite-even : 2 * natAbs (unitsOf x *ℤ pos (den x) -ℤ signed (signOf x) (num x * scale)) ≡ den x → parity (unitsOf x) ≡ 0
+  units-of-finite-even = units-even x (signOf x) (num x) (den x) (den-pos x) (finite-value x h)
 
-  pub units-of-finite-unique : (c : ℤ) → 2 * natAbs (c *ℤ pos (den x) -ℤ signed (negative x) (num x * scale)) ≤ den x
-      → (2 * natAbs (c *ℤ pos (den x) -ℤ signed (negative x) (num x * scale)) ≡ den x → parity c ≡ 0) → c ≡ unitsOf x
-  units-of-finite-unique c = units-unique x (negative x) (num x) (den x) c (den-pos x) (finite-value x h)
+  pub units-of-finite-unique : (c : ℤ) → 2 * natAbs (c *ℤ pos (den x) -ℤ signed (signOf x) (num x * scale)) ≤ den x
+      → (2 * natAbs (c *ℤ pos (den x) -ℤ signed (signOf x) (num x * scale)) ≡ den x → parity c ≡ 0) → c ≡ unitsOf x
+  units-of-finite-unique c = units-unique x (signOf x) (num x) (den x) c (den-pos x) (finite-value x h)
 
 -- ---- sizes cut at 2^29
 
