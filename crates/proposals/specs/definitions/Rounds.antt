@@ -36,7 +36,7 @@ nextRound g r =
     let w = improved g (r .coefficients) in
     roundOf w (changeFrom nought w (r .coefficients))
 
--- "a value isn't finite"; the change is one of the values. What was not finite inside the round shows here (FiniteLaws.antt).
+-- "a value isn't finite"; the change is one of the values. What was not finite inside the round shows here (FiniteMaking.antt).
 unfoldable pub finiteRound : Round → Bool
 finiteRound r = allFinite (r .coefficients) && finite (r .change)
 
