@@ -18,7 +18,7 @@ use model::types::Model;
 use model::types::Refusal;
 use model::types::Verdict;
 
-// 2^63 and 2^52: where the sign and the exponent of an f64 stand.
+// 2^63 and 2^52: where the sign and the exponent of an f64 stand. 2^52 is also the leading digit, which the bits leave out.
 const SIGN: u64 = 9223372036854775808;
 
 const HIDDEN: u64 = 4503599627370496;

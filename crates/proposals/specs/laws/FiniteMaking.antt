@@ -1,4 +1,4 @@
--- "Number 15: … a value isn't finite, while making": where the makers answer no 15, every value that they made was finite, in every
+-- "Number 15: … a value isn't finite, while making": where the makers find their lists finite, every value that they made was, in every
 -- round (FiniteLaws.antt says it of one round).
 use mathlib.Core.Path.{_≡_, refl, sym, _∙_, ap}
 use mathlib.Core.Bool.{Bool, true, false, true≢false}

@@ -1,4 +1,4 @@
--- Steps of the loops over rounds and changes, and how rounds end.
+-- Steps of the loops over rounds and changes; what is made is finite, and its outcome carries the record's change.
 use mathlib.Core.Path.{_≡_, refl, sym, _∙_, subst}
 use mathlib.Core.Bool.{Bool, true, false, cond}
 use mathlib.Core.List.{List, [], _∷_, map}
