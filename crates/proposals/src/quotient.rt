@@ -11,7 +11,8 @@ use model::types::Model;
 use model::types::Refusal;
 use model::types::Verdict;
 
-// Proposals h for f/g and w for 1/g. The rounds were found finite before f·w is tested, so 15 of either comes before 16 of either.
+// Proposals h for f/g and w for 1/g. The rounds were found finite before f·w is tested, so 15 of either comes before 16 of
+// either.
 pub fn make_quotient(f: Model, g: Model) -> QuotientOutcome
     ensures { λ (r : QuotientOutcome). ⌜ quotientOf r ≡ quotientProposal f g ⌝ }
 {
