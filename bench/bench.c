@@ -1,17 +1,17 @@
 /* Measures the library (ferruntzo_) beside the plain C version at -O2 (plain2_) and
-   at -O3 (plain3_) and the former check (former_), in one program.  bench/run builds
-   it, runs it and prints tables.
+   at -O3 (plain3_), its makers with three passes for each row at -O2 (passes_), and the
+   former check (former_), in one program.  bench/run builds it, runs it and prints tables.
 
      bench count JOB..          calls each case with each version and writes down each
                                 call (entry, case, version); for callgrind
      bench alone JOB..          the same with the library only, which may be an earlier one
                                 with other answers: it is compared with nothing.  Built with
-                                -DWITHOUT_QUOTIENT_OF_TWO for one that has no such function
+                                -DWITHOUT_QUOTIENT_OF_TWO, .. for one that has no such function
      bench time MILLISECONDS JOB..   best time of a call, versions taken in turn
      bench stack JOB..          bytes of stack that a call writes to
      bench former JOB..         the largest deviation that the former check finds
 
-   count, time and stack first compare all answers and areas of the three versions.  count and
+   count, time and stack first compare all answers and areas of the versions.  count and
    alone have the two tests of every degree from 4 to 32, time and stack of 4, 8, 16 and 32.
    The last JOB must hold a load and 31 roots; its first 1, 4 and 16 results are cases too. */
 #define _POSIX_C_SOURCE 200809L
@@ -41,6 +41,10 @@ typedef uint32_t from_series_entry(const int32_t *, size_t, int32_t *, size_t);
 typedef uint32_t quotient_of_two_entry(const int32_t *, size_t, const int32_t *, size_t,
                                        const int32_t *, size_t, const int32_t *, size_t,
                                        int64_t *, size_t, uint32_t *, size_t);
+typedef uint32_t make_reciprocal_entry(const int32_t *, size_t, double *, size_t, int32_t *, size_t,
+                                       uint32_t *, size_t);
+typedef uint32_t make_quotient_entry(const int32_t *, size_t, const int32_t *, size_t, double *, size_t,
+                                     int32_t *, size_t, int32_t *, size_t, uint32_t *, size_t);
 multiply_entry plain2_multiply, plain3_multiply;
 integrate_entry plain2_integrate, plain3_integrate;
 evaluate_entry plain2_evaluate, plain3_evaluate;
@@ -49,9 +53,17 @@ root_entry plain2_root, plain3_root;
 check_entry plain2_check, plain3_check;
 from_series_entry plain2_from_series, plain3_from_series;
 quotient_of_two_entry plain2_quotient_of_two, plain3_quotient_of_two;
+make_reciprocal_entry plain2_make_reciprocal, plain3_make_reciprocal, passes_make_reciprocal;
+make_quotient_entry plain2_make_quotient, plain3_make_quotient, passes_make_quotient;
 
 #ifdef WITHOUT_QUOTIENT_OF_TWO
 #define ferruntzo_quotient_of_two NULL
+#endif
+#ifdef WITHOUT_MAKE_RECIPROCAL
+#define ferruntzo_make_reciprocal NULL
+#endif
+#ifdef WITHOUT_MAKE_QUOTIENT
+#define ferruntzo_make_quotient NULL
 #endif
 
 struct version {
@@ -64,24 +76,34 @@ struct version {
     check_entry *check;
     from_series_entry *from_series;
     quotient_of_two_entry *quotient_of_two;
+    make_reciprocal_entry *make_reciprocal;
+    make_quotient_entry *make_quotient;
 };
 
-enum { LIBRARY, PLAIN_O2, PLAIN_O3, FORMER, VERSIONS };
+enum { LIBRARY, PLAIN_O2, PLAIN_O3, PASSES, FORMER, VERSIONS };
 
 static const struct version versions[VERSIONS] = {
     {"library", ferruntzo_multiply, ferruntzo_integrate, ferruntzo_evaluate, ferruntzo_quotient,
-     ferruntzo_root, ferruntzo_check, ferruntzo_from_series, ferruntzo_quotient_of_two},
+     ferruntzo_root, ferruntzo_check, ferruntzo_from_series, ferruntzo_quotient_of_two,
+     ferruntzo_make_reciprocal, ferruntzo_make_quotient},
     {"O2", plain2_multiply, plain2_integrate, plain2_evaluate, plain2_quotient, plain2_root,
-     plain2_check, plain2_from_series, plain2_quotient_of_two},
+     plain2_check, plain2_from_series, plain2_quotient_of_two, plain2_make_reciprocal,
+     plain2_make_quotient},
     {"O3", plain3_multiply, plain3_integrate, plain3_evaluate, plain3_quotient, plain3_root,
-     plain3_check, plain3_from_series, plain3_quotient_of_two},
-    {"former", NULL, NULL, NULL, NULL, NULL, NULL, NULL, NULL},
+     plain3_check, plain3_from_series, plain3_quotient_of_two, plain3_make_reciprocal,
+     plain3_make_quotient},
+    {.name = "passes", .make_reciprocal = passes_make_reciprocal, .make_quotient = passes_make_quotient},
+    {.name = "former"},
 };
 
-enum kind { MULTIPLY, INTEGRATE, EVALUATE, QUOTIENT, ROOT, CHECK, FROM_SERIES, QUOTIENT_OF_TWO };
+enum kind {
+    MULTIPLY, INTEGRATE, EVALUATE, QUOTIENT, ROOT, CHECK, FROM_SERIES, QUOTIENT_OF_TWO, MAKE_RECIPROCAL,
+    MAKE_QUOTIENT
+};
 
-static const char *const kind_names[] = {"multiply", "integrate", "evaluate", "quotient",
-                                         "root", "check", "from_series", "quotient_of_two"};
+static const char *const kind_names[] = {"multiply", "integrate", "evaluate", "quotient", "root", "check",
+                                         "from_series", "quotient_of_two", "make_reciprocal",
+                                         "make_quotient"};
 
 struct bench_case {
     enum kind kind;
@@ -208,6 +230,23 @@ static void add_degree(int degree)
     geometric(series->series, degree, 4.0, 0.8, -0.7);
 }
 
+/* Both makers: a divisor of degree 32, a power of two, and one that is given up after 12 rounds. */
+static void add_makers(void)
+{
+    static const int32_t divisors[][3] = {{0, 4 * FERRUNTZO_S}, {1, FERRUNTZO_S, 15 * FERRUNTZO_S / 16}};
+    for (int i = -1; i < 2; i++) {
+        for (enum kind kind = MAKE_RECIPROCAL; kind <= MAKE_QUOTIENT; kind++) {
+            struct bench_case *made = new_case(kind, kind_names[kind], i < 0 ? FERRUNTZO_MAX_DEGREE : i);
+            geometric(made->f, FERRUNTZO_MAX_DEGREE, 2.0, 0.5, 0.8);
+            geometric(made->g, FERRUNTZO_MAX_DEGREE, 4.0, 0.8, -0.7);
+            if (i >= 0) {
+                memset(made->g, 0, sizeof made->g);
+                memcpy(made->g, divisors[i], sizeof divisors[i]);
+            }
+        }
+    }
+}
+
 static struct bench_case *add_job(const char *path)
 {
     FILE *file = fopen(path, "rb");
@@ -252,6 +291,9 @@ static struct areas {
     int32_t work[FERRUNTZO_WORK_SIZE];
     uint32_t answer[FERRUNTZO_ANSWER_SIZE];
     uint32_t selected[FERRUNTZO_SELECTION_SIZE];
+    double record[FERRUNTZO_QUOTIENT_RECORD_SIZE];
+    int32_t h[FERRUNTZO_CANDIDATE_SIZE], w[FERRUNTZO_CANDIDATE_SIZE];
+    uint32_t outcome[FERRUNTZO_OUTCOME_SIZE];
 } lent;
 static volatile double deviation;
 static int logged;              /* whether each call is written down, for mode count */
@@ -296,6 +338,14 @@ static void call(int v, const struct bench_case *c)
                                                WHOLE(c->second), WHOLE(lent.scratch),
                                                WHOLE(lent.selected));
         break;
+    case MAKE_RECIPROCAL:
+        lent.number = version->make_reciprocal(WHOLE(c->g), WHOLE(lent.record), WHOLE(lent.w),
+                                               WHOLE(lent.outcome));
+        break;
+    case MAKE_QUOTIENT:
+        lent.number = version->make_quotient(WHOLE(c->f), WHOLE(c->g), WHOLE(lent.record), WHOLE(lent.h),
+                                             WHOLE(lent.w), WHOLE(lent.outcome));
+        break;
     case CHECK:
         lent.number = version->check(c->job, c->job_len, WHOLE(lent.work), WHOLE(lent.scratch),
                                      WHOLE(lent.answer));
@@ -307,7 +357,12 @@ static int has_version(int v, const struct bench_case *c)
 {
     if (v == FORMER)
         return c->with_former;
-    return c->kind != QUOTIENT_OF_TWO || versions[v].quotient_of_two != NULL;
+    switch (c->kind) {
+    case QUOTIENT_OF_TWO: return versions[v].quotient_of_two != NULL;
+    case MAKE_RECIPROCAL: return versions[v].make_reciprocal != NULL;
+    case MAKE_QUOTIENT: return versions[v].make_quotient != NULL;
+    default: return v != PASSES;
+    }
 }
 
 /* Every case must be accepted, and all versions must leave the same in every area. */
@@ -315,7 +370,9 @@ static void compare_versions(void)
 {
     for (int i = 0; i < case_count; i++) {
         struct areas first;
-        for (int v = LIBRARY; v <= PLAIN_O3; v++) {
+        for (int v = LIBRARY; v <= PASSES; v++) {
+            if (!has_version(v, &cases[i]))
+                continue;
             memset(&lent, 0x55, sizeof lent);
             call(v, &cases[i]);
             if (lent.number != 0)
@@ -426,9 +483,10 @@ static void stack(void)
 {
     size_t empty = stack_of(0, NULL);
     for (int i = 0; i < case_count; i++)
-        for (int v = LIBRARY; v <= PLAIN_O3; v++)
-            printf("%s|%s|%zu\n", cases[i].name, versions[v].name,
-                   stack_of(v, &cases[i]) - empty);
+        for (int v = LIBRARY; v <= PASSES; v++)
+            if (has_version(v, &cases[i]))
+                printf("%s|%s|%zu\n", cases[i].name, versions[v].name,
+                       stack_of(v, &cases[i]) - empty);
 }
 
 static void former(void)
@@ -479,6 +537,7 @@ int main(int argc, char **argv)
             add_root(degree);
         }
     }
+    add_makers();
     const struct bench_case *last = NULL;
     for (int i = first; i < argc; i++)
         last = add_job(argv[i]);

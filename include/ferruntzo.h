@@ -4,18 +4,20 @@
    basis are added, subtracted, multiplied, integrated and evaluated with a
    proved error radius; models are made of power series; a proposed quotient or
    square root is accepted with a proved radius or refused; of two proposals for
-   one quotient the tighter is chosen; and a whole job of such commands is
-   checked.
+   one quotient the tighter is chosen; proposals for reciprocals and quotients are
+   made in double arithmetic, for these tests to judge; and a whole job of such
+   commands is checked.
 
    Link with libferruntzo.a, which scripts/build_library makes (x86-64, System V
    calling convention):
 
      cc -Iinclude program.c target/staticlib/libferruntzo.a
 
-   examples/check_job.c and examples/two_proposals.c are programs to copy,
-   docs/FORMAT.md the format of jobs.  "01" below is the scope document that fixes
-   every number but those of power series, of two proposals and of the scratch,
-   which change requests S-3, S-14 and S-17 fix.
+   examples/check_job.c, examples/two_proposals.c and examples/make_proposal.c are
+   programs to copy, docs/FORMAT.md the format of jobs.  "01" below is the scope
+   document that fixes every number but those of power series, of two proposals, of
+   the scratch and of made proposals, which change requests S-3, S-14, S-17 and S-19
+   fix.
 
    NUMBERS
 
@@ -78,8 +80,9 @@
    What an area that is written holds afterwards depends on its own length, not
    on that of any other area:
    - An area that is itself shorter than needed is not touched.
-   - out, bounds and numbers, and the answer of ferruntzo_quotient_of_two, are
-     zero after every refusal, 1 included.
+   - out, bounds and numbers, the answer of ferruntzo_quotient_of_two, and all that
+     ferruntzo_make_reciprocal, ferruntzo_make_quotient and ferruntzo_to_units
+     write, are zero after every refusal, 1 included.
    - The first 16 numbers of scratch are zero after every call of
      ferruntzo_quotient, ferruntzo_root and ferruntzo_quotient_of_two.
    ferruntzo_check says what holds of its work, scratch and answer. */
@@ -96,9 +99,9 @@ extern "C" {
 /* ---- Version ---- */
 
 #define FERRUNTZO_VERSION_MAJOR 3
-#define FERRUNTZO_VERSION_MINOR 0
+#define FERRUNTZO_VERSION_MINOR 1
 #define FERRUNTZO_VERSION_PATCH 0
-#define FERRUNTZO_VERSION "3.0.0"
+#define FERRUNTZO_VERSION "3.1.0"
 
 /* ---- Limits ---- */
 
@@ -122,6 +125,10 @@ extern "C" {
 #define FERRUNTZO_WORK_SIZE 1120      /* int32_t: 32 models */
 #define FERRUNTZO_ANSWER_SIZE 2       /* uint32_t: count, command */
 #define FERRUNTZO_SELECTION_SIZE 2    /* uint32_t: chosen, radius */
+#define FERRUNTZO_VALUES_SIZE 33             /* double: values, of T_0 .. T_32 */
+#define FERRUNTZO_RECIPROCAL_RECORD_SIZE 34  /* double: w_0 .. w_32, the change */
+#define FERRUNTZO_QUOTIENT_RECORD_SIZE 67    /* double: the 33 of f times w, then the 34 of the reciprocal's record */
+#define FERRUNTZO_OUTCOME_SIZE 1             /* uint32_t: given up or settled */
 
 /* ---- Places inside a model area (also of a candidate and a series, which have no radius) ---- */
 
@@ -138,6 +145,11 @@ extern "C" {
 #define FERRUNTZO_CHOSEN_NONE 0
 #define FERRUNTZO_CHOSEN_FIRST 1
 #define FERRUNTZO_CHOSEN_SECOND 2
+
+/* ---- How the rounds of a maker ended ---- */
+
+#define FERRUNTZO_GIVEN_UP 0
+#define FERRUNTZO_SETTLED 1
 
 /* ---- Bytes of a job (docs/FORMAT.md) ---- */
 
@@ -173,7 +185,9 @@ enum ferruntzo_refusal {
     FERRUNTZO_BYTES_AFTER_END = 11,       /* bytes follow the end */
     FERRUNTZO_NOT_A_RESULT = 12,          /* a command names a result that is not there yet */
     FERRUNTZO_TOO_MANY_RESULTS = 13,      /* a 33rd result */
-    FERRUNTZO_BAD_SERIES = 14             /* a series' degree, weight, or a nonzero beyond the degree */
+    FERRUNTZO_BAD_SERIES = 14,            /* a series' degree, weight, or a nonzero beyond the degree */
+    FERRUNTZO_NOT_FINITE = 15,            /* g_0 is zero, or a value is not finite */
+    FERRUNTZO_LARGE_PROPOSAL = 16         /* the weight of a list turned into units is above 2^28 */
 };
 
 /* ---- Plain operations on models ----
@@ -296,6 +310,74 @@ uint32_t ferruntzo_quotient_of_two(const int32_t *f, size_t f_len,
                                    const int32_t *second, size_t second_len,
                                    int64_t *scratch, size_t scratch_len,
                                    uint32_t *answer, size_t answer_len);
+
+/* ---- Proposals made on the mill ----
+
+   For a mill without a desktop: h and w for f/g, or w for 1/g alone, made from the
+   models in double arithmetic.  Nothing that is made is trusted, and no radius comes
+   with it: only the ordinary test, ferruntzo_quotient, vouches for h and w.  The radii
+   of f and g play no part in making; the test counts them.
+
+   A value is a coefficient in units over S, as a double.  w starts as the constant
+   1 / g_0.  A round makes w times (2 - g times w) of it, the constant 2 being zero
+   beyond place 0; its change is the largest absolute difference of a coefficient
+   before and after, each difference rounded.  After each round: settled,
+   if the change is at most 2^-24; after 12 rounds without that: given up.  A product
+   has degree 32: from zero, for each i of the first-named factor by rising i, and each
+   j of the other by rising j, a_i b_j is added at place i + j, if that is at most 32,
+   and then at |i - j|; the sums are halved last.  Each of these steps is rounded once,
+   to the nearest double, ties to even, so that every bit of the answers is fixed.
+   h is the product of f and the last w.  A value in units is the nearest whole number
+   to value times S, a tie to the even one, without any other rounding.
+
+   Settled and given up are both accepted (0), each with its lists:
+   - record (double), of a reciprocal: w_0 .. w_32, then the change of the last round;
+     of a quotient: the 33 values of f times w, then these 34 numbers.  Each is finite;
+   - h and w: candidates of degree 32, in units, as ferruntzo_quotient takes them.  For
+     a proposal p of ferruntzo_quotient_of_two lend p, 34 as h and p + 34, 34 as w;
+   - outcome[0]: FERRUNTZO_SETTLED or FERRUNTZO_GIVEN_UP.  Its change is the last
+     number of record.
+   Settled proves nothing: g = S + S T_31 vanishes at -1 and settles in round 7, and
+   ferruntzo_quotient then refuses it with 5.  (A lone w is tested as the quotient of
+   the constant S by g, with w as both h and w.)  Given up need not fail the test.  Where
+   g has a zero from -1 to 1 no proposal passes.
+
+   Refused, 1 included: each area that is written is zero, if it has its numbers:
+   record is +0.0, h, w and units have degree 0, outcome[0] is 0 (given up).
+
+   The machine's double must be IEEE binary64, with the floating environment that a C
+   program starts with: rounding to nearest, subnormal numbers kept, exceptions masked.
+   (fesetround can change that, and so does linking with gcc -ffast-math.)  Overflow
+   and invalid operations are how 15 arises: with exceptions enabled (feenableexcept) a
+   call may trap, and exception flags may be set after a call.
+   An area of doubles that is written may hold any bits before, signalling NaNs too.
+   About 5.5 kB of stack.  There is no maker for roots; 15 and 16 never come of a job. */
+
+/* w for 1/g.  Sizes: g 35, record 34, w 34, outcome 1.
+   Refusals: 1 (any area), 2 (g), 15 (g_0 is zero, or a value is not finite in some
+   round), 16 (the weight of w in units). */
+uint32_t ferruntzo_make_reciprocal(const int32_t *g, size_t g_len,
+                                   double *record, size_t record_len,
+                                   int32_t *w, size_t w_len,
+                                   uint32_t *outcome, size_t outcome_len);
+
+/* h for f/g with its helper w.  Sizes: f and g 35, record 67, h and w 34, outcome 1.
+   Refusals: 1 (any area), 2 (f or g), 15 (g_0 is zero, or a value of w in some round
+   or of f times w is not finite), 16 (the weight of h or of w in units, each its
+   own). */
+uint32_t ferruntzo_make_quotient(const int32_t *f, size_t f_len,
+                                 const int32_t *g, size_t g_len,
+                                 double *record, size_t record_len,
+                                 int32_t *h, size_t h_len,
+                                 int32_t *w, size_t w_len,
+                                 uint32_t *outcome, size_t outcome_len);
+
+/* The makers' last step by itself: units is the candidate of degree 32 whose
+   coefficients are the values in units.  Sizes: values 33, units 34.
+   Refusals: 1 (values or units), 15 (a value is infinite or a NaN), 16 (the
+   weight). */
+uint32_t ferruntzo_to_units(const double *values, size_t values_len,
+                            int32_t *units, size_t units_len);
 
 /* ---- Jobs ----
 

@@ -1,17 +1,9 @@
 /* Plain C99 version of the library and job checker of document 01. */
 #include "plain.h"
 
-#include <string.h>
-
+#include "areas.h"
 #include "expansion_table.h"
 
-#define UNIT 1048576             /* S: one unit is 1/S */
-#define LIMIT 268435456          /* largest weight, radius and N */
-#define MAX_DEGREE 32
-#define COEFFICIENTS 33
-#define RADIUS 34                /* place of the radius in a model area */
-#define MODEL_SIZE 35
-#define CANDIDATE_SIZE 34
 #define PROPOSAL_SIZE (2 * CANDIDATE_SIZE)
 #define SERIES_SIZE 34
 #define BOUNDS_SIZE 2
@@ -26,17 +18,14 @@
 #define EXPANSION_UNIT ((int64_t)1 << 32)
 
 enum {
-    SHORT_AREA = 1, BAD_MODEL = 2, LARGE_RESULT = 3, POINT_OUTSIDE = 4, NOT_CONTRACTING = 5,
-    LARGE_RESIDUAL = 6, HELPER_NOT_POSITIVE = 7, NEGATIVE_DISCRIMINANT = 8, BAD_VALUE = 9,
-    JOB_ENDS = 10, BYTES_AFTER_END = 11, NOT_A_RESULT = 12, TOO_MANY_RESULTS = 13,
-    BAD_SERIES = 14
+    LARGE_RESULT = 3, POINT_OUTSIDE = 4, NOT_CONTRACTING = 5, LARGE_RESIDUAL = 6,
+    HELPER_NOT_POSITIVE = 7, NEGATIVE_DISCRIMINANT = 8, BAD_VALUE = 9, JOB_ENDS = 10,
+    BYTES_AFTER_END = 11, NOT_A_RESULT = 12, TOO_MANY_RESULTS = 13, BAD_SERIES = 14
 };
 
 enum { CHOSEN_FIRST = 1, CHOSEN_SECOND = 2 };
 
 /* ---- Rounding and weights ---- */
-
-static int64_t magnitude(int64_t n) { return n < 0 ? -n : n; }
 
 /* The whole number at or below n/d, d > 0. */
 static int64_t down(int64_t n, int64_t d)
@@ -67,30 +56,6 @@ static int64_t weight(const int64_t *list, int size)
     for (int k = 0; k < size; k++)
         sum += magnitude(list[k]);
     return sum;
-}
-
-/* The weight of a model or candidate area. */
-static int64_t model_weight(const int32_t *a)
-{
-    int64_t sum = 0;
-    for (int k = 1; k <= COEFFICIENTS; k++)
-        sum += magnitude(a[k]);
-    return sum;
-}
-
-static int good_candidate(const int32_t *a)
-{
-    if (a[0] < 0 || a[0] > MAX_DEGREE)
-        return 0;
-    for (int k = a[0] + 1; k < COEFFICIENTS; k++)
-        if (a[1 + k] != 0)
-            return 0;
-    return model_weight(a) <= LIMIT;
-}
-
-static int good_model(const int32_t *a)
-{
-    return good_candidate(a) && a[RADIUS] >= 0 && a[RADIUS] <= LIMIT;
 }
 
 /* The product list C(a, b): one walk over the pairs, 65 numbers. */
@@ -342,17 +307,6 @@ static uint32_t test_root(const int32_t *f, const int32_t *h, const int32_t *w,
 }
 
 /* ---- The library's entries ---- */
-
-/* Clears an area that has its numbers, whatever the others have, and says whether it has. */
-#define CLEAR(area, size) clear(area, area##_len, size, sizeof *(area))
-
-static int clear(void *area, size_t length, size_t size, size_t width)
-{
-    if (length < size)
-        return 0;
-    memset(area, 0, size * width);
-    return 1;
-}
 
 uint32_t plain_add(const int32_t *a, size_t a_len, const int32_t *b, size_t b_len,
                    int32_t *out, size_t out_len)

@@ -46,6 +46,19 @@ uint32_t plain_quotient_of_two(const int32_t *f, size_t f_len, const int32_t *g,
                                int64_t *scratch, size_t scratch_len,
                                uint32_t *answer, size_t answer_len);
 
+/* proposals.c: w for 1/g; h and w for f/g; values in units.  record: the values made, and the
+   change last; outcome: 1 settled, 0 given up. */
+uint32_t plain_make_reciprocal(const int32_t *g, size_t g_len,
+                               double *record, size_t record_len,
+                               int32_t *w, size_t w_len,
+                               uint32_t *outcome, size_t outcome_len);
+uint32_t plain_make_quotient(const int32_t *f, size_t f_len, const int32_t *g, size_t g_len,
+                             double *record, size_t record_len,
+                             int32_t *h, size_t h_len, int32_t *w, size_t w_len,
+                             uint32_t *outcome, size_t outcome_len);
+uint32_t plain_to_units(const double *values, size_t values_len,
+                        int32_t *units, size_t units_len);
+
 /* answer: count and 0 when accepted, 0 and the command when refused. */
 uint32_t plain_check(const uint8_t *job, size_t job_len,
                      int32_t *work, size_t work_len,

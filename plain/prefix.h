@@ -1,4 +1,4 @@
-/* Gives the entries of plain.c another prefix, so that several builds of it can
+/* Gives the entries of plain.c and proposals.c another prefix, so that several builds of them can
    be linked into one program:  gcc -DPREFIX=plain2_ -include plain/prefix.h -c plain/plain.c */
 #define PREFIXED_(prefix, name) prefix##name
 #define PREFIXED(prefix, name) PREFIXED_(prefix, name)
@@ -12,3 +12,6 @@
 #define plain_quotient_of_two PREFIXED(PREFIX, quotient_of_two)
 #define plain_root PREFIXED(PREFIX, root)
 #define plain_check PREFIXED(PREFIX, check)
+#define plain_make_reciprocal PREFIXED(PREFIX, make_reciprocal)
+#define plain_make_quotient PREFIXED(PREFIX, make_quotient)
+#define plain_to_units PREFIXED(PREFIX, to_units)

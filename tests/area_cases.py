@@ -4,13 +4,16 @@ two areas short at once, and all of them, for every answer that the entry has.""
 from itertools import combinations
 
 import jobs
+import proposal_cases
+import unit_cases
 from cases import Case
 from examples_of_01 import example_job
 from header import (
     ACCEPTED, ANSWER_SIZE, BAD_MODEL, BAD_SERIES, BAD_VALUE, BOUNDS_SIZE, BYTES_AFTER_END,
     CANDIDATE_SIZE, HELPER_NOT_POSITIVE, JOB_ENDS, LARGE_RESIDUAL, LARGE_RESULT, MAX_DEGREE,
-    MAX_RESULTS, MODEL_SIZE, NEGATIVE_DISCRIMINANT, NOT_A_RESULT, NOT_CONTRACTING, NUMBERS_SIZE, POINT_OUTSIDE,
-    SCRATCH_SIZE, SELECTION_SIZE, SERIES_SIZE, TOO_MANY_RESULTS, WORK_SIZE)
+    MAX_RESULTS, MODEL_SIZE, NEGATIVE_DISCRIMINANT, NOT_A_RESULT, NOT_CONTRACTING, NUMBERS_SIZE, OUTCOME_SIZE, POINT_OUTSIDE,
+    QUOTIENT_RECORD_SIZE, RECIPROCAL_RECORD_SIZE, SCRATCH_SIZE, SELECTION_SIZE, SERIES_SIZE, TOO_MANY_RESULTS, VALUES_SIZE,
+    WORK_SIZE)
 from oracle import LIMIT, PRODUCT_SIZE, S, constant, model, power, series, term
 from selection_cases import DIVIDEND, DIVISOR, TESTED
 from series_cases import GROWN
@@ -22,6 +25,9 @@ MODEL_IN, CANDIDATE_IN = ('i', MODEL_SIZE, 'in'), ('i', CANDIDATE_SIZE, 'in')
 SERIES_IN = ('i', SERIES_SIZE, 'in')
 OUT, BOUNDS = ('i', MODEL_SIZE, 'out'), ('q', BOUNDS_SIZE, 'bounds')
 SCRATCH, NUMBERS = ('q', SCRATCH_SIZE, 'scratch'), ('Q', NUMBERS_SIZE, 'numbers')
+# A double is lent as its 64 bits.
+DOUBLES = ('record', 'values')
+H, W, OUTCOME = ('i', CANDIDATE_SIZE, 'h'), ('i', CANDIDATE_SIZE, 'w'), ('I', OUTCOME_SIZE, 'outcome')
 AREAS = {
     'add': (MODEL_IN, MODEL_IN, OUT),
     'subtract': (MODEL_IN, MODEL_IN, OUT),
@@ -33,12 +39,15 @@ AREAS = {
     'check': (('B', 0, 'job'), ('i', WORK_SIZE, 'work'), SCRATCH, ('I', ANSWER_SIZE, 'answer')),
     'from_series': (SERIES_IN, OUT),
     'quotient_of_two': (MODEL_IN, MODEL_IN, PROPOSAL, PROPOSAL, SCRATCH, ('I', SELECTION_SIZE, 'answer')),
+    'make_reciprocal': (MODEL_IN, ('Q', RECIPROCAL_RECORD_SIZE, 'record'), W, OUTCOME),
+    'make_quotient': (MODEL_IN, MODEL_IN, ('Q', QUOTIENT_RECORD_SIZE, 'record'), H, W, OUTCOME),
+    'to_units': (('Q', VALUES_SIZE, 'values'), ('i', CANDIDATE_SIZE, 'units')),
 }
 # Numbers that a long enough area has beyond its size; a scratch half of the time none, else up to those of the list C and one more.
 MORE = {what: (0, 0, 1, 3) for areas in AREAS.values() for _, _, what in areas}
 MORE['scratch'] = (0, 0, 0, 0, 1, *(PRODUCT_SIZE + more - SCRATCH_SIZE for more in (-1, 0, 1)))
 # What an entry answers in; each is zero after every refusal if it is itself long enough.
-ANSWERS = ('out', 'bounds', 'numbers', 'answer')
+ANSWERS = ('out', 'bounds', 'numbers', 'answer', 'record', 'h', 'w', 'outcome', 'units')
 
 # ---- One call for each answer of each entry, where every area is long enough
 
@@ -83,6 +92,7 @@ WITNESSES = {
     'from_series': {ACCEPTED: (series([S, -7, S // 3, 5]),), LARGE_RESULT: (GROWN[0],),
                     BAD_SERIES: (power(MAX_DEGREE, LIMIT + 1),)},
     'quotient_of_two': {number: (DIVIDEND, DIVISOR, tested[0], tested[-1]) for number, tested in TESTED.items()},
+    **proposal_cases.WITNESSES, 'to_units': unit_cases.WITNESSES,
 }
 
 

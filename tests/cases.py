@@ -16,12 +16,13 @@ LOWEST, HIGHEST = -(1 << 31), (1 << 31) - 1
 
 class Case(NamedTuple):
     """One call.  inputs: models and candidates in operand order, or the job's
-    bytes alone.  lengths: pairs of area number and length; other areas are long
-    enough."""
+    bytes alone, or values alone.  lengths: pairs of area number and length; other
+    areas are long enough.  made: of a test, the maker whose proposal it judges."""
     entry: str
     inputs: tuple
     scalar: int = 0
     lengths: tuple = ()
+    made: str = ''
 
 
 # ---- Models -------------------------------------------------------------------

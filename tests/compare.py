@@ -1,17 +1,18 @@
 """Compares the library under test with the oracle, area by area.
 
-  compare.py                            plain.c against the oracle
+  compare.py                            plain C against the oracle
   compare.py --library libferruntzo.a   the product against the oracle
-  compare.py --plant multiply           a planted wrong answer must be found
+  compare.py --plant multiply           planted wrong answers must be found, one in each area answered in
   compare.py --plant quotient_of_two --exchange   so must the other proposal, chosen
   compare.py --plant root --cleared 17  so must a scratch of which 17 numbers are cleared
-  compare.py --leave multiply           an area left as it was by refusal 1 must be found
+  compare.py --leave multiply           areas left as they were by refusal 1 must be found
 
 Exits with 0 when all answers agree, 1 when any answer differs, 2 when something
 could not be built or run or the oracle's own checks failed.  A sample of the
 accepted cases is also put through the soundness checks, of tests and jobs those
 with a scratch of 16; of the models that are made of series and of the chosen
-proposals, each as it was answered.
+proposals, each as it was answered.  Each made proposal is put to the quotient
+test, and what that accepts is checked too.
 """
 
 import argparse
@@ -27,32 +28,40 @@ from random import Random
 
 import cases
 import certificate_cases
+import faults
 import job_cases
 import oracle as o
+import proposal_cases
+import proposal_oracle
 import scratch_cases
 import selection_cases
 import series_cases
 import soundness
-from area_cases import ANSWERS, ANY_LENGTH, AREAS, MORE, WITNESSES, area_cases, sized, witness
+import unit_cases
+from area_cases import ANSWERS, ANY_LENGTH, AREAS, DOUBLES, MORE, WITNESSES, area_cases, sized, witness
 from examples_of_01 import check_examples
 from group_cases import group_cases
 from header import CANDIDATE_SIZE, MODEL_SIZE, PLACE_RADIUS, SCRATCH_SIZE, SHORT_AREA, WORK_SIZE, check_header
 
 HERE = Path(__file__).resolve().parent
 ROOT = HERE.parent
-PLAIN = ROOT / 'plain' / 'plain.c'
+PLAIN = ROOT / 'plain'
+SOURCES = ('plain.c', 'proposals.c')
 ENTRIES = list(AREAS)
 # Shares of the random cases.
 SHARE = {'add': 2, 'subtract': 2, 'multiply': 3, 'integrate': 3, 'evaluate': 3,
-         'quotient': 4, 'root': 4, 'check': 5, 'from_series': 3, 'quotient_of_two': 3}
+         'quotient': 4, 'root': 4, 'check': 5, 'from_series': 3, 'quotient_of_two': 3,
+         'make_reciprocal': 1, 'make_quotient': 1, 'to_units': 58}
 BATCH = 2000
 SOUNDNESS_SAMPLE = 0.04
 SAMPLE_OF_16 = 0.25         # of the accepted cases that have a scratch, of 16 numbers
 ANSWERED = ('from_series', 'quotient_of_two')       # checked for soundness as the library answered, each of them
-WHOLE = 75000               # calls of the whole comparison; at least so many of them
+UNVOUCHED = tuple(proposal_cases.WRITTEN)           # nothing holds of what they answer but its bits
+WHOLE = 190000              # calls of the whole comparison; at least so many of them
 TIED = 2000                 # are accepted where some near rounds a tie
 PAIRS, CHOSEN = 7000, 4000  # have two proposals; have one chosen and put to random fractions
 SOUND_OF_16 = 50            # of each entry with a scratch are checked for soundness with one of 16
+MODELS, PATTERNS = 3000, 100000     # different ones are put to the makers; to the step to units, each alone
 ROUNDING = ('multiply', 'integrate', 'evaluate', 'from_series', 'check')        # the entries that use near
 
 
@@ -62,8 +71,8 @@ def stop(message):
 
 
 def flat(m):
-    """The numbers of a model, or of a series, which has no radius."""
-    return [m.degree, *m.coefficients, *m[2:]]
+    """The numbers of a model, of a series, which has no radius, or of a list of values, which has no degree either."""
+    return [m.degree, *m.coefficients, *m[2:]] if isinstance(m, (o.Model, o.Series)) else list(m)
 
 
 # ---- What the oracle says ---------------------------------------------------------
@@ -90,6 +99,9 @@ def oracle_answer(case):
             contents['work'][:MODEL_SIZE * first] = [c for m in second for c in flat(m)]
             return 0, {**contents, 'answer': [first, 0]}
         return first, {**contents, 'answer': [0, second]}
+    if entry in proposal_cases.WRITTEN:
+        number, *answered = getattr(proposal_oracle, entry)(*inputs)
+        return number, dict(zip(proposal_cases.WRITTEN[entry], answered))
     number, result = getattr(o, entry)(*inputs)
     return number, {'out': flat(result)}
 
@@ -129,7 +141,9 @@ def lent_areas(case, rng, guards):
         else:
             length = told.get(i, size + rng.choice(MORE[what]))
             content = array(code, rng.randbytes(width * length))
-            if what == 'in':
+            if what in DOUBLES:                     # NaNs are rare among random bits
+                content[::3] = array(code, rng.choices(unit_cases.NANS, k=len(content[::3])))
+            if what in ('in', 'values'):
                 numbers = array(code, flat(case.inputs[i])[:size])
                 content[:min(size, length)] = numbers[:length]
         behind = rng.choice((1, 2, 5)) if guards else 0
@@ -171,7 +185,7 @@ def differing_place(case, areas, expected, found):
         for k, (want, got) in enumerate(zip(*rows)):
             if want != got:
                 place = '' if k < size or what in ANY_LENGTH else ' (behind the area used)'
-                return f'{what}[{k}]{place} is {got} instead of {want}'
+                return f'{what}[{k}]{place} is {got} instead of {want}' + f' ({got:016x}, {want:016x})' * (what in DOUBLES)
         start = end
     return 'nothing'
 
@@ -181,9 +195,10 @@ def differing_place(case, areas, expected, found):
 def build_harness(folder, entries, library, plain, flags):
     program = Path(folder) / 'harness'
     prefix = 'ferruntzo_' if library else 'plain_'
-    command = ['gcc', '-std=c99', '-O2', '-Wall', '-Wextra', f'-DPREFIX={prefix}',
+    tested = [library] if library else [plain / source for source in SOURCES]
+    command = ['gcc', '-std=c99', '-O2', '-ffp-contract=off', '-Wall', '-Wextra', f'-DPREFIX={prefix}',
                f'-I{ROOT / "include"}', *(f'-DWITH_{entry.upper()}' for entry in entries),
-               str(HERE / 'harness.c'), str(library or plain), '-o', str(program), *flags]
+               str(HERE / 'harness.c'), *map(str, tested), '-o', str(program), *flags]
     if subprocess.run(command).returncode != 0:
         stop('the harness was not built')
     return program
@@ -199,9 +214,10 @@ def perhaps_shortened(rng, case):
 
 def make_cases(entries, wanted, rng):
     """All fixed cases of the entries, then random ones up to the number wanted."""
-    fixed = {**cases.FIXED, **certificate_cases.FIXED, **job_cases.FIXED, **series_cases.FIXED, **selection_cases.FIXED}
-    drawn = {**cases.RANDOM, **certificate_cases.RANDOM, 'check': job_cases.RandomJobs(),
-             **series_cases.RANDOM, **selection_cases.RANDOM}
+    fixed = {**cases.FIXED, **certificate_cases.FIXED, **job_cases.FIXED, **series_cases.FIXED, **selection_cases.FIXED,
+             **proposal_cases.FIXED, **unit_cases.FIXED}
+    drawn = {**cases.RANDOM, **certificate_cases.RANDOM, 'check': job_cases.RandomJobs(), **series_cases.RANDOM,
+             **selection_cases.RANDOM, **proposal_cases.RANDOM, **unit_cases.RANDOM}
     made = 0
     for entry in entries:
         for case in (*area_cases(entry), *scratch_cases.scratch_cases(entry), *group_cases(entry), *fixed[entry]()):
@@ -212,6 +228,14 @@ def make_cases(entries, wanted, rng):
         entry = rng.choices(entries, shares)[0]
         made += 1
         yield perhaps_shortened(rng, drawn[entry](rng))
+
+
+def with_tests(drawn, entries):
+    """Each case, and behind one that makes a proposal the quotient test of that."""
+    for case in drawn:
+        yield case
+        if 'quotient' in entries and case.entry in proposal_cases.MAKERS and not case.lengths:
+            yield from proposal_cases.tests_of(case)
 
 
 def run_harness(program, calls, runner):
@@ -230,15 +254,6 @@ def run_harness(program, calls, runner):
     return answers
 
 
-def place_of(case, areas, wanted):
-    """Where the first area of these kinds starts in the case's answer, and its number."""
-    start = 4
-    for i, ((_, _, content), (_, _, what)) in enumerate(zip(areas, AREAS[case.entry])):
-        if what in wanted:
-            return start, i
-        start += len(content) * content.itemsize
-
-
 def scratch_of(case, areas):
     """The length of the scratch, if the entry has one."""
     return areas[scratch_cases.PLACES[case.entry]][1] if case.entry in scratch_cases.PLACES else None
@@ -246,59 +261,13 @@ def scratch_of(case, areas):
 
 def answered_model(case, areas, answer):
     """The model in the area out of an answer; or the chosen proposal's h with the radius answered."""
-    start, area = place_of(case, areas, ('out', 'answer'))
+    start, area = next(faults.places_of(case, areas, ('out', 'answer')))
     code, size, what = AREAS[case.entry][area]
     row = array(code, answer[start:start + array(code).itemsize * size])
     if what == 'answer':
         chosen, radius = row
         row = [*case.inputs[1 + chosen][:CANDIDATE_SIZE], radius]
     return o.Model(row[0], tuple(row[1:PLACE_RADIUS]), row[PLACE_RADIUS])
-
-
-def plant(batch, answers, entry, exchange):
-    """Puts one off-by-one into the middle one of the entry's accepted answers: into the radius,
-    the high bound, the radius of the first result; or exchanges which proposal is chosen there."""
-    fits = [i for i, (case, _, number, _) in enumerate(batch)
-            if case.entry == entry and number == 0]
-    if not fits:
-        return False
-    i = fits[len(fits) // 2]
-    case, areas, _, _ = batch[i]
-    start, area = place_of(case, areas, ('out', 'bounds', 'work', 'answer'))
-    code, _, what = AREAS[entry][area]
-    place = 0 if exchange else 1 if what in ('bounds', 'answer') else PLACE_RADIUS
-    spoiled = bytearray(answers[i])
-    spoiled[start + array(code).itemsize * place] ^= 3 if exchange else 1
-    answers[i] = bytes(spoiled)
-    return True
-
-
-def clear(batch, answers, entry, count):
-    """Puts one of the entry's scratches as if count of its numbers had been cleared."""
-    for i, (case, areas, _, expected) in enumerate(batch):
-        if case.entry != entry:
-            continue
-        start, area = place_of(case, areas, ('scratch',))
-        _, length, content = areas[area]
-        end = start + len(content) * content.itemsize
-        zeros = bytes(content.itemsize * SCRATCH_SIZE)
-        if length >= max(count, SCRATCH_SIZE) and expected[start:].startswith(zeros):
-            spoiled = bytes(content.itemsize * count) + content[count:].tobytes()
-            answers[i] = answers[i][:start] + spoiled + answers[i][end:]
-            return True
-    return False
-
-
-def leave(batch, answers, entry):
-    """Puts back what stood in an area before one of the entry's refusals with 1 cleared it."""
-    for i, (case, areas, number, expected) in enumerate(batch):
-        if case.entry == entry and number == SHORT_AREA:
-            start, area = place_of(case, areas, ANSWERS)
-            before = areas[area][2].tobytes()
-            if expected[start:start + len(before)] != before:
-                answers[i] = answers[i][:start] + before + answers[i][start + len(before):]
-                return True
-    return False
 
 
 def check_ties(ties, total):
@@ -329,18 +298,42 @@ def check_scratches(scratches, sound, entries, total):
     return '\n  '.join(['', *rows, f'checked for soundness with 16: {checked}'])
 
 
+def check_proposals(made, units, entries, total):
+    """The counts of made proposals and of values in units, in words: each kind, enough in the whole comparison."""
+    whole = set(entries) == set(ENTRIES) and total >= WHOLE
+    if set(entries) & set(proposal_cases.MAKERS):
+        models, text = proposal_cases.counted(made, entries)
+        assert not whole or models >= MODELS, f'{models} models'
+        yield f'made proposals: {text}'
+    if 'to_units' in entries:
+        patterns, text = unit_cases.counted(units)
+        assert not whole or patterns >= PATTERNS, f'{patterns} values'
+        yield f'values in units: {text}'
+
+
+def plant_fault(options, batch, answers):
+    """The places of the answers that are spoiled as the options say."""
+    if options.cleared is not None:
+        return faults.clear(batch, answers, options.plant, options.cleared)
+    if options.leave:
+        return faults.leave(batch, answers, options.leave)
+    if options.exchange:
+        return faults.exchange(batch, answers)
+    return faults.plant(batch, answers, options.plant) if options.plant else set()
+
+
 def main():
     parser = argparse.ArgumentParser()
     parser.add_argument('--library', type=Path, help='static library under test')
-    parser.add_argument('--plain', type=Path, default=PLAIN, help='C file to test instead')
+    parser.add_argument('--plain', type=Path, default=PLAIN, help='folder of the plain C version to test instead')
     parser.add_argument('--entries', default=','.join(ENTRIES))
-    parser.add_argument('--cases', type=int, default=30000)
+    parser.add_argument('--cases', type=int, default=WHOLE)
     parser.add_argument('--seed', type=int, default=1)
-    parser.add_argument('--plant', choices=ENTRIES, help='spoil one answer of this entry')
+    parser.add_argument('--plant', choices=ENTRIES, help='spoil answers of this entry')
     parser.add_argument('--exchange', action='store_true', help='with --plant quotient_of_two: the other proposal chosen')
     parser.add_argument('--cleared', type=int, help='with --plant: so many numbers of the scratch cleared, for 16')
-    parser.add_argument('--leave', choices=ENTRIES, help='leave one area of this entry on refusal 1')
-    parser.add_argument('--link', default='', help='more linker flags, separated by blanks')
+    parser.add_argument('--leave', choices=ENTRIES, help='leave the areas of this entry on refusal 1')
+    parser.add_argument('--link', default='', help='more flags for the compiler and linker, separated by blanks')
     parser.add_argument('--runner', default='', help='run the harness under this command')
     parser.add_argument('--no-guards', action='store_true', help='no numbers behind the areas')
     options = parser.parse_args()
@@ -359,11 +352,13 @@ def main():
     cases.check_border_models()
     series_cases.check_series()
     selection_cases.check_selection()
+    proposal_cases.check_makers()
+    unit_cases.check_units()
 
     rng, sound_rng = Random(options.seed), Random(options.seed)
     began = time.perf_counter()
     oracle_time, differences, planted = 0.0, 0, False
-    pairs, sound, sound_of_16 = Counter(), Counter(), Counter()
+    pairs, made, units, sound, sound_of_16 = (Counter() for _ in range(5))
     scratches = {entry: Counter() for entry in entries if entry in scratch_cases.PLACES}
     counts, ties = ({entry: Counter() for entry in entries} for _ in range(2))
     with tempfile.TemporaryDirectory() as folder:
@@ -374,25 +369,24 @@ def main():
         def judge():
             nonlocal differences, planted
             answers = run_harness(program, [one[:2] for one in batch], options.runner.split())
-            if options.cleared is not None and not planted:
-                planted = clear(batch, answers, options.plant, options.cleared)
-            elif options.plant and not planted:
-                planted = plant(batch, answers, options.plant, options.exchange)
-            if options.leave and not planted:
-                planted = leave(batch, answers, options.leave)
-            for (case, areas, number, expected), found in zip(batch, answers):
+            spoiled = set() if planted else plant_fault(options, batch, answers)
+            planted = planted or bool(spoiled)
+            for i, ((case, areas, number, expected), found) in enumerate(zip(batch, answers)):
                 if expected == found and case.entry in ANSWERED and number == 0:
                     soundness.check_answered(sound_rng, case, answered_model(case, areas, found))
                     sound[case.entry] += 1
                     sound_of_16[case.entry] += scratch_of(case, areas) == SCRATCH_SIZE
                 if expected != found:
                     differences += 1
+                    spoiled.discard(i)
                     if differences <= 10:
                         print(f'{case.entry}: {differing_place(case, areas, expected, found)}'
                               f' for lengths {case.lengths} of {str(case)[:600]}')
+            if spoiled:
+                stop('a planted answer was not found')
             batch.clear()
 
-        for case in make_cases(entries, options.cases, rng):
+        for case in with_tests(make_cases(entries, options.cases, rng), entries):
             areas = lent_areas(case, rng, not options.no_guards)
             before, ties_before = time.perf_counter(), dict(o.TIES)
             number, expected = expected_bytes(case, areas)
@@ -405,12 +399,16 @@ def main():
                 pairs.update(selection_cases.kinds(case, lengths))
             if case.entry in scratches:
                 scratches[case.entry].update(scratch_cases.kinds(case, lengths, number))
+            if case.made or case.entry in proposal_cases.MAKERS:
+                made.update(proposal_cases.kinds(case, lengths, number))
+            if case.entry == 'to_units' and number != SHORT_AREA:
+                units.update(unit_cases.kinds(case, number))
             batch.append((case, areas, number, expected))
             share = {None: SOUNDNESS_SAMPLE, SCRATCH_SIZE: SAMPLE_OF_16}.get(scratch_of(case, areas), 0)
-            if number == 0 and case.entry not in ANSWERED and sound_rng.random() < share:
+            if number == 0 and case.entry not in (*ANSWERED, *UNVOUCHED) and (sound_rng.random() < share or case.made):
                 soundness.check(sound_rng, case)
                 sound[case.entry] += 1
-                sound_of_16[case.entry] += share == SAMPLE_OF_16
+                sound_of_16[case.entry] += scratch_of(case, areas) == SCRATCH_SIZE
             if len(batch) == BATCH:
                 judge()
         judge()
@@ -424,6 +422,8 @@ def main():
         print('pairs of proposals:', check_pairs(pairs, sound['quotient_of_two'], entries, total))
     if scratches:
         print('scratches:', check_scratches(scratches, sound_of_16, entries, total))
+    for text in check_proposals(made, units, entries, total):
+        print(text)
     print(f'{total} cases, {differences} differences, {time.perf_counter() - began:.1f} s '
           f'(oracle {oracle_time:.1f} s), '
           f'{sum(sound.values())} checked for soundness, seed {options.seed}')

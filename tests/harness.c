@@ -6,7 +6,8 @@
    A case, little-endian:
      u8 entry, u8 number of areas, u32 scalar (kept degree or point), then per
      area: u8 width of a number in bytes, u32 length told to the entry, u32
-     numbers in all (guards included), the numbers themselves.
+     numbers in all (guards included), the numbers themselves; a double as its
+     64 bits, so that no reading or printing of decimals comes between.
    An answer: u32 refusal, then all numbers of all areas, in the same order. */
 #include "ferruntzo.h"
 
@@ -35,6 +36,11 @@ uint32_t ENTRY(from_series)(const int32_t *, size_t, int32_t *, size_t);
 uint32_t ENTRY(quotient_of_two)(const int32_t *, size_t, const int32_t *, size_t,
                                 const int32_t *, size_t, const int32_t *, size_t,
                                 int64_t *, size_t, uint32_t *, size_t);
+uint32_t ENTRY(make_reciprocal)(const int32_t *, size_t, double *, size_t, int32_t *, size_t,
+                                uint32_t *, size_t);
+uint32_t ENTRY(make_quotient)(const int32_t *, size_t, const int32_t *, size_t, double *, size_t,
+                              int32_t *, size_t, int32_t *, size_t, uint32_t *, size_t);
+uint32_t ENTRY(to_units)(const double *, size_t, int32_t *, size_t);
 
 #define MAX_AREAS 8
 
@@ -112,6 +118,15 @@ static uint32_t call(int entry, struct area *x, uint32_t scalar)
 #endif
 #ifdef WITH_QUOTIENT_OF_TWO
     case 9: return ENTRY(quotient_of_two)(AREA(0), AREA(1), AREA(2), AREA(3), AREA(4), AREA(5));
+#endif
+#ifdef WITH_MAKE_RECIPROCAL
+    case 10: return ENTRY(make_reciprocal)(AREA(0), AREA(1), AREA(2), AREA(3));
+#endif
+#ifdef WITH_MAKE_QUOTIENT
+    case 11: return ENTRY(make_quotient)(AREA(0), AREA(1), AREA(2), AREA(3), AREA(4), AREA(5));
+#endif
+#ifdef WITH_TO_UNITS
+    case 12: return ENTRY(to_units)(AREA(0), AREA(1));
 #endif
     default: fail("an entry that was not compiled in");
     }

@@ -31,17 +31,25 @@ NUMBERS_SIZE = 3                        # m, N, b
 WORK_SIZE = MAX_RESULTS * MODEL_SIZE
 ANSWER_SIZE = 2                         # count, command
 SELECTION_SIZE = 2                      # chosen, radius
+VALUES_SIZE = COEFFICIENTS              # of T_0 .. T_32
+RECIPROCAL_RECORD_SIZE = COEFFICIENTS + 1               # w, change
+QUOTIENT_RECORD_SIZE = COEFFICIENTS + RECIPROCAL_RECORD_SIZE    # f times w, then the reciprocal's
+OUTCOME_SIZE = 1                        # given up or settled
 BLOCK_BYTES = 1 + 4 * COEFFICIENTS      # degree byte, coefficients
 
 # ---- Which of two proposals is chosen
 
 CHOSEN_NONE, CHOSEN_FIRST, CHOSEN_SECOND = range(3)
 
+# ---- How the rounds of a maker ended
+
+GIVEN_UP, SETTLED = range(2)
+
 # ---- Refusals
 
 (ACCEPTED, SHORT_AREA, BAD_MODEL, LARGE_RESULT, POINT_OUTSIDE, NOT_CONTRACTING, LARGE_RESIDUAL,
  HELPER_NOT_POSITIVE, NEGATIVE_DISCRIMINANT, BAD_VALUE, JOB_ENDS, BYTES_AFTER_END, NOT_A_RESULT,
- TOO_MANY_RESULTS, BAD_SERIES) = range(15)
+ TOO_MANY_RESULTS, BAD_SERIES, NOT_FINITE, LARGE_PROPOSAL) = range(17)
 
 # Every name above, with its number.
 NAMES = {name: value for name, value in globals().items() if isinstance(value, int)}

@@ -1,6 +1,6 @@
 /* What the header promises of null pointers, of areas that are too short, of scratches longer
-   than needed, of inputs that are the same area, of series, of two proposals, and of areas that
-   need no alignment beyond their type's.
+   than needed, of inputs that are the same area, of series, of two proposals, of made ones, and of
+   areas that need no alignment beyond their type's.
    Exit status 0 when all holds. */
 #include "ferruntzo.h"
 
@@ -28,6 +28,10 @@ static uint32_t answer[FERRUNTZO_ANSWER_SIZE], selected[FERRUNTZO_SELECTION_SIZE
 /* h = w = 1, and h two units off. */
 static int32_t exact[FERRUNTZO_PROPOSAL_SIZE] = {0, S, [FERRUNTZO_CANDIDATE_SIZE] = 0, S};
 static int32_t rough[FERRUNTZO_PROPOSAL_SIZE] = {0, S + 2, [FERRUNTZO_CANDIDATE_SIZE] = 0, S};
+static double record[FERRUNTZO_RECIPROCAL_RECORD_SIZE], records[FERRUNTZO_QUOTIENT_RECORD_SIZE];
+static double values[FERRUNTZO_VALUES_SIZE];
+static int32_t h[FERRUNTZO_CANDIDATE_SIZE], w[FERRUNTZO_CANDIDATE_SIZE];
+static uint32_t outcome[FERRUNTZO_OUTCOME_SIZE];
 
 #define NONE NULL, 0
 #define COUNT(area) (sizeof(area) / sizeof(area)[0])
@@ -59,6 +63,13 @@ static void null_pointers(void)
                                      WHOLE(selected)) == FERRUNTZO_ACCEPTED);
     EXPECT(selected[0] == FERRUNTZO_CHOSEN_SECOND && selected[1] == 0);
     EXPECT(ferruntzo_root(NONE, NONE, NONE, NONE, NONE, NONE) == FERRUNTZO_SHORT_AREA);
+    EXPECT(ferruntzo_make_reciprocal(NONE, NONE, NONE, NONE) == FERRUNTZO_SHORT_AREA);
+    EXPECT(ferruntzo_make_reciprocal(WHOLE(one), NONE, WHOLE(w), WHOLE(outcome)) == FERRUNTZO_SHORT_AREA);
+    EXPECT(ferruntzo_make_quotient(NONE, NONE, NONE, NONE, NONE, NONE) == FERRUNTZO_SHORT_AREA);
+    EXPECT(ferruntzo_make_quotient(WHOLE(one), WHOLE(one), WHOLE(records), WHOLE(h), WHOLE(w), NONE)
+           == FERRUNTZO_SHORT_AREA);
+    EXPECT(ferruntzo_to_units(NONE, NONE) == FERRUNTZO_SHORT_AREA);
+    EXPECT(ferruntzo_to_units(WHOLE(values), NONE) == FERRUNTZO_SHORT_AREA);
     EXPECT(ferruntzo_check(NONE, NONE, NONE, NONE) == FERRUNTZO_SHORT_AREA);
     answer[0] = answer[1] = 9;
     EXPECT(ferruntzo_check(NONE, NONE, NONE, WHOLE(answer)) == FERRUNTZO_SHORT_AREA);
@@ -225,13 +236,125 @@ static void two_proposals(void)
     EXPECT(selected[0] == 0 && scratch[0] == 7);
 }
 
-/* Models and candidates may stand at any multiple of 4, long numbers at any multiple of 8. */
+/* Whether so many numbers are +0.0: every bit of them is 0. */
+static int zeros(const double *list, size_t length)
+{
+    static const double zero[FERRUNTZO_QUOTIENT_RECORD_SIZE];
+    return memcmp(list, zero, length * sizeof *list) == 0;
+}
+
+/* Puts something into every area of the makers. */
+static void fill(void)
+{
+    memset(record, 0xFF, sizeof record);        /* NaNs */
+    memset(records, 0xFF, sizeof records);
+    memset(h, 0x77, sizeof h);
+    memset(w, 0x77, sizeof w);
+    outcome[0] = 9;
+}
+
+/* Whether 1/g is refused with this number and all areas are zero. */
+static int refuses(const int32_t *g, uint32_t number)
+{
+    fill();
+    return ferruntzo_make_reciprocal(g, FERRUNTZO_MODEL_SIZE, WHOLE(record), WHOLE(w), WHOLE(outcome)) == number
+           && zeros(record, COUNT(record)) && w[0] == 0 && w[1] == 0 && outcome[0] == FERRUNTZO_GIVEN_UP;
+}
+
+/* Reciprocals: settled, given up, and each refusal; settled, but refused by the test. */
+static void made_reciprocals(void)
+{
+    int32_t g[FERRUNTZO_MODEL_SIZE] = {0, 2 * S};
+    fill();
+    EXPECT(ferruntzo_make_reciprocal(WHOLE(g), WHOLE(record), WHOLE(w), WHOLE(outcome)) == 0);
+    EXPECT(record[0] == 0.5 && zeros(record + 1, COUNT(record) - 1) && outcome[0] == FERRUNTZO_SETTLED);
+    EXPECT(w[0] == FERRUNTZO_MAX_DEGREE && w[1] == S / 2 && w[2] == 0 && w[FERRUNTZO_COEFFICIENTS] == 0);
+    g[1] = 4095;
+    EXPECT(refuses(g, FERRUNTZO_LARGE_PROPOSAL));
+    g[1] = 0;
+    EXPECT(refuses(g, FERRUNTZO_NOT_FINITE));
+    g[0] = 1, g[1] = 1, g[2] = S;
+    EXPECT(refuses(g, FERRUNTZO_NOT_FINITE));
+    g[0] = -1;
+    EXPECT(refuses(g, FERRUNTZO_BAD_MODEL));
+    g[0] = 1, g[1] = S, g[2] = 15 * S / 16;     /* 12 rounds are not enough */
+    EXPECT(ferruntzo_make_reciprocal(WHOLE(g), WHOLE(record), WHOLE(w), WHOLE(outcome)) == 0);
+    EXPECT(outcome[0] == FERRUNTZO_GIVEN_UP && record[FERRUNTZO_COEFFICIENTS] > 0 && w[0] == FERRUNTZO_MAX_DEGREE);
+    EXPECT(w[1] > S);
+    g[0] = 31, g[2] = 0, g[32] = S;             /* 1 + T_31 vanishes at -1 */
+    EXPECT(ferruntzo_make_reciprocal(WHOLE(g), WHOLE(record), WHOLE(w), WHOLE(outcome)) == 0);
+    EXPECT(outcome[0] == FERRUNTZO_SETTLED && record[FERRUNTZO_COEFFICIENTS] == 1 / 2147483648.0);
+    EXPECT(ferruntzo_quotient(WHOLE(one), WHOLE(g), WHOLE(w), WHOLE(w), WHOLE(scratch), WHOLE(out), WHOLE(numbers))
+           == FERRUNTZO_NOT_CONTRACTING);
+}
+
+/* Quotients: what is made passes the test; f may be g; refusals 2, 15 and 16; short areas. */
+static void made_quotients(void)
+{
+    int32_t f[FERRUNTZO_MODEL_SIZE] = {1, 3 * S, S}, g[FERRUNTZO_MODEL_SIZE] = {1, 2 * S, S};
+    fill();
+    EXPECT(ferruntzo_make_quotient(WHOLE(f), WHOLE(g), WHOLE(records), WHOLE(h), WHOLE(w), WHOLE(outcome)) == 0);
+    EXPECT(outcome[0] == FERRUNTZO_SETTLED && records[COUNT(records) - 1] < 1 / 16777216.0);
+    EXPECT(ferruntzo_to_units(records, FERRUNTZO_VALUES_SIZE, WHOLE(out)) == 0 && memcmp(out, h, sizeof h) == 0);
+    EXPECT(ferruntzo_to_units(records + FERRUNTZO_VALUES_SIZE, FERRUNTZO_VALUES_SIZE, WHOLE(out)) == 0);
+    EXPECT(memcmp(out, w, sizeof w) == 0);
+    EXPECT(ferruntzo_quotient(WHOLE(f), WHOLE(g), WHOLE(h), WHOLE(w), WHOLE(scratch), WHOLE(out), WHOLE(numbers)) == 0);
+    EXPECT(out[FERRUNTZO_PLACE_RADIUS] < 100);
+    EXPECT(ferruntzo_make_quotient(WHOLE(g), WHOLE(g), WHOLE(records), WHOLE(h), WHOLE(w), WHOLE(outcome)) == 0);
+    EXPECT(h[1] == S && h[2] == 0);
+    f[0] = FERRUNTZO_MAX_DEGREE + 1;
+    fill();
+    EXPECT(ferruntzo_make_quotient(WHOLE(f), WHOLE(g), WHOLE(records), WHOLE(h), WHOLE(w), WHOLE(outcome))
+           == FERRUNTZO_BAD_MODEL);
+    EXPECT(zeros(WHOLE(records)) && h[0] == 0 && w[0] == 0 && outcome[0] == FERRUNTZO_GIVEN_UP);
+    f[0] = 1, f[1] = FERRUNTZO_MAX_WEIGHT, f[2] = 0, g[1] = S, g[2] = 1248179;
+    EXPECT(ferruntzo_make_quotient(WHOLE(f), WHOLE(g), WHOLE(records), WHOLE(h), WHOLE(w), WHOLE(outcome))
+           == FERRUNTZO_NOT_FINITE);            /* f times w, before 16 of w */
+    f[1] = S;
+    EXPECT(ferruntzo_make_quotient(WHOLE(f), WHOLE(g), WHOLE(records), WHOLE(h), WHOLE(w), WHOLE(outcome))
+           == FERRUNTZO_LARGE_PROPOSAL);
+    fill();
+    EXPECT(ferruntzo_make_quotient(WHOLE(f), WHOLE(g), WHOLE(records), SHORT(h), WHOLE(w), WHOLE(outcome))
+           == FERRUNTZO_SHORT_AREA);
+    EXPECT(zeros(WHOLE(records)) && h[0] != 0 && w[0] == 0 && w[33] == 0 && outcome[0] == FERRUNTZO_GIVEN_UP);
+    fill();
+    EXPECT(ferruntzo_make_quotient(SHORT(f), WHOLE(g), SHORT(records), WHOLE(h), WHOLE(w), outcome, 0)
+           == FERRUNTZO_SHORT_AREA);
+    EXPECT(!zeros(records, 1) && h[0] == 0 && w[0] == 0 && outcome[0] == 9);
+    fill();
+    EXPECT(ferruntzo_make_reciprocal(WHOLE(g), SHORT(record), SHORT(w), WHOLE(outcome)) == FERRUNTZO_SHORT_AREA);
+    EXPECT(!zeros(record, 1) && w[0] != 0 && outcome[0] == FERRUNTZO_GIVEN_UP);
+}
+
+/* Values in units: ties to the even number, the limit, 15 and 16. */
+static void values_in_units(void)
+{
+    const double unit = 1.0 / S;
+    values[0] = 2.5 * unit, values[1] = -3.5 * unit, values[2] = -0.5 * unit, values[32] = 0.75 * unit;
+    EXPECT(ferruntzo_to_units(WHOLE(values), WHOLE(h)) == 0);
+    EXPECT(h[0] == FERRUNTZO_MAX_DEGREE && h[1] == 2 && h[2] == -4 && h[3] == 0 && h[33] == 1);
+    values[0] = 256 - 5 * unit;
+    EXPECT(ferruntzo_to_units(WHOLE(values), WHOLE(h)) == 0 && h[1] == FERRUNTZO_MAX_WEIGHT - 5);
+    values[0] = 256 - 4 * unit;
+    EXPECT(ferruntzo_to_units(WHOLE(values), WHOLE(h)) == FERRUNTZO_LARGE_PROPOSAL && h[0] == 0 && h[1] == 0);
+    values[32] = values[0] / values[3];         /* infinite */
+    EXPECT(ferruntzo_to_units(WHOLE(values), WHOLE(h)) == FERRUNTZO_NOT_FINITE && h[0] == 0);
+    values[32] = values[32] - values[32];       /* a NaN */
+    EXPECT(ferruntzo_to_units(WHOLE(values), WHOLE(h)) == FERRUNTZO_NOT_FINITE);
+    h[0] = 7;
+    EXPECT(ferruntzo_to_units(SHORT(values), WHOLE(h)) == FERRUNTZO_SHORT_AREA && h[0] == 0);
+    h[0] = 7;
+    EXPECT(ferruntzo_to_units(WHOLE(values), SHORT(h)) == FERRUNTZO_SHORT_AREA && h[0] == 7);
+}
+
+/* Models and candidates may stand at any multiple of 4, long numbers and doubles at any multiple of 8. */
 static void alignment(void)
 {
     static int32_t room[2 * FERRUNTZO_MODEL_SIZE + 3];
     static int64_t wide[FERRUNTZO_SCRATCH_SIZE + 3];
     static int32_t pair[FERRUNTZO_PROPOSAL_SIZE + 3];
     static uint32_t given[FERRUNTZO_SELECTION_SIZE + 3];
+    static double made[FERRUNTZO_QUOTIENT_RECORD_SIZE + 3];
     const size_t size = FERRUNTZO_MODEL_SIZE;
     for (int shift = 0; shift < 4; shift++) {
         int32_t *a = room + shift, *b = a + size;
@@ -248,6 +371,10 @@ static void alignment(void)
                                          wide + shift, FERRUNTZO_SCRATCH_SIZE, given + shift,
                                          FERRUNTZO_SELECTION_SIZE) == 0);
         EXPECT(given[shift] == FERRUNTZO_CHOSEN_SECOND && given[shift + 1] == 0);
+        EXPECT(ferruntzo_make_quotient(a, size, a, size, made + shift, FERRUNTZO_QUOTIENT_RECORD_SIZE, CANDIDATE(b),
+                                       pair + shift, FERRUNTZO_CANDIDATE_SIZE, given + shift, FERRUNTZO_OUTCOME_SIZE) == 0);
+        EXPECT(made[shift] == 1 && b[1] == S && pair[shift + 1] == S && given[shift] == FERRUNTZO_SETTLED);
+        EXPECT(ferruntzo_to_units(made + shift, FERRUNTZO_VALUES_SIZE, CANDIDATE(b)) == 0 && b[1] == S);
     }
 }
 
@@ -259,6 +386,9 @@ int main(void)
     same_inputs();
     power_series();
     two_proposals();
+    made_reciprocals();
+    made_quotients();
+    values_in_units();
     alignment();
     EXPECT(ferruntzo_evaluate(WHOLE(one), 0, WHOLE(bounds)) == 0 && bounds[0] == S && bounds[1] == S);
     return failures != 0;

@@ -1,13 +1,13 @@
 """The mirror (document 02, S-11) through the library, without the oracle: a call and its counterpart, some of whose
 coefficients are negated, must have answers that are each other's mirror.
 
-  mirror.py                                    plain.c
+  mirror.py                                    plain C
   mirror.py --library libferruntzo.a           the product
   mirror.py --program target/bin/jobcheck      counterparts of jobs must also print the same text
   mirror.py --plant                            spoils an answer of every kind; status 1 then says that each was found
 
 Exits with 0 when every pair agrees, 1 when any does not, 2 when something could not be built or run, or the pairs are too few.
-The same pairs are put to plain.c with ties upwards and downwards, which must fail: so many pairs have a tie that shows.
+The same pairs are put to plain C with ties upwards and downwards, which must fail: so many pairs have a tie that shows.
 """
 
 import argparse
@@ -286,7 +286,7 @@ def answers_by(library, plain, calls):
 
 
 def shown_by(pairs, calls, rule):
-    """How many pairs of each kind fail with plain.c and this rule of ties."""
+    """How many pairs of each kind fail with plain C and this rule of ties."""
     with tempfile.TemporaryDirectory() as folder:
         answers = answers_by(None, spoiled_plain(folder, NEAR, f'{NEAR}    return {rule};\n'), calls)
     return Counter(pair.kind for pair, both in zip(pairs, answers) if not agree(pair, *both))
@@ -311,7 +311,7 @@ def check_counts(pairs, calls, answers):
 def main():
     parser = argparse.ArgumentParser()
     parser.add_argument('--library', type=Path, help='static library under test')
-    parser.add_argument('--plain', type=Path, default=PLAIN, help='C file to test instead')
+    parser.add_argument('--plain', type=Path, default=PLAIN, help='folder of the plain C version to test instead')
     parser.add_argument('--program', type=Path, help='the program jobcheck, for jobs')
     parser.add_argument('--cases', type=int, default=1000, help='random calls of each entry')
     parser.add_argument('--seed', type=int, default=1)

@@ -1,5 +1,6 @@
-"""Are the cases sharp?  Puts one slip at a time into a copy of plain.c and
-demands that compare.py finds a difference.  Slow; for people, not for the gate.
+"""Are the cases sharp?  Puts one slip at a time into a copy of the plain C
+version and demands that compare.py finds a difference.  Slow; for people, not
+for the gate.
 
   slips.py [part of a slip's name]
 """
@@ -10,8 +11,10 @@ import sys
 import tempfile
 from pathlib import Path
 
+from proposal_slips import PROPOSAL_SLIPS
+
 HERE = Path(__file__).resolve().parent
-PLAIN = HERE.parent / 'plain' / 'plain.c'
+PLAIN = HERE.parent / 'plain'
 TESTS = 'quotient,root'
 M_LINE = 'int64_t m = up(weight(c, PRODUCT_SIZE) + 2 * m_weight'
 N_LINE = 'int64_t n = up(weight(c, PRODUCT_SIZE) + 2 * (int64_t)UNIT * f[RADIUS],'
@@ -249,22 +252,24 @@ SLIPS += [(f'walk: {name}, {entry}', entry, P_LINE, new)
           for entry in ('multiply', 'quotient', 'root')]
 
 
-def spoiled_plain(folder, old, new):
-    """A copy of plain.c in the folder with a text altered at its first place."""
-    text = PLAIN.read_text()
-    assert old in text, f'the text to alter is gone: {old}'
-    spoiled = Path(folder) / 'plain.c'
-    spoiled.write_text(text.replace(old, new, 1))
-    for header in ('plain.h', 'expansion_table.h'):
-        (Path(folder) / header).write_text((PLAIN.parent / header).read_text())
-    return spoiled
+def spoiled_plain(folder, old, new, sources=('plain.c', 'areas.h')):
+    """The folder, with a copy of the plain C version: a text is altered at its first place in the first source that has it."""
+    texts = {path.name: path.read_text() for path in PLAIN.iterdir() if path.suffix in ('.c', '.h')}
+    altered = next((name for name in sources if old in texts[name]), None)
+    assert altered, f'the text to alter is gone: {old}'
+    texts[altered] = texts[altered].replace(old, new, 1)
+    for name, text in texts.items():
+        (Path(folder) / name).write_text(text)
+    return Path(folder)
 
 
 def found(slip, folder):
     name, entries, old, new = slip
-    spoiled = spoiled_plain(folder, old, new)
-    run = subprocess.run([sys.executable, str(HERE / 'compare.py'), '--plain', str(spoiled),
-                          '--entries', entries, '--cases', '5000'],
+    sources = {'sources': ('proposals.c',)} if slip in PROPOSAL_SLIPS else {}
+    spoiled = spoiled_plain(folder, old, new, **sources)
+    # The makers' cases take longer, and the fixed ones are to be enough; -lm for the fused operation.
+    run = subprocess.run([sys.executable, str(HERE / 'compare.py'), '--plain', str(spoiled), '--entries', entries,
+                          '--cases', '0' if sources else '5000', '--link=-lm'],
                          stdout=subprocess.PIPE, stderr=subprocess.STDOUT, text=True)
     last = run.stdout.strip().splitlines()[-1]
     # A harness that dies (a division by zero, say) is a find as well.
@@ -276,7 +281,7 @@ def found(slip, folder):
 def main():
     part = sys.argv[1] if len(sys.argv) > 1 else ''
     with tempfile.TemporaryDirectory() as folder:
-        missed = [slip[0] for slip in SLIPS if part in slip[0] and not found(slip, folder)]
+        missed = [slip[0] for slip in (*SLIPS, *PROPOSAL_SLIPS) if part in slip[0] and not found(slip, folder)]
     print(f'{len(missed)} missed', *missed)
     sys.exit(1 if missed else 0)
 

@@ -2,9 +2,9 @@
 
 Each soundness_*() takes what was handed in and what came out, draws a fraction
 and allowed values there, and raises AssertionError when a value that the
-result should cover is not covered.  compare.py calls check() on a sample, and
-check_answered() on every model that the library makes of a series and on every
-proposal that it chooses.
+result should cover is not covered.  compare.py calls check() on a sample and on
+every made proposal that passes its test, and check_answered() on every model that
+the library makes of a series and on every proposal that it chooses.
 """
 
 from fractions import Fraction

@@ -7,8 +7,8 @@
 //! ```
 //!
 //! The typed functions ([`Model::add`], [`Model::from_series`], [`quotient`], [`quotient_of_two`],
-//! [`check`], ...) lend the library areas of the right size. The functions in [`areas`] take the
-//! caller's own slices of every length.
+//! [`make_quotient`], [`check`], ...) lend the library areas of the right size. The functions in
+//! [`areas`] take the caller's own slices of every length.
 //! The crate needs `core` alone, allocates nothing and has no state.
 //!
 //! ```
@@ -29,6 +29,12 @@
 extern crate std;
 
 use core::fmt;
+
+mod proposals;
+pub use proposals::{
+    make_quotient, make_reciprocal, to_units, MadeQuotient, MadeReciprocal, Outcome,
+    QuotientRecord, ReciprocalRecord,
+};
 
 /// One unit is 1/S.
 pub const S: i32 = 1 << 20;
@@ -65,10 +71,18 @@ pub const WORK_SIZE: usize = 1120;
 pub const ANSWER_SIZE: usize = 2;
 /// Numbers in the answer of two proposals: chosen, radius.
 pub const SELECTION_SIZE: usize = 2;
+/// Numbers in an area of values: those of T_0 to T_32.
+pub const VALUES_SIZE: usize = 33;
+/// Numbers in the record of a maker of reciprocals: w, the change.
+pub const RECIPROCAL_RECORD_SIZE: usize = 34;
+/// Numbers in the record of a maker of quotients: f times w, then those of the reciprocal.
+pub const QUOTIENT_RECORD_SIZE: usize = 67;
+/// Numbers in the outcome of a maker.
+pub const OUTCOME_SIZE: usize = 1;
 
 const RADIUS: usize = 34;
 
-/// The numbered refusals of document 01, and number 14 of document 02.
+/// The numbered refusals of document 01, and numbers 14 to 16 of document 02.
 #[derive(Clone, Copy, Debug, PartialEq, Eq, Hash)]
 #[repr(u32)]
 pub enum Refusal {
@@ -100,11 +114,15 @@ pub enum Refusal {
     TooManyResults = 13,
     /// A series' degree or weight, or a nonzero coefficient beyond its degree.
     BadSeries = 14,
+    /// The divisor's first coefficient is zero, or a value is not finite.
+    NotFinite = 15,
+    /// The weight of a list turned into units is above 2^28.
+    LargeProposal = 16,
 }
 
 impl Refusal {
     /// All refusals, by rising number.
-    pub const ALL: [Refusal; 14] = [
+    pub const ALL: [Refusal; 16] = [
         Refusal::ShortArea,
         Refusal::BadModel,
         Refusal::LargeResult,
@@ -119,9 +137,11 @@ impl Refusal {
         Refusal::NotAResult,
         Refusal::TooManyResults,
         Refusal::BadSeries,
+        Refusal::NotFinite,
+        Refusal::LargeProposal,
     ];
 
-    /// Its number, 1 to 14.
+    /// Its number, 1 to 16.
     pub fn number(self) -> u32 {
         self as u32
     }
@@ -149,6 +169,8 @@ impl fmt::Display for Refusal {
             Refusal::NotAResult => "not yet a result",
             Refusal::TooManyResults => "more than 32 results",
             Refusal::BadSeries => "bad series",
+            Refusal::NotFinite => "a divisor begins with zero, or a value is not finite",
+            Refusal::LargeProposal => "proposal too large",
         };
         write!(f, "refused {}: {}", self.number(), reason)
     }
@@ -555,11 +577,13 @@ pub fn check(job: &[u8]) -> Result<CheckedJob, RefusedJob> {
 /// `Err(Refusal::ShortArea)`: an area is shorter than its size. What a written area holds
 /// afterwards depends on its own length: one that is itself too short is not touched; `out`,
 /// `bounds` and `numbers` are zero in their sizes after every refusal, `ShortArea` included; the
-/// `scratch` of a test is zero in its 16 numbers after every call. [`areas::quotient_of_two`] and
-/// [`areas::check`] say what holds of their areas. Numbers behind the sizes stay.
+/// `scratch` of a test is zero in its 16 numbers after every call. [`areas::quotient_of_two`],
+/// [`areas::check`] and the makers say what holds of their areas. Numbers behind the sizes stay.
 #[rustfmt::skip]
 pub mod areas {
     use super::{accepted, chosen_of, raw, Refusal, CANDIDATE_SIZE};
+
+    pub use super::proposals::lent::{make_quotient, make_reciprocal, to_units};
 
     /// a + b; `a`, `b` and `out` have 35 numbers.
     pub fn add(a: &[i32], b: &[i32], out: &mut [i32]) -> Result<(), Refusal> {
@@ -744,6 +768,18 @@ mod raw {
         pub fn ferruntzo_check(
             job: *const u8, job_len: usize, work: *mut i32, work_len: usize,
             scratch: *mut i64, scratch_len: usize, answer: *mut u32, answer_len: usize,
+        ) -> u32;
+        pub fn ferruntzo_make_reciprocal(
+            g: *const i32, g_len: usize, record: *mut f64, record_len: usize,
+            w: *mut i32, w_len: usize, outcome: *mut u32, outcome_len: usize,
+        ) -> u32;
+        pub fn ferruntzo_make_quotient(
+            f: *const i32, f_len: usize, g: *const i32, g_len: usize,
+            record: *mut f64, record_len: usize, h: *mut i32, h_len: usize,
+            w: *mut i32, w_len: usize, outcome: *mut u32, outcome_len: usize,
+        ) -> u32;
+        pub fn ferruntzo_to_units(
+            values: *const f64, values_len: usize, units: *mut i32, units_len: usize,
         ) -> u32;
     }
 }

@@ -4,6 +4,8 @@ use std::format;
 use std::vec;
 use std::vec::Vec;
 
+#[path = "proposal_tests.rs"]
+mod proposals;
 #[path = "selection_tests.rs"]
 mod selection;
 
@@ -229,7 +231,7 @@ fn numbers_of_refusals() {
     for refusal in Refusal::ALL {
         assert_eq!(Refusal::from_number(refusal.number()), Some(refusal));
     }
-    for number in [0, 15, 255, u32::MAX] {
+    for number in [0, 17, 255, u32::MAX] {
         assert_eq!(Refusal::from_number(number), None);
     }
 }
@@ -267,6 +269,10 @@ fn header_agrees() {
         ("WORK_SIZE", WORK_SIZE),
         ("ANSWER_SIZE", ANSWER_SIZE),
         ("SELECTION_SIZE", SELECTION_SIZE),
+        ("VALUES_SIZE", VALUES_SIZE),
+        ("RECIPROCAL_RECORD_SIZE", RECIPROCAL_RECORD_SIZE),
+        ("QUOTIENT_RECORD_SIZE", QUOTIENT_RECORD_SIZE),
+        ("OUTCOME_SIZE", OUTCOME_SIZE),
         ("CHOSEN_FIRST", Chosen::First as usize),
         ("CHOSEN_SECOND", Chosen::Second as usize),
         ("COEFFICIENTS", COEFFICIENTS),

@@ -91,6 +91,12 @@ REFUSALS = [
     Refusal(14, 'BAD_SERIES', 'a degree or weight of a power series is beyond its limit, or a '
             'coefficient beyond the degree is not zero',
             'convert series within their limits; a job never causes it'),
+    Refusal(15, 'NOT_FINITE', 'the first coefficient of a divisor is zero, or a value is not finite, while '
+            'a proposal is made',
+            'take a shorter stretch, on which the divisor keeps away from zero; a job never causes it'),
+    Refusal(16, 'LARGE_PROPOSAL', 'the weight of a made proposal, in units, is above 2^28',
+            'rescale, or take a shorter stretch, on which the divisor keeps away from zero; a job never '
+            'causes it'),
 ]
 REFUSAL = {refusal.number: refusal for refusal in REFUSALS}
 

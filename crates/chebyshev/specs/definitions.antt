@@ -11,3 +11,4 @@ pub mod Primitive
 pub mod Strips
 pub mod Homogeneous
 pub mod Allows
+pub mod Passes

@@ -24,3 +24,4 @@ pub mod Sign
 pub mod RemainderBound
 pub mod StripLaws
 pub mod Examples
+pub mod PassLaws

@@ -1,27 +1,24 @@
--- What the lengths of areas tell, and what an area that has its numbers, or is too short, holds afterwards.
-use mathlib.Core.Path.{_≡_, refl, sym, ap, subst, _∙_}
-use mathlib.Core.Bool.{Bool, true, false, false≢true, _&&_}
-use mathlib.Core.List.{List, _++_}
-use Prim.Native.Nat.{ℕ, _≤_, _<_}
-use borrow.Author.Tests.{leb-true, le-leb, lt-leb}
+-- What the lengths of areas tell, and what operations and tests answer over them.
+use mathlib.Core.Path.{_≡_, ap, _∙_}
+use mathlib.Core.Bool.{Bool, true, _&&_}
+use mathlib.Core.List.{List}
+use Prim.Native.Nat.{ℕ, _≤_}
+use borrow.Author.Tests.{leb-true}
 use lib.IntN.{ℤ}
-use lib.ListN.{length, drop}
-use Rattle.model.specs.definitions.Area.{modelSize, candidateSize, Storable}
+use lib.ListN.{length}
+use Rattle.model.specs.definitions.Area.{modelSize, candidateSize, Storable, fits}
 use Rattle.model.specs.definitions.Outcomes.{Outcome, payload, outcomeOf}
-use Rattle.model.specs.laws.OutcomeLaws.{payload-judged}
+use Rattle.model.specs.laws.AreaLaws.{fit-last}
+use Rattle.model.specs.laws.OutcomeLaws.{held-judged}
 use Rattle.model.specs.declared.types.Model.{Model}
 use Rattle.model.specs.declared.types.ModelOutcome.{ModelOutcome}
 use Rattle.certificate.specs.definitions.Tests.{scratchSize, scratchAfter, Certificate, testOf}
 use Rattle.certificate.specs.declared.types.TestOutcome.{TestOutcome}
-use Rattle.ferruntzo.specs.definitions.Areas.{fits, areaOut, numbersSize}
+use Rattle.ferruntzo.specs.definitions.Areas.{numbersSize}
 use Rattle.ferruntzo.specs.definitions.Operations.{OperationAnswer, outcomeIn}
 use Rattle.ferruntzo.specs.definitions.Certificates.{testAnswer, testIn, testFits}
 
 -- ---- areas that have their numbers
-
-pub fit-last : {A : Type 0} (t : Bool) (n : ℕ) (s : List A) → (t && fits n s) ≡ true → (t ≡ true) × (n ≤ length s)
-fit-last true n s h = (refl, leb-true n (length s) h)
-fit-last false n s h = absurd (false≢true h)
 
 pub two-fit : (m n : ℕ) (a b : List ℤ) → (fits m a && fits n b) ≡ true → (m ≤ length a) × (n ≤ length b)
 two-fit m n a b h = let p = fit-last (fits m a) n b h in (leb-true m (length a) (p .0), p .1)
@@ -44,17 +41,6 @@ test-fits models h w scratch out numbers e =
     let p = fit-last models candidateSize h (q .0) in
     (p .0, p .1, q .1)
 
--- ---- what an area holds afterwards
-
-module _ {A : Type 0} (n : ℕ) (new old : List A) where
-  pub filled : n ≤ length old → new ++ drop n old ≡ areaOut n new old
-  unfolding areaOut
-  filled h = rw (le-leb n (length old) h)
-
-  pub untouched : length old < n → old ≡ areaOut n new old
-  unfolding areaOut
-  untouched h = rw (lt-leb n (length old) h)
-
 -- ---- the model beside a verdict
 
 -- an answer is what f gives for what an area holds, where the code's outcome is f of what it read
@@ -63,11 +49,10 @@ pub answered : {A : Type 0} (f : A → Outcome Model) {o : Outcome Model} {read 
 answered f out a o r = a ∙ ap (λ x. outcomeIn x out) (o ∙ ap f r)
 
 pub outcome-storable : (r : ModelOutcome) {o : Outcome Model} → outcomeOf r ≡ o → Storable (payload o) → Storable (r .model)
-outcome-storable r e h = subst Storable (ap payload (sym e) ∙ payload-judged (r .verdict) (r .model)) h
+outcome-storable r e h = held-judged Storable (r .verdict) (r .model) e h
 
 pub test-storable : (r : TestOutcome) {o : Outcome Certificate} → testOf r ≡ o → Storable (payload o .model) → Storable (r .model)
-test-storable r e h =
-    subst (λ (c : Certificate). Storable (c .model)) (ap payload (sym e) ∙ payload-judged (r .verdict) _) h
+test-storable r e h = held-judged (λ (c : Certificate). Storable (c .model)) (r .verdict) _ e h
 
 -- ---- what a test answers over its areas
 

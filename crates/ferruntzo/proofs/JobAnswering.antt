@@ -9,6 +9,7 @@ use native.Mathlib.Omega.{arith}
 use borrow.Author.Tests.{le-leb, lt-leb, ne-eqb}
 use lib.IntN.{ℤ}
 use lib.ListN.{length, drop}
+use Rattle.model.specs.definitions.Area.{areaOut}
 use Rattle.model.specs.definitions.Outcomes.{numberOf, here}
 use Rattle.model.specs.laws.OutcomeLaws.{numberOf-positive}
 use Rattle.job.specs.definitions.Outcomes.{JobOutcome, jobOutcomeOf, counted, refusalNumber, refusedCommand, resultCount}
@@ -17,7 +18,6 @@ use Rattle.job.specs.definitions.Requirement.{Requirement3}
 use Rattle.job.specs.laws.RequirementLaws.{refused-required, required-behind}
 use Rattle.job.specs.declared.types.JobOutcome.{JobOutcome as CodeOutcome}
 use Rattle.job.specs.declared.types.JobOutcome.the-variants.{Accepted, Refused}
-use Rattle.ferruntzo.specs.definitions.Areas.{areaOut}
 use Rattle.ferruntzo.specs.definitions.Jobs.{answerSize, jobAnswer, checkAnswer, answerIn, exportedPlaces}
 
 -- the numbers of an answer, in an area that has room for them

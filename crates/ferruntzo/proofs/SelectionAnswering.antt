@@ -5,7 +5,7 @@ use mathlib.Core.List.{List, [], _∷_}
 use Prim.Native.Nat.{ℕ, _≤_}
 use lib.IntN.{ℤ}
 use lib.ListN.{length, getD}
-use Rattle.model.specs.definitions.Area.{modelSize, areaModel}
+use Rattle.model.specs.definitions.Area.{modelSize, areaModel, fits, areaOut}
 use Rattle.model.specs.definitions.Outcomes.{Outcome, accepted}
 use Rattle.model.specs.declared.types.Model.{Model}
 use Rattle.certificate.specs.definitions.Tests.{scratchSize, scratchAfter}
@@ -13,9 +13,10 @@ use Rattle.selection.specs.definitions.Select.{Selected, makeSelected, selectio
 use Rattle.selection.specs.definitions.Promise.{QuotientAllowed}
 use Rattle.selection.specs.laws.SelectLaws.{selected-number, selected-payload}
 use Rattle.selection.specs.laws.SelectSound.{selection-allowed}
-use Rattle.ferruntzo.specs.definitions.Areas.{fits, areaOut, selectionSize}
+use Rattle.ferruntzo.specs.definitions.Areas.{selectionSize}
 use Rattle.ferruntzo.specs.definitions.Selections.{SelectionAnswer, selectionAnswer, selectionFits, shortSelection, selectionIn, quotientOfTwoAnswer}
-use Rattle.ferruntzo.proofs.Answering.{fit-last, two-fit, filled}
+use Rattle.model.specs.laws.AreaLaws.{fit-last, filled}
+use Rattle.ferruntzo.proofs.Answering.{two-fit}
 
 -- the areas have their numbers
 pub selection-fits : (f g scratch : List ℤ) (answer : List ℕ) → selectionFits scratchSize f g scratch answer ≡ true

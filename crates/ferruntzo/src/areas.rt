@@ -3,11 +3,10 @@ ghost use mathlib.Core.Path.{_≡_};
 ghost use mathlib.Core.List.{[], _∷_};
 ghost use Prim.Native.Nat.{_≤_};
 ghost use lib.ListN.{length};
-ghost use Rattle.model.specs.definitions.Area.{modelSize, candidateSize, words, areaModel, areaCandidate, Storable};
-ghost use Rattle.ferruntzo.specs.definitions.Areas.{boundsSize, numbersSize, selectionSize, areaOut};
+ghost use Rattle.model.specs.definitions.Area.{modelSize, candidateSize, words, areaCandidate, Storable, areaOut};
+ghost use Rattle.ferruntzo.specs.definitions.Areas.{boundsSize, numbersSize, selectionSize};
 use model::area::CANDIDATE_SIZE;
 use model::area::MODEL_SIZE;
-use model::area::read;
 use model::area::read_candidate;
 use model::area::write;
 use model::types::Candidate;
@@ -21,14 +20,6 @@ pub(crate) const NUMBERS_SIZE: usize = 3;
 
 // Which of two proposals is chosen, and its radius.
 pub(crate) const SELECTION_SIZE: usize = 2;
-
-// The model in an area.
-pub(crate) fn model_in(area: &[i32]) -> Model
-    requires { ⌜ modelSize ≤ length (now area) ⌝ }
-    ensures { λ (r : Model). ⌜ r ≡ areaModel (now (area .entry)) ⌝ }
-{
-    read(&area[..MODEL_SIZE])
-}
 
 // The candidate in an area.
 pub(crate) fn candidate_in(area: &[i32]) -> Candidate

@@ -4,5 +4,6 @@ pub mod areas;
 pub mod certificates;
 pub mod conversions;
 pub mod jobs;
+pub mod makers;
 pub mod operations;
 pub mod selections;

@@ -11,12 +11,12 @@ ghost use Rattle.ferruntzo.specs.definitions.Operations.{operationFor, s
 ghost use Rattle.ferruntzo.specs.definitions.Operations.{binaryAnswer, unaryAnswer};
 ghost use Rattle.ferruntzo.specs.definitions.Operations.{boundsIn, evaluationAnswer, evaluateAnswer};
 use crate::areas::BOUNDS_SIZE;
-use crate::areas::model_in;
 use crate::areas::store_bounds;
 use crate::areas::store_model;
 use model::add::add;
 use model::add::subtract;
 use model::area::MODEL_SIZE;
+use model::area::model_in;
 use model::evaluate::evaluate;
 use model::integrate::integrate;
 use model::multiply::multiply;

@@ -15,6 +15,7 @@ pub mod FractionLinear
 pub mod RoundingLaws
 pub mod RoundingExamples
 pub mod RoundingSize
+pub mod NearLaws
 pub mod FractionRounding
 pub mod Archimedean
 pub mod Machine

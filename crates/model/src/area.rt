@@ -1,5 +1,6 @@
 // Areas of signed 32-bit numbers: a model is its degree, its coefficients and its radius, a candidate the first two.
 ghost use mathlib.Core.Path.{_≡_};
+ghost use Prim.Native.Nat.{_≤_};
 ghost use lib.ListN.{length};
 ghost use Rattle.model.specs.definitions.Area.{modelSize, candidateSize, unsignedOf, areaModel};
 ghost use Rattle.model.specs.definitions.Area.{areaCandidate, words, Storable};
@@ -26,7 +27,7 @@ fn unsigned(x: i32) -> u32
     }
 }
 
-fn copy(from: &[i32], to: &mut [i32])
+pub fn copy(from: &[i32], to: &mut [i32])
     requires { ⌜ length (now from) ≡ length (now to) ⌝ }
     ensures { λ _. ⌜ now (to .exit) ≡ now (from .entry) ⌝ }
 {
@@ -59,6 +60,14 @@ pub fn read(area: &[i32]) -> Model
     let coefficients = candidate.coefficients;
     let radius = unsigned(area[CANDIDATE_SIZE]);
     Model::new(candidate.degree, coefficients, radius)
+}
+
+// The model in an area, which may be longer.
+pub fn model_in(area: &[i32]) -> Model
+    requires { ⌜ modelSize ≤ length (now area) ⌝ }
+    ensures { λ (r : Model). ⌜ r ≡ areaModel (now (area .entry)) ⌝ }
+{
+    read(&area[..MODEL_SIZE])
 }
 
 // The 35 numbers of a model.

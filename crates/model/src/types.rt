@@ -37,6 +37,8 @@ pub enum Refusal {
     NotAResult,
     TooManyResults,
     BadSeries,
+    NotFinite,
+    LargeProposal,
 }
 
 // How an operation ends.
@@ -76,6 +78,8 @@ pub fn number_of(refusal: Refusal) -> u32
         Refusal::NotAResult => 12,
         Refusal::TooManyResults => 13,
         Refusal::BadSeries => 14,
+        Refusal::NotFinite => 15,
+        Refusal::LargeProposal => 16,
     }
 }
 

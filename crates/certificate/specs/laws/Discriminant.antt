@@ -16,7 +16,7 @@ use Rattle.integer.specs.laws.Parts.{_⁺, abs, sum}
 use Rattle.integer.specs.laws.Difference.{<-parts}
 use Rattle.integer.specs.definitions.Rounding.{upℕ}
 use Rattle.chebyshev.specs.definitions.Coefficients.{weight, addLists, subtractLists, scaleList, coefficientSum}
-use Rattle.chebyshev.specs.definitions.Product.{addAt, addPair, addTerm, addTerms, product}
+use Rattle.chebyshev.specs.definitions.Product.{product, addAtBy, addPairBy, addTermBy, addTermsBy}
 use Rattle.model.specs.definitions.Models.{scale, good, tooLarge, makeModel, constantModel, zeroModel}
 use Rattle.model.specs.definitions.Multiply.{productList}
 use Rattle.model.specs.definitions.Outcomes.{number, passing}
@@ -67,5 +67,5 @@ pub wrapped-discriminant : (numbers 0 ∷ numbers 4 ∷ [])
     ≡ (0 ∷ (2 ^ 28 - 4) ∷ (2 ^ 36 - 2 ^ 10) ∷ (2 ^ 67 - 2 ^ 41) ∷ (2 ^ 64 - 2 ^ 41) ∷ 2 ^ 40 ∷ 8 ∷ [])
     ∷ (0 ∷ 2 ^ 28 ∷ 2 ^ 36 ∷ 2 ^ 67 ∷ 0 ∷ 2 ^ 40 ∷ 8 ∷ [])
     ∷ []
-unfolding rootNeeding rootPlaces rootContraction rootResidual rootModel displacement coefficientSum productList passing good tooLarge constantModel zeroModel weight addLists subtractLists scaleList addAt addPair addTerm addTerms product upℕ
+unfolding rootNeeding rootPlaces rootContraction rootResidual rootModel displacement coefficientSum productList passing good tooLarge constantModel zeroModel weight addLists subtractLists scaleList addAtBy addPairBy addTermBy addTermsBy product upℕ
 wrapped-discriminant = refl

@@ -5,7 +5,7 @@ use lib.IntN.{pos}
 use lib.ListN.{replicate}
 use Rattle.integer.specs.definitions.Rounding.{upℕ}
 use Rattle.chebyshev.specs.definitions.Coefficients.{weight, addLists, subtractLists, scaleList, coefficientSum}
-use Rattle.chebyshev.specs.definitions.Product.{addAt, addPair, addTerm, addTerms, product}
+use Rattle.chebyshev.specs.definitions.Product.{product, addAtBy, addPairBy, addTermBy, addTermsBy}
 use Rattle.model.specs.definitions.Models.{good, tooLarge, makeModel, constantModel, zeroModel}
 use Rattle.model.specs.definitions.Outcomes.{accepted, refused, passing}
 use Rattle.model.specs.declared.types.Model.{Model}
@@ -31,5 +31,5 @@ Benchmarks =
     × (rootOutcome byDiscriminant 16 (constantModel (pos 1048576)) h w ≡ refused 8 zeroCertificate)
 
 pub benchmarks : Benchmarks
-unfolding quotientNeeding rootNeeding rootPlaces quotientContraction quotientResidual quotientModel rootContraction rootResidual rootModel displacement coefficientSum productList passing good tooLarge constantModel zeroModel weight addLists subtractLists scaleList addAt addPair addTerm addTerms product upℕ
+unfolding quotientNeeding rootNeeding rootPlaces quotientContraction quotientResidual quotientModel rootContraction rootResidual rootModel displacement coefficientSum productList passing good tooLarge constantModel zeroModel weight addLists subtractLists scaleList addAtBy addPairBy addTermBy addTermsBy product upℕ
 benchmarks = (refl, refl, refl, refl)

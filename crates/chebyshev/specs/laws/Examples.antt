@@ -4,7 +4,7 @@ use mathlib.Core.List.{[], _∷_}
 use lib.IntN.{pos, negsuc}
 use Rattle.integer.specs.definitions.Integer.{ℤ-ring}
 use Rattle.chebyshev.specs.definitions.Convolution.{convolution, correlation}
-use Rattle.chebyshev.specs.definitions.Product.{addAt, addPair, addTerm, addTerms, productWalk}
+use Rattle.chebyshev.specs.definitions.Product.{productWalk, addAtBy, addPairBy, addTermBy, addTermsBy}
 use Rattle.integer.specs.definitions.Fraction.{whole}
 use Rattle.integer.specs.laws.FractionSolver.{reifyℚ, solveℚ}
 use Rattle.chebyshev.specs.definitions.Coefficients.{lipschitzWeight}
@@ -13,7 +13,7 @@ use Rattle.chebyshev.specs.definitions.Strips.{leftSum}
 
 -- the pair (0, 0) counts twice, in one visit: 2·3·5 at place 0
 both-conditions : productWalk ℤ-ring 1 (pos 3 ∷ []) (pos 5 ∷ []) ≡ (pos 30 ∷ [], 1)
-unfolding addTerms addTerm addPair addAt
+unfolding addTermsBy addTermBy addPairBy addAtBy
 both-conditions = refl
 
 both-conditions-sums : twoSums ℤ-ring 0 (pos 3 ∷ []) (pos 5 ∷ []) ≡ pos 30
@@ -22,12 +22,12 @@ both-conditions-sums = refl
 
 -- three coefficients and two: six visits
 six-visits : productWalk ℤ-ring 4 (pos 1 ∷ pos 2 ∷ pos 3 ∷ []) (pos 4 ∷ pos 5 ∷ []) ≡ (pos 18 ∷ pos 41 ∷ pos 34 ∷ pos 15 ∷ [], 6)
-unfolding addTerms addTerm addPair addAt
+unfolding addTermsBy addTermBy addPairBy addAtBy
 six-visits = refl
 
 -- one coefficient and none: no visit, and the list stays
 no-visit : productWalk ℤ-ring 2 (pos 3 ∷ []) [] ≡ (pos 0 ∷ pos 0 ∷ [], 0)
-unfolding addTerms addTerm
+unfolding addTermsBy addTermBy
 no-visit = refl
 
 -- (1, 2, 3) and (4, 5): a_0·b_1 + a_1·b_0 of place 1, and b_0·a_1 + b_1·a_2

@@ -11,7 +11,7 @@ use Rattle.integer.specs.laws.Difference.{all1, all2, differences}
 use Rattle.integer.specs.definitions.Integer.{ℤ-ring}
 use Rattle.chebyshev.specs.definitions.Coefficients.{weight, addLists, subtractLists}
 use Rattle.chebyshev.specs.definitions.Negation.{none, every, odd, negatedIf, negatedFrom}
-use Rattle.chebyshev.specs.definitions.Product.{distance, addAt, addPair, Walk, visit, addTerm, addTerms, product}
+use Rattle.chebyshev.specs.definitions.Product.{distance, addAt, addPair, Walk, visit, addTerm, addTerms, product, addAtBy, addPairBy, addTermBy, addTermsBy}
 
 -- ---- one coefficient
 
@@ -93,7 +93,7 @@ module _ (chosen : ℕ → Bool) where
       opposites k (c ∷ b) = ap₂ _∷_ (swap (chosen k) c) (opposites (suc k) b)
 
   addAt-negated : (m : ℕ) (c : List ℤ) (k : ℕ) (v : ℤ) → negatedFrom chosen m (addAt ℤ-ring c k v) ≡ addAt ℤ-ring (negatedFrom chosen m c) k (negatedIf (chosen (m + k)) v)
-  unfolding negatedFrom addAt
+  unfolding negatedFrom addAtBy
   addAt-negated m [] k v = refl
   addAt-negated m (x ∷ c) zero v =
       let e : m + 0 ≡ m = omega arith in
@@ -153,7 +153,7 @@ signs-odd = record { at-sum = odd-sum; at-distance = λ i j x y. odd-sum i j x y
 module _ {s t u : ℕ → Bool} (signs : Signs s t u) where
   addPair-negated : (c : List ℤ) (i j : ℕ) (x y : ℤ)
       → negatedFrom u 0 (addPair ℤ-ring c i j (x *ℤ y)) ≡ addPair ℤ-ring (negatedFrom u 0 c) i j (negatedIf (s i) x *ℤ negatedIf (t j) y)
-  unfolding addPair
+  unfolding addPairBy
   addPair-negated c i j x y =
       addAt-negated u 0 (addAt ℤ-ring c (i + j) (x *ℤ y)) (distance i j) (x *ℤ y)
       ∙ ap₂ (λ l v. addAt ℤ-ring l (distance i j) v)
@@ -161,20 +161,20 @@ module _ {s t u : ℕ → Bool} (signs : Signs s t u) where
       (ap (λ (k : ℕ). negatedIf (u k) (x *ℤ y)) (omega arith) ∙ sym (signs .at-distance i j x y))
 
   -- a walk whose list is negated
-  abbrev turned : Walk ℤ-ring → Walk ℤ-ring
+  abbrev turned : Walk ℤ → Walk ℤ
   turned w = (negatedFrom u 0 (w .0), w .1)
 
-  addTerm-negated : (w : Walk ℤ-ring) (x : ℤ) (i j : ℕ) (b : List ℤ)
+  addTerm-negated : (w : Walk ℤ) (x : ℤ) (i j : ℕ) (b : List ℤ)
       → turned (addTerm ℤ-ring w x i j b) ≡ addTerm ℤ-ring (turned w) (negatedIf (s i) x) i j (negatedFrom t j b)
-  unfolding addTerm negatedFrom
+  unfolding addTermBy negatedFrom
   addTerm-negated w x i j [] = refl
   addTerm-negated w x i j (y ∷ b) =
       addTerm-negated (visit ℤ-ring w i j (x *ℤ y)) x i (suc j) b
       ∙ ap (λ l. addTerm ℤ-ring (l, w .1 + 1) (negatedIf (s i) x) i (suc j) (negatedFrom t (suc j) b)) (addPair-negated (w .0) i j x y)
 
-  addTerms-negated : (w : Walk ℤ-ring) (i : ℕ) (a b : List ℤ)
+  addTerms-negated : (w : Walk ℤ) (i : ℕ) (a b : List ℤ)
       → turned (addTerms ℤ-ring w i a b) ≡ addTerms ℤ-ring (turned w) i (negatedFrom s i a) (negatedFrom t 0 b)
-  unfolding addTerms negatedFrom
+  unfolding addTermsBy negatedFrom
   addTerms-negated w i [] b = refl
   addTerms-negated w i (x ∷ a) b =
       addTerms-negated (addTerm ℤ-ring w x i 0 b) (suc i) a b

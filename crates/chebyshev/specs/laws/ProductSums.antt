@@ -13,7 +13,7 @@ use lib.Seq.{ext-getD}
 use Rattle.integer.specs.definitions.Ring.{CommutativeRing}
 use Rattle.integer.specs.laws.Solver.{reify, solve}
 use Rattle.chebyshev.specs.laws.CoefficientLaws.{add-zero}
-use Rattle.chebyshev.specs.definitions.Product.{distance, addAt, addPair, Walk, visit, addTerm, addTerms, product}
+use Rattle.chebyshev.specs.definitions.Product.{distance, addAt, addPair, Walk, visit, addTerm, addTerms, product, addAtBy, addPairBy, addTermBy, addTermsBy}
 use Rattle.chebyshev.specs.definitions.TwoSums.{sum, sumWhere, twoSums}
 use Rattle.chebyshev.specs.laws.ProductLaws.{getD-addAt-same, getD-addAt-other, length-addAt, length-addPair, length-addTerm, length-product}
 
@@ -70,15 +70,15 @@ module _ (R : CommutativeRing) where
   contribution k i j v = cond (eqb (i + j) k) v (ι (pos 0)) ⊕ cond (eqb (distance i j) k) v (ι (pos 0))
 
   getD-addPair : (c : List A) (i j k : ℕ) (v : A) → k < length c → getD (addPair R c i j v) k (ι (pos 0)) ≡ getD c k (ι (pos 0)) ⊕ contribution k i j v
-  unfolding addPair
+  unfolding addPairBy
   getD-addPair c i j k v h =
       getD-addAt (addAt R c (i + j) v) (distance i j) k v (rw length-addAt h)
       ∙ ap (λ w. w ⊕ cond (eqb (distance i j) k) v (ι (pos 0))) (getD-addAt c (i + j) k v h)
       ∙ add-assoc (getD c k (ι (pos 0))) (cond (eqb (i + j) k) v (ι (pos 0))) (cond (eqb (distance i j) k) v (ι (pos 0)))
 
-  getD-addTerm : (w : Walk R) (x : A) (i j : ℕ) (b : List A) (k : ℕ) → k < length (w .0)
+  getD-addTerm : (w : Walk A) (x : A) (i j : ℕ) (b : List A) (k : ℕ) → k < length (w .0)
       → getD (addTerm R w x i j b .0) k (ι (pos 0)) ≡ getD (w .0) k (ι (pos 0)) ⊕ sum R (length b) (λ n. contribution k i (j + n) (x ⊗ getD b n (ι (pos 0))))
-  unfolding addTerm sum
+  unfolding addTermBy sum
   getD-addTerm w x i j [] k h = sym (add-zero R (getD (w .0) k (ι (pos 0))))
   getD-addTerm w x i j (y ∷ b) k h =
       getD-addTerm (visit R w i j (x ⊗ y)) x i (suc j) b k (rw length-addPair h)
@@ -86,9 +86,9 @@ module _ (R : CommutativeRing) where
       ∙ add-assoc (getD (w .0) k (ι (pos 0))) (contribution k i j (x ⊗ y)) (sum R (length b) (λ n. contribution k i (suc j + n) (x ⊗ getD b n (ι (pos 0)))))
       ∙ ap (λ v. getD (w .0) k (ι (pos 0)) ⊕ v) (sum-shift (length b) j (λ m n. contribution k i m (x ⊗ getD (y ∷ b) n (ι (pos 0)))))
 
-  getD-addTerms : (w : Walk R) (i : ℕ) (a b : List A) (k : ℕ) → k < length (w .0)
+  getD-addTerms : (w : Walk A) (i : ℕ) (a b : List A) (k : ℕ) → k < length (w .0)
       → getD (addTerms R w i a b .0) k (ι (pos 0)) ≡ getD (w .0) k (ι (pos 0)) ⊕ sum R (length a) (λ m. sum R (length b) (λ n. contribution k (i + m) n (getD a m (ι (pos 0)) ⊗ getD b n (ι (pos 0)))))
-  unfolding addTerms sum
+  unfolding addTermsBy sum
   getD-addTerms w i [] b k h = sym (add-zero R (getD (w .0) k (ι (pos 0))))
   getD-addTerms w i (x ∷ a) b k h =
       getD-addTerms (addTerm R w x i 0 b) (suc i) a b k (rw length-addTerm h)
@@ -141,18 +141,18 @@ module _ (R : CommutativeRing) where
   -- ---- zeros at the top do not count
 
   addAt-zero : (c : List A) (k : ℕ) → addAt R c k (ι (pos 0)) ≡ c
-  unfolding addAt
+  unfolding addAtBy
   addAt-zero [] k = refl
   addAt-zero (x ∷ c) zero = ap (λ v. v ∷ c) (add-zero R x)
   addAt-zero (x ∷ c) (suc k) = ap (λ l. x ∷ l) (addAt-zero c k)
 
-  addTerm-zero : (w : Walk R) (i j : ℕ) (b : List A) → addTerm R w (ι (pos 0)) i j b .0 ≡ w .0
-  unfolding addTerm addPair
+  addTerm-zero : (w : Walk A) (i j : ℕ) (b : List A) → addTerm R w (ι (pos 0)) i j b .0 ≡ w .0
+  unfolding addTermBy addPairBy
   addTerm-zero w i j [] = refl
   addTerm-zero w i j (y ∷ b) = addTerm-zero (visit R w i j (ι (pos 0) ⊗ y)) i (suc j) b ∙ simp (zero-mul, addAt-zero) refl
 
-  addTerms-zeros : (w : Walk R) (i : ℕ) (a : List A) (n : ℕ) (b : List A) → addTerms R w i (a ++ replicate n (ι (pos 0))) b .0 ≡ addTerms R w i a b .0
-  unfolding addTerms
+  addTerms-zeros : (w : Walk A) (i : ℕ) (a : List A) (n : ℕ) (b : List A) → addTerms R w i (a ++ replicate n (ι (pos 0))) b .0 ≡ addTerms R w i a b .0
+  unfolding addTermsBy
   addTerms-zeros w i [] zero b = refl
   addTerms-zeros w i [] (suc n) b = addTerms-zeros (addTerm R w (ι (pos 0)) i 0 b) (suc i) [] n b ∙ addTerm-zero w i 0 b
   addTerms-zeros w i (x ∷ a) n b = addTerms-zeros (addTerm R w x i 0 b) (suc i) a n b

@@ -14,7 +14,7 @@ use Rattle.chebyshev.specs.definitions.Coefficients.{weight}
 use Rattle.chebyshev.specs.definitions.Norms.{norm}
 use Rattle.chebyshev.specs.laws.NormLaws.{norm-zeros}
 use Rattle.chebyshev.specs.laws.Weight.{norm-weight}
-use Rattle.chebyshev.specs.definitions.Product.{distance, addAt, addPair, Walk, visit, addTerm, addTerms, product}
+use Rattle.chebyshev.specs.definitions.Product.{distance, addAt, addPair, Walk, visit, addTerm, addTerms, product, addAtBy, addPairBy, addTermBy, addTermsBy}
 
 module _ (O : OrderedRing) where
   open OrderedRing O using (ring, le as _≼_, abs, abs-nonneg)
@@ -24,7 +24,7 @@ module _ (O : OrderedRing) where
   infixl 7 _⊗_
   infix 4 _≼_
   norm-addAt : (c : List A) (k : ℕ) (v : A) → norm O (addAt ring c k v) ≼ norm O c ⊕ abs v
-  unfolding norm addAt
+  unfolding norm addAtBy
   norm-addAt [] k v = by-certificate O (abs-nonneg v) (solve ring (abs v ∷ []) (search reify depth 20) (search reify depth 20) tt)
   norm-addAt (x ∷ c) zero v =
       by-certificate O (gap O (triangle O x v))
@@ -34,13 +34,13 @@ module _ (O : OrderedRing) where
       (solve ring (abs x ∷ abs v ∷ norm O c ∷ norm O (addAt ring c k v) ∷ []) (search reify depth 20) (search reify depth 20) tt)
 
   norm-addPair : (c : List A) (i j : ℕ) (v : A) → norm O (addPair ring c i j v) ≼ norm O c ⊕ ι (pos 2) ⊗ abs v
-  unfolding addPair
+  unfolding addPairBy
   norm-addPair c i j v =
       by-certificate O (_⊞_ O (gap O (norm-addAt (addAt ring c (i + j) v) (distance i j) v)) (gap O (norm-addAt c (i + j) v)))
       (solve ring (norm O (addAt ring (addAt ring c (i + j) v) (distance i j) v) ∷ norm O (addAt ring c (i + j) v) ∷ norm O c ∷ abs v ∷ []) (search reify depth 20) (search reify depth 20) tt)
 
-  norm-addTerm : (w : Walk ring) (x : A) (i j : ℕ) (b : List A) → norm O (addTerm ring w x i j b .0) ≼ norm O (w .0) ⊕ ι (pos 2) ⊗ abs x ⊗ norm O b
-  unfolding norm addTerm
+  norm-addTerm : (w : Walk A) (x : A) (i j : ℕ) (b : List A) → norm O (addTerm ring w x i j b .0) ≼ norm O (w .0) ⊕ ι (pos 2) ⊗ abs x ⊗ norm O b
+  unfolding norm addTermBy
   norm-addTerm w x i j [] = le-of-eq O (solve ring (norm O (w .0) ∷ abs x ∷ []) (search reify depth 20) (search reify depth 20) tt)
   norm-addTerm w x i j (y ∷ b) =
       _⟨≼⟩_ O (norm-addTerm (visit ring w i j (x ⊗ y)) x i (suc j) b)
@@ -48,8 +48,8 @@ module _ (O : OrderedRing) where
       (le-of-eq O (ap (λ p. norm O (w .0) ⊕ ι (pos 2) ⊗ p ⊕ ι (pos 2) ⊗ abs x ⊗ norm O b) (abs-mul O x y)
       ∙ solve ring (norm O (w .0) ∷ abs x ∷ abs y ∷ norm O b ∷ []) (search reify depth 20) (search reify depth 20) tt)))
 
-  norm-addTerms : (w : Walk ring) (i : ℕ) (a b : List A) → norm O (addTerms ring w i a b .0) ≼ norm O (w .0) ⊕ ι (pos 2) ⊗ norm O a ⊗ norm O b
-  unfolding norm addTerms
+  norm-addTerms : (w : Walk A) (i : ℕ) (a b : List A) → norm O (addTerms ring w i a b .0) ≼ norm O (w .0) ⊕ ι (pos 2) ⊗ norm O a ⊗ norm O b
+  unfolding norm addTermsBy
   norm-addTerms w i [] b = le-of-eq O (solve ring (norm O (w .0) ∷ norm O b ∷ []) (search reify depth 20) (search reify depth 20) tt)
   norm-addTerms w i (x ∷ a) b =
       _⟨≼⟩_ O (norm-addTerms (addTerm ring w x i 0 b) (suc i) a b)
@@ -70,10 +70,10 @@ weight-addAt c k v = le-pos _ _ (simp (norm-weight, ∣∣-is) at (norm-addAt �
 pub weight-addPair : (c : List ℤ) (i j : ℕ) (v : ℤ) → weight (addPair ℤ-ring c i j v) ≤ weight c + 2 * natAbs v
 weight-addPair c i j v = le-pos _ _ (simp (norm-weight, ∣∣-is) at (norm-addPair ℤ-ordered c i j v))
 
-pub weight-addTerm : (w : Walk ℤ-ring) (x : ℤ) (i j : ℕ) (b : List ℤ) → weight (addTerm ℤ-ring w x i j b .0) ≤ weight (w .0) + 2 * natAbs x * weight b
+pub weight-addTerm : (w : Walk ℤ) (x : ℤ) (i j : ℕ) (b : List ℤ) → weight (addTerm ℤ-ring w x i j b .0) ≤ weight (w .0) + 2 * natAbs x * weight b
 weight-addTerm w x i j b = le-pos _ _ (simp (norm-weight, ∣∣-is) at (norm-addTerm ℤ-ordered w x i j b))
 
-pub weight-addTerms : (w : Walk ℤ-ring) (i : ℕ) (a b : List ℤ) → weight (addTerms ℤ-ring w i a b .0) ≤ weight (w .0) + 2 * weight a * weight b
+pub weight-addTerms : (w : Walk ℤ) (i : ℕ) (a b : List ℤ) → weight (addTerms ℤ-ring w i a b .0) ≤ weight (w .0) + 2 * weight a * weight b
 weight-addTerms w i a b = le-pos _ _ (simp norm-weight at (norm-addTerms ℤ-ordered w i a b))
 
 pub weight-product : (width : ℕ) (a b : List ℤ) → weight (product ℤ-ring width a b) ≤ 2 * weight a * weight b

@@ -6,11 +6,11 @@ use lib.IntN.{ℤ}
 use lib.ListN.{length}
 use Rattle.model.specs.definitions.Outcomes.{Outcome, refused, number, payload}
 use Rattle.model.specs.definitions.Models.{candidateModel}
-use Rattle.model.specs.definitions.Area.{modelSize, candidateSize, words, areaModel, areaCandidate}
+use Rattle.model.specs.definitions.Area.{modelSize, candidateSize, words, areaModel, areaCandidate, fits, areaOut}
 use Rattle.certificate.specs.definitions.Tests.{scratchSize, scratchAfter, Certificate, zeroCertificate}
 use Rattle.certificate.specs.definitions.Quotient.{quotientNeeding}
 use Rattle.certificate.specs.definitions.Root.{byDiscriminant, rootNeeding}
-use Rattle.ferruntzo.specs.definitions.Areas.{fits, areaOut, numbersSize}
+use Rattle.ferruntzo.specs.definitions.Areas.{numbersSize}
 
 -- refusal 1, whichever area is too short: "Any other number an entry answers … is zero on refusal too"
 abbrev pub shortTest : Outcome Certificate

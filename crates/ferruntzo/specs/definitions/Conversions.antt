@@ -3,10 +3,9 @@ use mathlib.Core.Bool.{cond, _&&_}
 use mathlib.Core.List.{List}
 use Prim.Native.Nat.{ℕ}
 use lib.IntN.{ℤ}
-use Rattle.model.specs.definitions.Area.{modelSize, candidateSize, areaCandidate}
+use Rattle.model.specs.definitions.Area.{modelSize, candidateSize, areaCandidate, fits}
 use Rattle.series.specs.definitions.Convert.{conversion}
 use Rattle.series.specs.declared.types.Series.{Series}
-use Rattle.ferruntzo.specs.definitions.Areas.{fits}
 use Rattle.ferruntzo.specs.definitions.Operations.{shortOutcome, outcomeIn, OperationAnswer}
 
 -- how many numbers a series has: its degree and p_0..p_32, as many as a candidate

@@ -5,9 +5,9 @@ use Prim.Native.Nat.{ℕ}
 use lib.Dec.{eqb}
 use lib.IntN.{ℤ}
 use lib.ListN.{length, getD}
+use Rattle.model.specs.definitions.Area.{fits, areaOut}
 use Rattle.job.specs.definitions.Outcomes.{JobOutcome, accepted, refused, counted, refusalNumber, refusedCommand, resultCount}
 use Rattle.job.specs.definitions.Work.{areaPlace, areaPlaces, checkOutcome, workAfter, scratchAfterJob}
-use Rattle.ferruntzo.specs.definitions.Areas.{fits, areaOut}
 
 -- how many numbers an answer has: the count of results, and the number of the refused command
 abbrev pub answerSize : ℕ

@@ -4,14 +4,14 @@ use mathlib.Core.Bool.{cond, _&&_}
 use mathlib.Core.List.{List, [], _∷_}
 use Prim.Native.Nat.{ℕ}
 use lib.IntN.{ℤ}
-use Rattle.model.specs.definitions.Area.{modelSize, words, areaModel}
+use Rattle.model.specs.definitions.Area.{modelSize, words, areaModel, fits, areaOut}
 use Rattle.model.specs.definitions.Evaluate.{Bounds, zeroBounds, evaluation}
 use Rattle.model.specs.definitions.Models.{zeroModel}
 use Rattle.model.specs.definitions.Outcomes.{Outcome, refused, number, payload}
 use Rattle.model.specs.definitions.Add.{addition, subtraction}
 use Rattle.model.specs.definitions.Multiply.{multiplication}
 use Rattle.model.specs.declared.types.Model.{Model}
-use Rattle.ferruntzo.specs.definitions.Areas.{boundsSize, fits, areaOut}
+use Rattle.ferruntzo.specs.definitions.Areas.{boundsSize}
 use Rattle.ferruntzo.specs.declared.operations.Operation.{Operation}
 use Rattle.ferruntzo.specs.declared.operations.Operation.the-variants.{Add, Subtract, Multiply}
 

@@ -5,10 +5,10 @@ use Prim.Native.Nat.{ℕ}
 use lib.IntN.{ℤ}
 use lib.ListN.{length}
 use Rattle.model.specs.definitions.Outcomes.{Outcome, refused, number, payload}
-use Rattle.model.specs.definitions.Area.{modelSize, areaModel}
+use Rattle.model.specs.definitions.Area.{modelSize, areaModel, fits, areaOut}
 use Rattle.certificate.specs.definitions.Tests.{scratchSize, scratchAfter}
 use Rattle.selection.specs.definitions.Select.{selectionNeeding, Selected, makeSelected}
-use Rattle.ferruntzo.specs.definitions.Areas.{fits, areaOut, selectionSize}
+use Rattle.ferruntzo.specs.definitions.Areas.{selectionSize}
 
 -- refusal 1, where an area other than a proposal is too short
 abbrev pub shortSelection : Outcome Selected

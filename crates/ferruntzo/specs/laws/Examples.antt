@@ -6,11 +6,12 @@ use mathlib.Core.List.{List, [], _∷_, _++_}
 use Prim.Native.Nat.{ℕ, _-_}
 use lib.IntN.{ℤ, pos, negsuc}
 use lib.ListN.{length, drop, replicate}
+use Rattle.model.specs.definitions.Area.{areaOut}
 use Rattle.integer.specs.definitions.Lists.{zeros}
 use Rattle.integer.specs.definitions.Rounding.{floor, up, upℕ, near}
 use Rattle.chebyshev.specs.definitions.Coefficients.{weight, addLists, subtractLists, scaleList, coefficientSum}
 use Rattle.chebyshev.specs.definitions.Neighbours.{neighbourSums}
-use Rattle.chebyshev.specs.definitions.Product.{addAt, addPair, addTerm, addTerms, product}
+use Rattle.chebyshev.specs.definitions.Product.{product, addAtBy, addPairBy, addTermBy, addTermsBy}
 use Rattle.model.specs.definitions.Models.{good, tooLarge, zeroModel}
 use Rattle.model.specs.definitions.Outcomes.{passing}
 use Rattle.model.specs.definitions.Add.{sumModel, addition}
@@ -31,7 +32,6 @@ use Rattle.job.specs.definitions.Reading.{readingPlaces}
 use Rattle.job.specs.definitions.Step.{command}
 use Rattle.job.specs.definitions.Run.{run, jobOutcome}
 use Rattle.job.specs.definitions.Work.{checkNeeding, workNeeding, workWith, resultWords, scratchAfterJob}
-use Rattle.ferruntzo.specs.definitions.Areas.{areaOut}
 use Rattle.ferruntzo.specs.definitions.Operations.{operationAnswer, outcomeIn, binaryAnswer, evaluationAnswer, boundsIn, evaluateAnswer}
 use Rattle.ferruntzo.specs.definitions.Certificates.{testAnswer, testIn, rootAnswer, testFits}
 use Rattle.ferruntzo.specs.definitions.Jobs.{jobAnswer, checkAnswer}
@@ -94,7 +94,7 @@ pub tests :
     × (rootAnswer (area 0 (pos 2097152 ∷ []) 35) h w (nines 15) (nines 36) (9 ∷ 9 ∷ 9 ∷ 9 ∷ [])
     ≡ testAnswer 1 (nines 15) (zeros 35 ++ nines 1) (0 ∷ 0 ∷ 0 ∷ 9 ∷ []))
     × (testFits 65 true h w (nines 64) (nines 35) (9 ∷ 9 ∷ 9 ∷ []) ≡ false)
-unfolding testIn areaOut scratchAfter rootNeeding rootPlaces rootContraction rootResidual rootModel displacement coefficientSum productList passing good tooLarge zeroModel weight addLists subtractLists scaleList addAt addPair addTerm addTerms product upℕ zeros
+unfolding testIn areaOut scratchAfter rootNeeding rootPlaces rootContraction rootResidual rootModel displacement coefficientSum productList passing good tooLarge zeroModel weight addLists subtractLists scaleList addAtBy addPairBy addTermBy addTermsBy product upℕ zeros
 tests = (refl, refl, refl, refl, refl)
 
 -- two proposals for 1/3 with the helper 1/3: the first has 67 numbers, the second is chosen with radius 2; neither passes; a model area of
@@ -111,7 +111,7 @@ pub selections :
     ≡ selectionAnswer 1 (zeros 16 ++ nines 1) (0 ∷ 0 ∷ 9 ∷ []))
     × (quotientOfTwoAnswer one one [] third (nines 15) (9 ∷ 9 ∷ 9 ∷ []) ≡ selectionAnswer 1 (nines 15) (0 ∷ 0 ∷ 9 ∷ []))
     × (quotientOfTwoAnswer one one (third ++ third) (third ++ third) (nines 16) (9 ∷ []) ≡ selectionAnswer 1 (zeros 16) (9 ∷ []))
-unfolding selectionIn areaOut scratchAfter tighter proposalNeeding quotientNeeding quotientContraction quotientResidual quotientModel displacement productList passing good tooLarge zeroModel weight addLists subtractLists scaleList addAt addPair addTerm addTerms product upℕ zeros
+unfolding selectionIn areaOut scratchAfter tighter proposalNeeding quotientNeeding quotientContraction quotientResidual quotientModel displacement productList passing good tooLarge zeroModel weight addLists subtractLists scaleList addAtBy addPairBy addTermBy addTermsBy product upℕ zeros
 selections = (refl, refl, refl, refl, refl)
 
 -- a job refused at command 1, the count before the command; a job accepted with one result; and areas that are too short

@@ -8,7 +8,7 @@ use lib.IntN.{ℤ}
 use lib.ListN.{length}
 use borrow.Author.Tests.{le-leb}
 use Rattle.model.specs.definitions.Models.{productSize, candidateModel}
-use Rattle.model.specs.definitions.Area.{modelSize, candidateSize, areaModel, areaCandidate}
+use Rattle.model.specs.definitions.Area.{modelSize, candidateSize, areaModel, areaCandidate, fits, areaOut}
 use Rattle.certificate.specs.definitions.Tests.{scratchSize}
 use Rattle.certificate.specs.definitions.Root.{byDiscriminant}
 use Rattle.certificate.specs.laws.GroupTheorem.{quotient-as-65, root-as-65}
@@ -16,7 +16,7 @@ use Rattle.job.specs.definitions.Outcomes.{JobOutcome, counted, refusalNumber, 
 use Rattle.job.specs.definitions.Work.{checkNeeding, workNeeding}
 use Rattle.job.specs.laws.CheckLaws.{check-as-65, work-as-65}
 use Rattle.selection.specs.laws.SelectLaws.{selection-as-65}
-use Rattle.ferruntzo.specs.definitions.Areas.{fits, areaOut, numbersSize, selectionSize}
+use Rattle.ferruntzo.specs.definitions.Areas.{numbersSize, selectionSize}
 use Rattle.ferruntzo.specs.definitions.Certificates.{testFits, shortTest, quotientCall, rootCall}
 use Rattle.ferruntzo.specs.definitions.Jobs.{answerSize, checkAnswer}
 use Rattle.ferruntzo.specs.definitions.Selections.{shortSelection, selectionCall}

@@ -1,9 +1,11 @@
--- Models and candidates in areas of signed 32-bit numbers. A model is "35 numbers … (degree, coefficients, radius)"; "A
--- candidate is a model without a radius".
+-- Lent areas, and models and candidates in areas of signed 32-bit numbers. A model is "35 numbers … (degree, coefficients,
+-- radius)"; "A candidate is a model without a radius".
+use mathlib.Core.Bool.{Bool, cond}
 use mathlib.Core.List.{List, [], _∷_, _++_}
 use Prim.Native.Nat.{ℕ, _+_, _-_, _^_, _≤_}
+use lib.Dec.{leb}
 use lib.IntN.{ℤ, pos, negsuc}
-use lib.ListN.{getD, take, drop}
+use lib.ListN.{length, getD, take, drop}
 use Rattle.model.specs.definitions.Models.{maxDegree, coefficientCount, maxRadius, makeModel}
 use Rattle.model.specs.declared.types.Model.{Model}
 use Rattle.model.specs.declared.types.Candidate.{Candidate}
@@ -14,6 +16,14 @@ modelSize = 35
 
 abbrev pub candidateSize : ℕ
 candidateSize = 34
+
+-- whether an area has its n numbers
+abbrev pub fits : {A : Type 0} → ℕ → List A → Bool
+fits n s = leb n (length s)
+
+-- an area afterwards: the new numbers stand in its n, and numbers behind stay; one that is itself too short is not touched
+unfoldable pub areaOut : {A : Type 0} → ℕ → List A → List A → List A
+areaOut n new old = cond (fits n old) (new ++ drop n old) old
 
 -- the numbers of a model
 abbrev pub words : Model → List ℤ

@@ -1,13 +1,16 @@
--- Numbers behind a model or a candidate in an area play no part, and a model written is the model read.
+-- Numbers behind a model or a candidate in an area play no part, and a model written is the model read. What the length of an area
+-- tells, and what one that has its numbers, or is too short, holds afterwards.
+use borrow.Author.Tests.{leb-true, le-leb, lt-leb}
 use mathlib.Core.Path.{_≡_, refl}
-use mathlib.Core.List.{List, [], _∷_}
-use Prim.Native.Nat.{ℕ, zero, suc, _+_, _≤_}
+use mathlib.Core.Bool.{Bool, true, false, false≢true, _&&_}
+use mathlib.Core.List.{List, [], _∷_, _++_}
+use Prim.Native.Nat.{ℕ, zero, suc, _+_, _≤_, _<_}
 use native.Mathlib.Omega.{arith}
 use lib.IntN.{ℤ, pos}
 use lib.ListN.{length, take, drop, length-append}
 use lib.Seq.{take-take, getD-take, take-at, getD-at}
 use Rattle.model.specs.definitions.Models.{coefficientCount}
-use Rattle.model.specs.definitions.Area.{modelSize, candidateSize, words, areaModel, areaCandidate}
+use Rattle.model.specs.definitions.Area.{modelSize, candidateSize, words, areaModel, areaCandidate, fits, areaOut}
 use Rattle.model.specs.declared.types.Model.{Model}
 
 coefficients-front : (n : ℕ) (s : List ℤ) → candidateSize ≤ n → take coefficientCount (drop 1 (take n s)) ≡ take coefficientCount (drop 1 s)
@@ -27,3 +30,20 @@ length-words m h = simp length-append (omega arith)
 pub model-words : (m : Model) → length (m .coefficients) ≡ coefficientCount → areaModel (words m) ≡ m
 model-words m h =
     rw (take-at (m .coefficients) (pos (m .radius) ∷ []) coefficientCount h, getD-at (pos (m .degree) ∷ m .coefficients) (pos (m .radius)) [] (pos 0) (coefficientCount + 1) (omega arith))
+
+-- ---- areas that have their numbers
+
+pub fit-last : {A : Type 0} (t : Bool) (n : ℕ) (s : List A) → (t && fits n s) ≡ true → (t ≡ true) × (n ≤ length s)
+fit-last true n s h = (refl, leb-true n (length s) h)
+fit-last false n s h = absurd (false≢true h)
+
+-- ---- what an area holds afterwards
+
+module _ {A : Type 0} (n : ℕ) (new old : List A) where
+  pub filled : n ≤ length old → new ++ drop n old ≡ areaOut n new old
+  unfolding areaOut
+  filled h = rw (le-leb n (length old) h)
+
+  pub untouched : length old < n → old ≡ areaOut n new old
+  unfolding areaOut
+  untouched h = rw (lt-leb n (length old) h)

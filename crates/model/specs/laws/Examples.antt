@@ -6,7 +6,7 @@ use lib.IntN.{ℤ, pos, negsuc}
 use lib.ListN.{length, replicate}
 use Rattle.integer.specs.definitions.Rounding.{floor, up, upℕ, near}
 use Rattle.chebyshev.specs.definitions.Coefficients.{weight, addLists, subtractLists}
-use Rattle.chebyshev.specs.definitions.Product.{addAt, addPair, addTerm, addTerms, product}
+use Rattle.chebyshev.specs.definitions.Product.{product, addAtBy, addPairBy, addTermBy, addTermsBy}
 use Rattle.model.specs.definitions.Models.{coefficientCount, good, tooLarge, makeModel, constantModel, zeroModel}
 use Rattle.model.specs.definitions.Outcomes.{accepted, passing}
 use Rattle.model.specs.definitions.Multiply.{multiplication, productModel, productList, productLoss}
@@ -37,5 +37,5 @@ Benchmarks =
     × (evaluation quadratic (pos 524288) ≡ accepted (record { low = negsuc 524288; high = negsuc 524286 }))
 
 pub benchmarks : Benchmarks
-unfolding multiplication productModel productList productLoss rounded roundingLoss integration integralModel integralList halved numerators doubleFirst alternating evaluation lowBound highBound pointTerm pointSum pointError passing good tooLarge constantModel zeroModel weight addLists subtractLists addAt addPair addTerm addTerms product floor up upℕ near
+unfolding multiplication productModel productList productLoss rounded roundingLoss integration integralModel integralList halved numerators doubleFirst alternating evaluation lowBound highBound pointTerm pointSum pointError passing good tooLarge constantModel zeroModel weight addLists subtractLists addAtBy addPairBy addTermBy addTermsBy product floor up upℕ near
 benchmarks = (refl, refl, refl, refl, refl, refl)

@@ -6,7 +6,7 @@ use lib.IntN.{pos, negsuc}
 use Rattle.integer.specs.definitions.Rounding.{floor, up, upℕ, near}
 use Rattle.chebyshev.specs.definitions.Coefficients.{weight, addLists, subtractLists}
 use Rattle.chebyshev.specs.definitions.Negation.{odd, negatedFrom}
-use Rattle.chebyshev.specs.definitions.Product.{addAt, addPair, addTerm, addTerms, product}
+use Rattle.chebyshev.specs.definitions.Product.{product, addAtBy, addPairBy, addTermBy, addTermsBy}
 use Rattle.model.specs.definitions.Evaluate.{evaluation, zeroBounds, lowBound, highBound, pointTerm, pointSum, pointError}
 use Rattle.model.specs.definitions.Integrate.{integration, integralModel, integralList, halved, numerators, doubleFirst, alternating}
 use Rattle.model.specs.definitions.Mirror.{negated, mirrored}
@@ -35,7 +35,7 @@ Ties =
     × (evaluation (mirrored cubic) (negsuc 2559) ≡ accepted (record { low = pos 925696; high = pos 925697 }))
 
 pub ties : Ties
-unfolding multiplication productModel productList productLoss rounded roundingLoss integration integralModel integralList halved numerators doubleFirst alternating evaluation lowBound highBound pointTerm pointSum pointError passing good tooLarge constantModel zeroModel weight addLists subtractLists addAt addPair addTerm addTerms product floor up upℕ near odd negatedFrom
+unfolding multiplication productModel productList productLoss rounded roundingLoss integration integralModel integralList halved numerators doubleFirst alternating evaluation lowBound highBound pointTerm pointSum pointError passing good tooLarge constantModel zeroModel weight addLists subtractLists addAtBy addPairBy addTermBy addTermsBy product floor up upℕ near odd negatedFrom
 ties = (refl, refl, refl, refl, refl, refl)
 
 -- −2^31·T_1

@@ -1,5 +1,5 @@
 -- Two answers of the code with one meaning are the same answer.
-use mathlib.Core.Path.{_≡_, refl, sym, _∙_, ap}
+use mathlib.Core.Path.{_≡_, refl, sym, _∙_, ap, subst}
 use mathlib.Core.Bool.{cond}
 use Prim.Native.Nat.{ℕ, _<_}
 use native.Mathlib.Omega.{arith}
@@ -9,7 +9,7 @@ use Rattle.model.specs.definitions.Evaluate.{boundsOf}
 use Rattle.model.specs.declared.types.ModelOutcome.{ModelOutcome}
 use Rattle.model.specs.declared.types.BoundsOutcome.{BoundsOutcome}
 use Rattle.model.specs.declared.types.Refusal.{Refusal}
-use Rattle.model.specs.declared.types.Refusal.the-variants.{ShortArea, BadModel, LargeResult, PointOutside, NotContracting, LargeResidual, HelperNotPositive, NegativeDiscriminant, BadValue, JobEnds, BytesAfterEnd, NotAResult, TooManyResults, BadSeries}
+use Rattle.model.specs.declared.types.Refusal.the-variants.{ShortArea, BadModel, LargeResult, PointOutside, NotContracting, LargeResidual, HelperNotPositive, NegativeDiscriminant, BadValue, JobEnds, BytesAfterEnd, NotAResult, TooManyResults, BadSeries, NotFinite, LargeProposal}
 use Rattle.model.specs.declared.types.Verdict.{Verdict}
 use Rattle.model.specs.declared.types.Verdict.the-variants.{Accepted, Refused}
 
@@ -28,7 +28,9 @@ named n =
     (cond (eqb n 10) JobEnds
     (cond (eqb n 11) BytesAfterEnd
     (cond (eqb n 12) NotAResult
-    (cond (eqb n 13) TooManyResults BadSeries))))))))))))
+    (cond (eqb n 13) TooManyResults
+    (cond (eqb n 14) BadSeries
+    (cond (eqb n 15) NotFinite LargeProposal))))))))))))))
 
 named-number : (r : Refusal) → named (numberOf r) ≡ r
 named-number ShortArea = refl
@@ -45,6 +47,8 @@ named-number BytesAfterEnd = refl
 named-number NotAResult = refl
 named-number TooManyResults = refl
 named-number BadSeries = refl
+named-number NotFinite = refl
+named-number LargeProposal = refl
 
 -- no refusal has the number of an acceptance
 pub numberOf-positive : (r : Refusal) → 0 < numberOf r
@@ -62,6 +66,8 @@ numberOf-positive BytesAfterEnd = omega arith
 numberOf-positive NotAResult = omega arith
 numberOf-positive TooManyResults = omega arith
 numberOf-positive BadSeries = omega arith
+numberOf-positive NotFinite = omega arith
+numberOf-positive LargeProposal = omega arith
 
 pub numberOf-injective : (r s : Refusal) → numberOf r ≡ numberOf s → r ≡ s
 numberOf-injective r s e = sym (named-number r) ∙ ap named e ∙ named-number s
@@ -78,6 +84,10 @@ module _ {A : Type 0} where
   pub payload-judged : (v : Verdict) (a : A) → payload (judged v a) ≡ a
   payload-judged Accepted a = refl
   payload-judged (Refused r) a = refl
+
+  -- what holds of an outcome's values holds of the values that it was made of
+  pub held-judged : (P : A → Type 0) (v : Verdict) (a : A) {o : Outcome A} → judged v a ≡ o → P (payload o) → P a
+  held-judged P v a e h = subst P (ap payload (sym e) ∙ payload-judged v a) h
 
   pub number-judged : (v : Verdict) (a : A) → number (judged v a) ≡ verdictNumber v
   number-judged Accepted a = refl

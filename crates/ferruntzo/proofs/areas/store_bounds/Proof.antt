@@ -6,7 +6,7 @@ use lib.Seq.{sets-eq}
 use mir.Facts.{toZ-ofZ}
 use denote.Ref.{now}
 use Rattle.ferruntzo.specs.definitions.Areas.{boundsSize}
-use Rattle.ferruntzo.proofs.Answering.{filled, untouched}
+use Rattle.model.specs.laws.AreaLaws.{filled, untouched}
 use Rattle.ferruntzo.proofs.areas.store_bounds.Statement.{statement}
 use Rattle.ferruntzo.proofs.areas.store_bounds.Tie as tie
 

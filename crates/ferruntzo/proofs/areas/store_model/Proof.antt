@@ -7,7 +7,7 @@ use lib.IntN.{ℤ}
 use lib.ListN.{drop, length-take}
 use denote.Ref.{now}
 use Rattle.model.specs.definitions.Area.{modelSize, words}
-use Rattle.ferruntzo.proofs.Answering.{filled, untouched}
+use Rattle.model.specs.laws.AreaLaws.{filled, untouched}
 use Rattle.ferruntzo.proofs.areas.store_model.Statement.{statement}
 use Rattle.ferruntzo.proofs.areas.store_model.Tie as tie
 

@@ -7,7 +7,7 @@ use lib.ListN.{length-set}
 use lib.Seq.{sets-eq}
 use denote.Ref.{now}
 use Rattle.ferruntzo.specs.definitions.Areas.{numbersSize}
-use Rattle.ferruntzo.proofs.Answering.{filled, untouched}
+use Rattle.model.specs.laws.AreaLaws.{filled, untouched}
 use Rattle.ferruntzo.proofs.areas.store_numbers.Statement.{statement}
 use Rattle.ferruntzo.proofs.areas.store_numbers.Tie as tie
 

@@ -5,7 +5,7 @@ use mathlib.Core.List.{[], _∷_}
 use lib.Seq.{sets-eq}
 use denote.Ref.{now}
 use Rattle.ferruntzo.specs.definitions.Areas.{selectionSize}
-use Rattle.ferruntzo.proofs.Answering.{filled, untouched}
+use Rattle.model.specs.laws.AreaLaws.{filled, untouched}
 use Rattle.ferruntzo.proofs.areas.store_selected.Statement.{statement}
 use Rattle.ferruntzo.proofs.areas.store_selected.Tie as tie
 

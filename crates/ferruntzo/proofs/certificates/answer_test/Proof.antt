@@ -3,10 +3,10 @@ use borrow.Author.Needs.{needs}
 use mathlib.Core.Path.{sym, ap, _∙_}
 use mathlib.Core.List.{[], _∷_}
 use denote.Ref.{now}
-use Rattle.model.specs.definitions.Area.{modelSize, words}
+use Rattle.model.specs.definitions.Area.{modelSize, words, areaOut}
 use Rattle.model.specs.laws.OutcomeLaws.{number-judged, payload-judged}
 use Rattle.certificate.specs.definitions.Tests.{scratchAfter, Certificate, makeCertificate}
-use Rattle.ferruntzo.specs.definitions.Areas.{areaOut, numbersSize}
+use Rattle.ferruntzo.specs.definitions.Areas.{numbersSize}
 use Rattle.ferruntzo.specs.definitions.Certificates.{testAnswer, testIn}
 use Rattle.ferruntzo.proofs.certificates.answer_test.Statement.{statement}
 use Rattle.ferruntzo.proofs.certificates.answer_test.Tie as tie

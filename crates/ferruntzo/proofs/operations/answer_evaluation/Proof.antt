@@ -6,9 +6,10 @@ use mir.Syntax.{w64}
 use mir.Val.{SFits}
 use mir.Facts.{toZ-ofZ}
 use denote.Ref.{now}
+use Rattle.model.specs.definitions.Area.{areaOut}
 use Rattle.model.specs.definitions.Evaluate.{Bounds}
 use Rattle.model.specs.laws.OutcomeLaws.{number-judged, payload-judged}
-use Rattle.ferruntzo.specs.definitions.Areas.{boundsSize, areaOut}
+use Rattle.ferruntzo.specs.definitions.Areas.{boundsSize}
 use Rattle.ferruntzo.specs.definitions.Operations.{evaluationAnswer, boundsIn}
 use Rattle.ferruntzo.proofs.operations.answer_evaluation.Statement.{statement}
 use Rattle.ferruntzo.proofs.operations.answer_evaluation.Tie as tie

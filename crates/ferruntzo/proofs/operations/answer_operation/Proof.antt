@@ -2,10 +2,9 @@
 use borrow.Author.Needs.{needs}
 use mathlib.Core.Path.{sym, ap, _∙_}
 use denote.Ref.{now}
-use Rattle.model.specs.definitions.Area.{modelSize, words}
+use Rattle.model.specs.definitions.Area.{modelSize, words, areaOut}
 use Rattle.model.specs.laws.OutcomeLaws.{number-judged, payload-judged}
 use Rattle.model.specs.declared.types.Model.{Model}
-use Rattle.ferruntzo.specs.definitions.Areas.{areaOut}
 use Rattle.ferruntzo.specs.definitions.Operations.{operationAnswer, outcomeIn}
 use Rattle.ferruntzo.proofs.operations.answer_operation.Statement.{statement}
 use Rattle.ferruntzo.proofs.operations.answer_operation.Tie as tie

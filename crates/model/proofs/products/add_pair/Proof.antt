@@ -7,7 +7,7 @@ use native.Mathlib.Omega.{arith}
 use lib.IntN.{ℤ}
 use mir.Facts.{toZ-ofZ}
 use Rattle.integer.specs.definitions.Integer.{ℤ-ring}
-use Rattle.chebyshev.specs.definitions.Product.{addAt, addPair}
+use Rattle.chebyshev.specs.definitions.Product.{addAt, addPairBy}
 use Rattle.chebyshev.specs.laws.ProductLaws.{length-addAt}
 use Rattle.chebyshev.specs.laws.ProductWeight.{weight-addAt}
 use Rattle.model.proofs.products.add_pair.Statement.{statement}
@@ -36,7 +36,7 @@ add-at-requires-2 c κs =
     (omega (arith, length-addAt ℤ-ring (cs a) (s a .args .i + s a .args .j) (v a), weight-addAt (cs a) (s a .args .i + s a .args .j) (v a), s a .pre))
 
 returns : tie.Need-returns
-unfolding addPair
+unfolding addPairBy
 returns k =
     let c = k .before in
     let a = c .before .before .before .before in

@@ -1,12 +1,12 @@
--- `areas::model_in` meets its contract: numbers behind play no part.
+-- `area::model_in` meets its contract: numbers behind play no part.
 use mathlib.Core.Path.{_∙_}
 use native.Mathlib.Omega.{arith}
 use lib.ListN.{length-take}
 use denote.Ref.{now}
 use Rattle.model.specs.definitions.Area.{modelSize}
 use Rattle.model.specs.laws.AreaLaws.{model-front}
-use Rattle.ferruntzo.proofs.areas.model_in.Statement.{statement}
-use Rattle.ferruntzo.proofs.areas.model_in.Tie as tie
+use Rattle.model.proofs.area.model_in.Statement.{statement}
+use Rattle.model.proofs.area.model_in.Tie as tie
 
 returns : tie.Need-returns
 returns c = c .read .ensures ∙ model-front modelSize (now (c .before .before .args .area)) (omega arith)

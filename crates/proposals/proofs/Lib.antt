@@ -1,0 +1,5 @@
+pub mod Mapping
+pub mod Reversal
+pub mod Tests
+pub mod Passes
+pub mod Answering

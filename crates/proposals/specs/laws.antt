@@ -1,0 +1,17 @@
+pub mod ValueLaws
+pub mod RoundsLaws
+pub mod UnitsLaws
+pub mod BitsLaws
+pub mod ValueExact
+pub mod MakerLaws
+pub mod ConstantProduct
+pub mod ValueOperations
+pub mod PowerLaws
+pub mod ExactCase
+pub mod FiniteOperations
+pub mod FiniteWalk
+pub mod FiniteChange
+pub mod FiniteLaws
+pub mod EndingLaws
+pub mod FiniteMaking
+pub mod Examples

@@ -1,0 +1,56 @@
+/* What plain.c and proposals.c share: limits, refusals, good models, cleared areas. */
+#ifndef AREAS_H
+#define AREAS_H
+
+#include <stddef.h>
+#include <stdint.h>
+#include <string.h>
+
+#define UNIT 1048576             /* S: one unit is 1/S */
+#define LIMIT 268435456          /* largest weight, radius and N */
+#define MAX_DEGREE 32
+#define COEFFICIENTS 33
+#define RADIUS 34                /* place of the radius in a model area */
+#define MODEL_SIZE 35
+#define CANDIDATE_SIZE 34
+
+enum { SHORT_AREA = 1, BAD_MODEL = 2 };
+
+static int64_t magnitude(int64_t n) { return n < 0 ? -n : n; }
+
+/* The weight of a model or candidate area. */
+static int64_t model_weight(const int32_t *a)
+{
+    int64_t sum = 0;
+    for (int k = 1; k <= COEFFICIENTS; k++)
+        sum += magnitude(a[k]);
+    return sum;
+}
+
+static int good_candidate(const int32_t *a)
+{
+    if (a[0] < 0 || a[0] > MAX_DEGREE)
+        return 0;
+    for (int k = a[0] + 1; k < COEFFICIENTS; k++)
+        if (a[1 + k] != 0)
+            return 0;
+    return model_weight(a) <= LIMIT;
+}
+
+static int good_model(const int32_t *a)
+{
+    return good_candidate(a) && a[RADIUS] >= 0 && a[RADIUS] <= LIMIT;
+}
+
+/* Clears an area that has its numbers, whatever the others have, and says whether it has. */
+#define CLEAR(area, size) clear(area, area##_len, size, sizeof *(area))
+
+static int clear(void *area, size_t length, size_t size, size_t width)
+{
+    if (length < size)
+        return 0;
+    memset(area, 0, size * width);
+    return 1;
+}
+
+#endif
