@@ -49,7 +49,7 @@ KINDS = {
 }
 SIGNED_JOB, MIRRORED_JOB = 'job, signs of its loads', 'job, mirrored'
 ENTRY = {**{kind: entry for kind, (entry, _, _) in KINDS.items()}, SIGNED_JOB: 'check', MIRRORED_JOB: 'check'}
-BLOCKS = {o.LOAD: 1, o.QUOTIENT: 2, o.ROOT: 2}
+BLOCKS = {o.LOAD: 1, o.QUOTIENT: 2, o.ROOT: 2, o.TIGHT_ROOT: 2}
 # Of each kind at least: pairs, accepted ones, pairs that a wrong rule of ties shows in.
 PAIRS, ACCEPTED, SHOWN = 600, 300, 50
 ANSWER_AREAS = ('out', 'bounds', 'work', 'answer')
@@ -127,7 +127,7 @@ def load_signs(rng, commands):
         named = [masks[name] for name in operands[:o.RESULT_BYTES[byte]]]
         if byte == o.LOAD:
             mask, loads = 1 << loads, loads + 1
-        elif byte == o.ROOT:
+        elif byte in (o.ROOT, o.TIGHT_ROOT):
             mask = 0
             equal.append(named[0])
         else:
@@ -180,7 +180,8 @@ def drawn_cases(rng, wanted):
         yield job_cases.case(jobs.tied_builder(rng).job())
     # Every refusal behind a load that no command before it names: its sign is free, and it is not its own mirror.
     head = jobs.EDITION_1 + jobs.load(FOUR) + jobs.load(CURVE)
-    for command in (*job_cases.faulty_commands(2), *(jobs.root(0, FOUR, model([0, w])) for w in (S, -S))):
+    signs = [root(0, FOUR, model([0, w])) for root in (jobs.root, jobs.tight_root) for w in (S, -S)]
+    for command in (*job_cases.faulty_commands(2), *signs):
         yield job_cases.case(head + command + jobs.END)
 
 

@@ -2,7 +2,8 @@
 
   tool_mistakes.py [--verbose]
 
-Each mistake is made in examples/stretch.job, whose commands are known.
+Each mistake is made in examples/stretch.job, whose commands are known; those that leave every byte in its place also with its
+root by 0x22.
 """
 
 import struct
@@ -16,7 +17,7 @@ sys.path.insert(0, str(ROOT / 'tools'))
 from header import BLOCK_BYTES, COEFFICIENTS, MAX_DEGREE               # noqa: E402
 from ferruntzo_tool import explain                                      # noqa: E402
 from ferruntzo_tool.reading import Checked, read_block, split, write_block  # noqa: E402
-from ferruntzo_tool.tables import S                                     # noqa: E402
+from ferruntzo_tool.tables import BY_NAME, S                            # noqa: E402
 
 GOOD = (ROOT / 'examples' / 'stretch.job').read_bytes()
 STEPS = split(GOOD)[0]
@@ -165,6 +166,15 @@ MISTAKES = [
 ]
 
 
+def tighter(job):
+    """The job with its root by 0x22."""
+    return job[:ROOT_STEP.offset] + bytes([BY_NAME['tight_root'].byte]) + job[ROOT_STEP.offset + 1:]
+
+
+MISTAKES += [(f'{name}, 0x22', tighter(job), words) for name, job, words in MISTAKES
+             if len(job) == len(GOOD) and job[ROOT_STEP.offset] == ROOT_STEP.command.byte]
+
+
 def main():
     missed = 0
     for name, job, words in MISTAKES:
@@ -177,10 +187,11 @@ def main():
             if not named:
                 print('\n'.join('      ' + line for line in lines[-6:]))
         missed += not named
-    good = '\n'.join(explain.explanation(GOOD, Checked(GOOD)))
-    if 'mistake' in good or 'CAUTION' in good:
-        print('a good job is said to have a mistake')
-        missed += 1
+    for job in (GOOD, tighter(GOOD)):
+        good = '\n'.join(explain.explanation(job, Checked(job)))
+        if 'mistake' in good or 'CAUTION' in good:
+            print('a good job is said to have a mistake')
+            missed += 1
     print(f'{len(MISTAKES)} mistakes, {missed} not named')
     sys.exit(1 if missed else 0)
 

@@ -49,6 +49,8 @@ def other_layouts(job, at):
         if ended and number > 1:
             yield f'read so, the job ends well: {name}'
             return
+    if walk(job, None, None, lambda number, name: False)[1]:
+        return
     for place in (at, at - 1):
         for block in ('radius', 'h', 'w', 'model'):
             for name, block_bytes, radius_bytes in LAYOUTS:
@@ -107,7 +109,7 @@ def causes(job, checked):
         found.append('the end is missing: a job ends with the byte 00')
     if checked.refusal in (2, 9, 10, 11, 12, 13) or checked.command < 3:
         found += other_layouts(job, checked.command)
-    if checked.refusal in (3, 5, 6, 8, 12):
+    if checked.refusal in (3, 5, 6, 8, 12, 17):
         lowered = counted_from_one(job)
         other = Checked(lowered) if lowered is not None else checked
         if other.accepted or (checked.refusal == 12 and other.command > checked.command):

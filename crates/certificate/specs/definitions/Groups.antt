@@ -13,7 +13,8 @@ use Rattle.model.specs.definitions.Outcomes.{Outcome, outcome}
 use Rattle.model.specs.declared.types.Model.{Model}
 use Rattle.certificate.specs.definitions.Tests.{scratchPlace, Certificate, zeroCertificate}
 use Rattle.certificate.specs.definitions.Quotient.{quotientPlacesFor, quotientCertificateFor}
-use Rattle.certificate.specs.definitions.Root.{RootRule, rootPlacesFor, rootRulePlaces, rootCertificateFor}
+use Rattle.certificate.specs.definitions.Root.{rootPlacesFor, rootRulePlaces, rootCertificateFor}
+use Rattle.certificate.specs.declared.types.RootRule.{RootRule}
 
 -- ---- groups
 

@@ -13,7 +13,8 @@ use Rattle.model.specs.definitions.Multiply.{productList}
 use Rattle.model.specs.declared.types.Model.{Model}
 use Rattle.certificate.specs.definitions.Tests.{scratchSize}
 use Rattle.certificate.specs.definitions.Quotient.{quotientContraction, quotientResidual, quotientNeeding, quotientOutcome}
-use Rattle.certificate.specs.definitions.Root.{RootRule, rootContraction, rootResidual, rootNeeding, rootOutcome}
+use Rattle.certificate.specs.definitions.Root.{rootContraction, rootResidual, rootNeeding, rootOutcome}
+use Rattle.certificate.specs.declared.types.RootRule.{RootRule}
 use Rattle.certificate.specs.definitions.Groups.{quotientFor, quotientInGroups, rootFor, rootInGroups}
 use Rattle.certificate.specs.definitions.InnerContracts.{refusedTest}
 use Rattle.certificate.specs.laws.Stages.{quotient-needs, root-needs}
