@@ -114,7 +114,7 @@ def most_work():
 
 def most_quotients():
     """A load and 31 quotients by it, every block of degree 32 and without a zero: the longest job that
-    can be accepted, and the most work by instructions."""
+    can be accepted."""
     f = model([4 * S] + [round(0.8 * S * (-0.7) ** k) for k in range(1, 33)])
     builder = Builder()
     must(builder.load(f))

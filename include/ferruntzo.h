@@ -190,7 +190,7 @@ enum ferruntzo_refusal {
     FERRUNTZO_BAD_SERIES = 14,            /* a series' degree, weight, or a nonzero beyond the degree */
     FERRUNTZO_NOT_FINITE = 15,            /* g_0 is zero, or a value is not finite */
     FERRUNTZO_LARGE_PROPOSAL = 16,        /* the weight of a list turned into units is above 2^28 */
-    FERRUNTZO_NO_RADIUS = 17              /* tighter root test: no r from 0 to S has 2 M r^2 + b S^2 <= (S - m) S r */
+    FERRUNTZO_NO_RADIUS = 17              /* tighter root test: no whole r from 0 to S has 2 M r^2 + b S^2 <= (S - m) S r */
 };
 
 /* ---- Plain operations on models ----

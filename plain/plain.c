@@ -325,9 +325,9 @@ static uint32_t test_root(const int32_t *f, const int32_t *h, const int32_t *w,
 
 #define NO_SUCH_RADIUS (UNIT + 1)
 
-/* The least r from 0 to S with 2 M r^2 + b S^2 <= c r, where c = (S - m) S; M >= 1.  Up to v, which
-   is c/(4 M) rounded down, all behind an r that satisfies satisfy too; if v does not, only v + 1 can.
-   No number passes 2^61. */
+/* The least whole r from 0 to S with 2 M r^2 + b S^2 <= c r, where c = (S - m) S; M >= 1.  Up to v,
+   which is c/(4 M) rounded down, what satisfies still does as r grows, from v + 1 on as r falls; so
+   if v does not satisfy, only v + 1 can.  No number passes 2^61. */
 static uint64_t least_radius(uint64_t m_weight, uint64_t m, uint64_t b)
 {
     if (b > UNIT)

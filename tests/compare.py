@@ -63,6 +63,7 @@ WHOLE = 210000              # calls of the whole comparison; at least so many of
 TIED = 2000                 # are accepted where some near rounds a tie
 PAIRS, CHOSEN = 7000, 4000  # have two proposals; have one chosen and put to random fractions
 TIGHT, TIGHT_JOBS = 4000, 3000      # are tighter root tests on areas long enough; are jobs with 0x22
+SOUND_TIGHT, SOUND_TIGHT_JOBS = 2000, 100       # are such tests, such jobs checked for soundness
 SOUND_OF_16 = 50            # of each entry with a scratch are checked for soundness with one of 16
 MODELS, PATTERNS = 3000, 100000     # different ones are put to the makers; to the step to units, each alone
 ROUNDING = ('multiply', 'integrate', 'evaluate', 'from_series', 'check')        # the entries that use near
@@ -265,11 +266,15 @@ def scratch_of(case, areas):
     return areas[scratch_cases.PLACES[case.entry]][1] if case.entry in scratch_cases.PLACES else None
 
 
-def answered_row(case, areas, answer):
-    """The numbers of the area out or answer of an answer, and which of the two it is."""
-    start, area = next(faults.places_of(case, areas, ('out', 'answer')))
+def answered_row(case, areas, answer, wanted=('out', 'answer')):
+    """The numbers of the first area of these kinds of an answer, and which it is."""
+    start, area = next(faults.places_of(case, areas, wanted))
     code, size, what = AREAS[case.entry][area]
     return array(code, answer[start:start + array(code).itemsize * size]), what
+
+
+def model_of(row):
+    return o.Model(row[0], tuple(row[1:PLACE_RADIUS]), row[PLACE_RADIUS])
 
 
 def answered_model(case, areas, answer):
@@ -278,7 +283,14 @@ def answered_model(case, areas, answer):
     if what == 'answer':
         chosen, radius = row
         row = [*case.inputs[1 + chosen][:CANDIDATE_SIZE], radius]
-    return o.Model(row[0], tuple(row[1:PLACE_RADIUS]), row[PLACE_RADIUS])
+    return model_of(row)
+
+
+def answered_job(case, areas, answer):
+    """Of a job's answer the command, and the models of the results."""
+    (count, command), _ = answered_row(case, areas, answer)
+    work, _ = answered_row(case, areas, answer, ('work',))
+    return command, [model_of(work[MODEL_SIZE * i:MODEL_SIZE * (i + 1)]) for i in range(count)]
 
 
 def check_ties(ties, total):
@@ -300,13 +312,18 @@ def check_pairs(pairs, chosen, entries, total):
     return f'{selection_cases.counted(pairs)}; {chosen} chosen proposals checked for soundness'
 
 
-def check_tight_roots(tests, tight_jobs, entries, total):
+def check_tight_roots(tests, tight_jobs, sound, entries, total):
     """The counts of tighter root tests and of jobs with 0x22, in words: each kind, enough in the whole comparison."""
-    part = min(total, WHOLE)
-    enough = tests['tests'] * WHOLE >= TIGHT * part and tight_jobs['jobs'] * WHOLE >= TIGHT_JOBS * part
-    assert set(entries) != set(ENTRIES) or enough, f'{tests["tests"]} tighter root tests, {tight_jobs["jobs"]} jobs with 0x22'
+    whole, both = set(entries) == set(ENTRIES), {'root', 'tight_root'} <= set(entries)
+    for what, wanted, count, asked in (
+            ('tighter root tests', TIGHT, tests['tests'], whole), ('jobs with 0x22', TIGHT_JOBS, tight_jobs['jobs'], whole),
+            ('tighter root tests with 0x21 behind', TIGHT, tests['0x21 behind it'], both),
+            ('tighter roots checked for soundness', SOUND_TIGHT, sound, whole),
+            ('jobs with 0x22 checked for soundness', SOUND_TIGHT_JOBS, tight_jobs['checked for soundness'], whole)):
+        assert not asked or count * WHOLE >= wanted * min(total, WHOLE), f'{count} {what}'
     if 'tight_root' in entries:
-        yield f'tighter roots: {tight_root_cases.counted(tests)}'
+        yield (f'tighter roots: {tight_root_cases.counted(tests)}; with the root test of the same candidates behind it: '
+               f'{tests["0x21 behind it"]}; checked for soundness: {sound}')
     if 'check' in entries:
         yield f'tighter roots in jobs: {tight_root_cases.counted_jobs(tight_jobs)}'
 
@@ -387,7 +404,7 @@ def main():
     with tempfile.TemporaryDirectory() as folder:
         program = build_harness(folder, entries, options.library, options.plain,
                                 options.link.split())
-        batch = []
+        batch, previous = [], None
 
         def judge():
             nonlocal differences, planted
@@ -428,9 +445,11 @@ def main():
                 units.update(unit_cases.kinds(case, number))
             if case.entry == 'tight_root':
                 tight.update(tight_root_cases.kinds(case, lengths, number))
+            tight['0x21 behind it'] += case.entry == 'root' and previous == case._replace(entry='tight_root')
+            previous = case
             of_job = []
             if case.entry == 'check' and number != SHORT_AREA:
-                of_job = tight_root_cases.job_kinds(*case.inputs, number, answered_row(case, areas, expected)[0][1])
+                of_job = tight_root_cases.job_kinds(*case.inputs, number, *answered_job(case, areas, expected))
                 tight_jobs.update(of_job)
             batch.append((case, areas, number, expected))
             share = {None: SOUNDNESS_SAMPLE, SCRATCH_SIZE: SAMPLE_OF_16}.get(scratch_of(case, areas), 0)
@@ -452,7 +471,8 @@ def main():
         print('pairs of proposals:', check_pairs(pairs, sound['quotient_of_two'], entries, total))
     if scratches:
         print('scratches:', check_scratches(scratches, sound_of_16, entries, total))
-    for text in (*check_proposals(made, units, entries, total), *check_tight_roots(tight, tight_jobs, entries, total)):
+    for text in (*check_proposals(made, units, entries, total),
+                 *check_tight_roots(tight, tight_jobs, sound['tight_root'], entries, total)):
         print(text)
     print(f'{total} cases, {differences} differences, {time.perf_counter() - began:.1f} s '
           f'(oracle {oracle_time:.1f} s), '

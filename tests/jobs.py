@@ -46,6 +46,17 @@ def tight_root(i, h, w):
     return bytes([o.TIGHT_ROOT, i]) + block(h) + block(w)
 
 
+def read_commands(job):
+    """Byte and operands of each command; the last may be unknown or cut off."""
+    position = 0
+    while position < len(job):
+        width = o.OPERAND_WIDTH.get(job[position], 0)
+        yield job[position], job[position + 1:position + 1 + width]
+        if job[position] not in o.OPERAND_WIDTH:
+            return
+        position += 1 + width
+
+
 class Builder:
     """A job so far: its commands as separate bytes, and the results' models."""
 
@@ -81,19 +92,18 @@ class Builder:
             return False
         return self._keep(quotient(i, j, *found), *o.quotient(f, g, *found)[:2])
 
-    def root(self, i, degree=MAX_DEGREE, found=None):
+    def _root(self, command, test, i, degree, found):
         f = self.results[i]
         found = found or root_candidates(f, degree)
         if found is None:
             return False
-        return self._keep(root(i, *found), *o.root(f, *found)[:2])
+        return self._keep(command(i, *found), *test(f, *found)[:2])
+
+    def root(self, i, degree=MAX_DEGREE, found=None):
+        return self._root(root, o.root, i, degree, found)
 
     def tight_root(self, i, degree=MAX_DEGREE, found=None):
-        f = self.results[i]
-        found = found or root_candidates(f, degree)
-        if found is None:
-            return False
-        return self._keep(tight_root(i, *found), *o.tight_root(f, *found)[:2])
+        return self._root(tight_root, o.tight_root, i, degree, found)
 
     def job(self):
         return b''.join(self.commands) + END

@@ -358,17 +358,22 @@ def satisfies(big_m, m, b, r, unit=S):
     return 2 * big_m * r * r + b * unit * unit <= (unit - m) * unit * r
 
 
-def least_radius(big_m, m, b, unit=S):
-    """The least whole r from 0 to S that satisfies, or None.  With c = (S - m) S, r
-    satisfies exactly if |4 M r - c| is at most the root of c^2 - 8 M b S^2; being
-    whole, at most that root rounded down."""
-    c = (unit - m) * unit
-    under = c * c - 8 * big_m * b * unit * unit
+def first_at_most(square, constant_part, c, top):
+    """The least whole r from 0 to top with square r^2 + constant_part <= c r, or None;
+    square and c above 0, constant_part not below.  r satisfies exactly if |2 square r - c|
+    is at most the root of c^2 - 4 square constant_part; being whole, at most that root
+    rounded down."""
+    under = c * c - 4 * square * constant_part
     if under < 0:
         return None
     reach = isqrt(under)
-    r = up(c - reach, 4 * big_m)
-    return r if r <= unit and 4 * big_m * r - c <= reach else None
+    r = up(c - reach, 2 * square)
+    return r if r <= top and 2 * square * r - c <= reach else None
+
+
+def least_radius(big_m, m, b, unit=S):
+    """The least whole r from 0 to S that satisfies, with S = unit, or None."""
+    return first_at_most(2 * big_m, b * unit * unit, (unit - m) * unit, unit)
 
 
 def _root_test(f, h, w, refusal, radius_of):

@@ -82,14 +82,6 @@ def scratch_cases(entry):
 
 # ---- What is counted ----------------------------------------------------------------------------------------------------
 
-def read_commands(job):
-    """The command bytes of a job as far as they are known."""
-    position = 0
-    while position < len(job) and job[position] in o.OPERAND_WIDTH:
-        yield job[position]
-        position += 1 + o.OPERAND_WIDTH[job[position]]
-
-
 def own_answer(case):
     """What a call is answered with where every area is long enough: a number; the numbers of both proposals; of a job the number,
     the operation refused and whether a test passed before."""
@@ -99,10 +91,10 @@ def own_answer(case):
     if case.entry != 'check':
         return getattr(o, case.entry)(*case.inputs)[0]
     verdict, *answer = o.check_job(*case.inputs)
-    read = list(read_commands(*case.inputs))
+    read = [byte for byte, _ in jobs.read_commands(*case.inputs)]
     number, command = (ACCEPTED, len(read)) if verdict == 'accepted' else answer
     at = '' if number in (ACCEPTED, *READING) else OPERATIONS[read[command]]
-    return number, at, bool({QUOTIENT, ROOT, TIGHT_ROOT} & set(read[:command]))
+    return number, at, bool(set(o.TESTS) & set(read[:command]))
 
 
 def kinds(case, lengths, number):

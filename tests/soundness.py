@@ -13,6 +13,7 @@ from math import isqrt
 
 import oracle as o
 from header import S
+from jobs import read_commands
 from oracle import LIMIT
 
 FINE = 1 << 96              # boxes that may be wider are rounded out to 1/FINE
@@ -195,11 +196,7 @@ def root_box(rng, box):
 def commands_of(job):
     """Command byte and operands of each command of an accepted job that makes
     a result."""
-    position = 2
-    while job[position] != o.END:
-        width = o.OPERAND_WIDTH[job[position]]
-        yield job[position], job[position + 1:position + 1 + width]
-        position += 1 + width
+    return list(read_commands(job))[1:-1]           # between edition and end
 
 
 def next_box(rng, byte, operands, boxes, x):

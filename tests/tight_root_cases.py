@@ -16,10 +16,11 @@ import oracle as o
 from candidates import largest_accepted, root_candidates
 from cases import BORDER_MODELS, Case, perhaps_spoiled, random_degree, signed, spread
 from certificate_cases import fixed_root, nudged, realistic_root
-from header import (ACCEPTED, BAD_MODEL, BAD_VALUE, CANDIDATE_SIZE, HELPER_NOT_POSITIVE, JOB_ENDS, LARGE_RESIDUAL, MAX_DEGREE,
-                    MAX_RESULTS, MODEL_SIZE, NO_RADIUS, NOT_A_RESULT, NOT_CONTRACTING, NUMBERS_SIZE, S, SCRATCH_SIZE,
-                    TOO_MANY_RESULTS)
-from oracle import LIMIT, TIGHT_ROOT, constant, model, up
+from examples_of_01 import root_inputs
+from header import (ACCEPTED, BAD_MODEL, BAD_VALUE, BYTES_AFTER_END, CANDIDATE_SIZE, HELPER_NOT_POSITIVE, JOB_ENDS,
+                    LARGE_RESIDUAL, MAX_DEGREE, MAX_RESULTS, MODEL_SIZE, NO_RADIUS, NOT_A_RESULT, NOT_CONTRACTING, NUMBERS_SIZE,
+                    S, SCRATCH_SIZE, TOO_MANY_RESULTS)
+from oracle import LIMIT, TIGHT_ROOT, constant, first_at_most, least_radius, model, up
 
 ENTRY = 'tight_root'
 SIZES = {'f': MODEL_SIZE, 'h': CANDIDATE_SIZE, 'w': CANDIDATE_SIZE, 'scratch': SCRATCH_SIZE, 'out': MODEL_SIZE,
@@ -148,19 +149,6 @@ def curves(degree):
 
 # ---- Fixed ------------------------------------------------------------------------------------------------
 
-# The request's own numbers: f, its radius, h, w; number, and (m, N, b, r) where it is accepted.
-STATED = (
-    ((6366, 3182, 81708, 716408), ACCEPTED, (936927, 3183, 2175, 40854)),       # v + 1
-    ((15783, 0, 133844, 5908123), ACCEPTED, (459693, 1302, 7337, 26129)),       # v + 1
-    ((6553600, 3 * S, 5 * S // 2, 1), ACCEPTED, (1048571, 3 * S, 3, S)),        # S
-    ((6553600, 3 * S + 1, 5 * S // 2, 1), NO_RADIUS, None),                     # b one more
-    ((4, 1 << 16, 2048, 1 << 28), NO_RADIUS, None),                             # b S^2 is 2^64
-    ((224 * S, 0, 16 * S, S // 32), NO_RADIUS, None),                           # 0x21 accepts it
-    ((116509, 0, 349526, 18), NO_RADIUS, None),                                 # so it does this
-)
-STATED_INPUTS = [(constant(f, e), constant(h), constant(w)) for (f, e, h, w), *_ in STATED]
-
-
 def around(f, h, w):
     """Constants, and those with one number one off."""
     yield case(f, h, w)
@@ -190,7 +178,7 @@ def fixed_wraps():
 
 def fixed_tight():
     yield from (root._replace(entry=ENTRY) for root in fixed_root())
-    for inputs in STATED_INPUTS:
+    for inputs in root_inputs():
         yield from around(*inputs)
     yield from fixed_families()
     yield from fixed_wraps()
@@ -223,8 +211,20 @@ def random_tight(rng):
 
 # ---- What the tests are ---------------------------------------------------------------------------------------
 
+def radius_kinds(big_m, m, b, radius):
+    """What is said of a test that accepts with this radius; what document 02 says of both commands is asked of it."""
+    former, v = o.root_radius(big_m, m, b), (S - m) * S // (4 * big_m)
+    assert former is not None and radius <= former, (big_m, m, b)
+    yield from (f'r = {name}' for name, stated in (('0', 0), ('S', S), ('v', v), ('v + 1', v + 1)) if radius == stated)
+    yield from ['r below v'] * (0 < radius < v) + ['r below S <= v'] * (0 < radius < S <= v)
+    if radius > 0 and 2 * big_m * radius ** 2 + b * S * S == (S - m) * S * radius:
+        yield f'equality, {"r below v" if radius < min(v, S) else "r = v + 1" if radius > v else "r = v or S"}'
+    equal = 'equal radii' if radius else 'radii 0'
+    yield f'both accept, {equal if radius == former else "0x22 with the smaller radius"}'
+
+
 def kinds(drawn_case, lengths, number):
-    """What is said of one test, whose areas have these lengths; what the request says of both commands is asked of each."""
+    """What is said of one test, whose areas have these lengths."""
     found = [f'{name} of {length}' for name, length in zip(SIZES, lengths)]
     short = [(name, length - size) for (name, size), length in zip(SIZES.items(), lengths) if length < size]
     if short:
@@ -238,30 +238,28 @@ def kinds(drawn_case, lengths, number):
     if shared:
         return found + [str(shared)]
     big_m, m, _, b = numbers
-    former, radius = o.root_radius(big_m, m, b), o.least_radius(big_m, m, b)
-    v = (S - m) * S // (4 * big_m)
+    radius = least_radius(big_m, m, b)
     if radius is None:
         assert number == NO_RADIUS, drawn_case
+        former, v = o.root_radius(big_m, m, b), (S - m) * S // (4 * big_m)
         found.append(f'0x21 {"8" if former is None else "accepts"}, 0x22 17')
         found += ['17, b above S'] * (b > S) + ['17, b S^2 a multiple of 2^64'] * (b % (1 << 24) == 0 < b)
         return found + ([] if former is None else [f'17, {"all beyond S" if v >= S else "none between"}, 0x21 accepts'])
-    assert number == ACCEPTED and former is not None and radius <= former, drawn_case
-    found += [f'r = {name}' for name, stated in (('0', 0), ('S', S), ('v', v), ('v + 1', v + 1)) if radius == stated]
-    found += ['r below v'] * (0 < radius < v) + ['r below S <= v'] * (0 < radius < S <= v)
-    if radius > 0 and 2 * big_m * radius ** 2 + b * S * S == (S - m) * S * radius:
-        found.append(f'equality, {"r below v" if radius < min(v, S) else "r = v + 1" if radius > v else "r = v or S"}')
-    equal = 'equal radii' if radius else 'radii 0'
-    found.append(f'both accept, {equal if radius == former else "0x22 with the smaller radius"}')
+    assert number == ACCEPTED, drawn_case
+    found += radius_kinds(big_m, m, b, radius)
     return found + [f'{name} of degree {one.degree}, accepted' for name, one in zip('fhw', (f, h, w))]
 
 
+ACCEPTED_KINDS = [
+    *(f'r = {name}' for name in ('0', 'S', 'v', 'v + 1')), 'r below v', 'r below S <= v',
+    *(f'equality, r {which}' for which in ('below v', '= v or S', '= v + 1')),
+    *(f'both accept, {which}' for which in ('0x22 with the smaller radius', 'equal radii', 'radii 0')),
+]
 DEMANDED = [
     *(f'1, {name} one too short' for name in SIZES), *(f'2 of {name}' for name in 'fhw'),
     *map(str, (HELPER_NOT_POSITIVE, NOT_CONTRACTING, LARGE_RESIDUAL)), '0x21 8, 0x22 17', '0x21 accepts, 0x22 17',
     '17, b above S', '17, b S^2 a multiple of 2^64', '17, all beyond S, 0x21 accepts', '17, none between, 0x21 accepts',
-    *(f'r = {name}' for name in ('0', 'S', 'v', 'v + 1')), 'r below v', 'r below S <= v',
-    *(f'equality, r {which}' for which in ('below v', '= v or S', '= v + 1')),
-    *(f'both accept, {which}' for which in ('0x22 with the smaller radius', 'equal radii', 'radii 0')),
+    *ACCEPTED_KINDS,
 ]
 OF_EACH = [*(f'{name} of degree {degree}, accepted' for name in 'fhw' for degree in range(MAX_DEGREE + 1)),
            *(f'{name} of {length}' for name, size in SIZES.items() for length in sorted({0, 1, size - 1, size, size + 1}))]
@@ -378,27 +376,28 @@ def random_job(rng):
 
 # ---- What the jobs are ------------------------------------------------------------------------------------------
 
-def read_commands(job):
-    """Byte and operands of each command; the last may be unknown or cut off."""
-    position = 0
-    while position < len(job):
-        width = o.OPERAND_WIDTH.get(job[position], 0)
-        yield job[position], job[position + 1:position + 1 + width]
-        if job[position] not in o.OPERAND_WIDTH:
-            return
-        position += 1 + width
+def radii_in_job(commands, results):
+    """What is said of the roots by 0x22 among these commands, which made these results."""
+    for (byte, operands), result in zip(commands, results, strict=True):
+        if byte == TIGHT_ROOT:
+            h, w = (o.read_block(operands, at) for at in (1, 1 + o.BLOCK_BYTES))
+            _, (big_m, m, _, b) = o.root_numbers(results[operands[0]], h, w)
+            yield from (f'{kind}, in a job' for kind in radius_kinds(big_m, m, b, result.radius))
 
 
-def job_kinds(job, number, command):
-    """What is said of one job, which is accepted, or refused at this command."""
-    read = list(read_commands(job))
+def job_kinds(job, number, command, results):
+    """What is said of one job, which is accepted with these results, or refused at this command."""
+    read = list(jobs.read_commands(job))
     passed = read if number == ACCEPTED else read[:command]
     at, operands = read[command] if number and command < len(read) else (None, b'')
     found = [('unknown', at)] * (number == BAD_VALUE and at is not None and at > TIGHT_ROOT)
     if at != TIGHT_ROOT and not any(byte == TIGHT_ROOT for byte, _ in passed):
         return found
     found += ['jobs'] + ['accepted'] * (number == ACCEPTED)
-    found += ['0x21 passed too'] * any(byte == o.ROOT for byte, _ in passed)
+    by_21, by_22 = ({operands for byte, operands in passed if byte == root} for root in (o.ROOT, TIGHT_ROOT))
+    found += ['0x21 with the same operands'] * bool(by_21 & by_22) + ['11 behind 0x22'] * (number == BYTES_AFTER_END)
+    if number == ACCEPTED:
+        found += radii_in_job(read[1:-1], results)      # between edition and end
     if at == TIGHT_ROOT:
         found += [f'{number} at 0x22'] + [('17 at command', command)] * (number == NO_RADIUS)
         found += [('cut to', 1 + len(operands))] * (number == JOB_ENDS)
@@ -414,9 +413,10 @@ def job_kinds(job, number, command):
 
 
 JOBS_DEMANDED = [
-    'accepted', 'checked for soundness', '0x21 passed too', '2 of h at 0x22', '2 of w at 0x22',
+    'accepted', 'checked for soundness', *(f'{kind}, in a job' for kind in ACCEPTED_KINDS), '0x21 with the same operands',
+    '2 of h at 0x22', '2 of w at 0x22',
     *(f'{number} at 0x22' for number in (BAD_MODEL, HELPER_NOT_POSITIVE, NOT_CONTRACTING, LARGE_RESIDUAL, NO_RADIUS, JOB_ENDS,
-                                         NOT_A_RESULT, TOO_MANY_RESULTS)),
+                                         NOT_A_RESULT, TOO_MANY_RESULTS)), '11 behind 0x22',
     *(('17 at command', command) for command in range(2, MAX_RESULTS + 1)), *(('result', i) for i in range(1, MAX_RESULTS)),
     *(('cut to', length) for length in range(1, 1 + o.OPERAND_WIDTH[TIGHT_ROOT])),
     *(('used by', byte, place) for byte, names in o.RESULT_BYTES.items() for place in range(names)),
@@ -444,7 +444,7 @@ def check_walk(unit, numbers):
     found = Counter()
     for big_m, m, b in numbers:
         r, v = walked(big_m, m, b, unit), (unit - m) * unit // (4 * big_m)
-        assert o.least_radius(big_m, m, b, unit) == r, (big_m, m, b, unit)
+        assert least_radius(big_m, m, b, unit) == r, (big_m, m, b, unit)
         found['none' if r is None else 'v + 1' if r == v + 1 else 'v' if r == v else 'S' if r == unit else 'less'] += 1
     return found
 
@@ -454,55 +454,36 @@ def every_number(unit):
 
 
 def check_tight():
-    """compare.py asks this before every comparison: the request's numbers, and the least radius by a walk."""
-    for inputs, (_, number, numbers) in zip(STATED_INPUTS, STATED):
-        tested = o.tight_root(*inputs)
-        assert tested[0] == number and (numbers is None or (*tested[2:], tested[1].radius) == numbers), (inputs, tested)
-    for inputs in STATED_INPUTS[-2:]:
-        assert o.root(*inputs)[0] == ACCEPTED
+    """compare.py asks this before every comparison: the least radius by a walk."""
     found = check_walk(16, every_number(16))
     assert min(found[kind] for kind in ('none', 'v + 1', 'v', 'S', 'less')) > 0, found
 
 
-def first_from(square, constant_part, c, top=S, strict=False):
-    """The least whole r from 0 to top with square r^2 + constant_part <= c r, or < c r, or None."""
-    under = c * c - 4 * square * (constant_part + strict)
-    if under < 0:
-        return None
-    reach = isqrt(under)
-    r = up(max(0, c - reach), 2 * square)
-    return r if r <= top and 2 * square * r - c <= reach else None
-
-
-def right(big_m, m, b):
-    return first_from(2 * big_m, b * S * S, (S - m) * S)
-
-
 def greatest(big_m, m, b):
     c = (S - m) * S
-    if right(big_m, m, b) is None:
+    if least_radius(big_m, m, b) is None:
         return None
     return min(S, (c + isqrt(c * c - 8 * big_m * b * S * S)) // (4 * big_m))
 
 
 def next_not_tried(big_m, m, b):
-    r = right(big_m, m, b)
+    r = least_radius(big_m, m, b)
     return None if r == (S - m) * S // (4 * big_m) + 1 else r
 
 
 WRONG_RULES = {
     'v + 1 not tried': next_not_tried,
     'the greatest r': greatest,
-    'b S for b S^2': lambda big_m, m, b: first_from(2 * big_m, b * S, (S - m) * S),
-    'b S^2 in 64 bits': lambda big_m, m, b: first_from(2 * big_m, b * S * S % (1 << 64), (S - m) * S),
-    'the search begun at 1': lambda big_m, m, b: right(big_m, m, b) or (1 if right(big_m, m, b) == 0 else None),
-    'M for 2 M': lambda big_m, m, b: first_from(big_m, b * S * S, (S - m) * S),
-    'S for S - m': lambda big_m, m, b: first_from(2 * big_m, b * S * S, S * S),
-    'below, not at most': lambda big_m, m, b: first_from(2 * big_m, b * S * S, (S - m) * S, strict=True),
-    'r up to S - 1': lambda big_m, m, b: first_from(2 * big_m, b * S * S, (S - m) * S, S - 1),
-    'r beyond S': lambda big_m, m, b: first_from(2 * big_m, b * S * S, (S - m) * S, LIMIT),
-    'the radius of 0x21': lambda big_m, m, b: None if right(big_m, m, b) is None else o.root_radius(big_m, m, b),
-    'half the radius of 0x21': lambda big_m, m, b: None if right(big_m, m, b) is None else up(o.root_radius(big_m, m, b), 2),
+    'b S for b S^2': lambda big_m, m, b: first_at_most(2 * big_m, b * S, (S - m) * S, S),
+    'b S^2 in 64 bits': lambda big_m, m, b: first_at_most(2 * big_m, b * S * S % (1 << 64), (S - m) * S, S),
+    'the search begun at 1': lambda *n: least_radius(*n) or (1 if least_radius(*n) == 0 else None),
+    'M for 2 M': lambda big_m, m, b: first_at_most(big_m, b * S * S, (S - m) * S, S),
+    'S for S - m': lambda big_m, m, b: first_at_most(2 * big_m, b * S * S, S * S, S),
+    'below, not at most': lambda big_m, m, b: first_at_most(2 * big_m, b * S * S + 1, (S - m) * S, S),
+    'r up to S - 1': lambda big_m, m, b: first_at_most(2 * big_m, b * S * S, (S - m) * S, S - 1),
+    'r beyond S': lambda big_m, m, b: first_at_most(2 * big_m, b * S * S, (S - m) * S, LIMIT),
+    'the radius of 0x21': lambda *n: None if least_radius(*n) is None else o.root_radius(*n),
+    'half the radius of 0x21': lambda *n: None if least_radius(*n) is None else up(o.root_radius(*n), 2),
     'accepted where 0x21 accepts': o.root_radius,
 }
 
@@ -516,8 +497,8 @@ def check_cases():
         shared, numbers = o.root_numbers(*one.inputs)
         if shared == 0:
             big_m, m, _, b = numbers
-            assert right(big_m, m, b) == o.least_radius(big_m, m, b)
-            shown.update(name for name, rule in WRONG_RULES.items() if rule(big_m, m, b) != right(big_m, m, b))
+            r = least_radius(big_m, m, b)
+            shown.update(name for name, rule in WRONG_RULES.items() if rule(big_m, m, b) != r)
     few = [name for name in WRONG_RULES if shown[name] < SHOWN]
     assert not few, f'too few fixed cases that show: {few}'
     missing = [kind for kind in DEMANDED if not kind.startswith('1,') and not found[kind]]
@@ -526,7 +507,7 @@ def check_cases():
 
 
 def check_walks():
-    """Every M, m and b of a small scale, random ones of a larger, and some of S itself, the request's among them."""
+    """Every M, m and b of a small scale, random ones of a larger, and some of S itself, those of examples_of_01.py among them."""
     rng = Random(22)
     found = check_walk(24, every_number(24))
     larger = []
@@ -534,8 +515,8 @@ def check_walks():
         big_m, t = rng.randint(1, 2000), rng.randint(1, 1024)
         larger.append((big_m, 1024 - t, rng.randint(0, t * t // (8 * big_m) + 1)))
     found += check_walk(1024, larger)
-    shared = [o.root_numbers(*inputs)[1] for inputs in (*STATED_INPUTS[:4], *(drawn(narrow, rng) for _ in range(20)))]
-    found += check_walk(S, [(big_m, m, b) for big_m, m, _, b in shared])
+    shared = [o.root_numbers(*inputs) for inputs in (*root_inputs(), *(drawn(narrow, rng) for _ in range(20)))]
+    found += check_walk(S, [(numbers[0], numbers[1], numbers[3]) for number, numbers in shared if number == 0])
     return ', '.join(f'{kind} {count}' for kind, count in sorted(found.items()))
 
 

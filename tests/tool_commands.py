@@ -266,7 +266,7 @@ def words(run, folder):
            in said and 'Do not mill' in said, said)
     said = run('explain', none).stdout
     expect('17 is explained in words', all(text in said for text in (
-        'square root of result 0 (tighter root test)', 'for an r from 0 to S: FAILS',
+        'square root of result 0 (tighter root test)', 'for a whole r from 0 to S: FAILS',
         'the root test (0x21) accepts the same candidates, with radius 2,097,152 (2000 µm)',
         'What to do: bring h nearer to the root and w nearer to 1/(2h)', 'It says "refused 17 2", as explained'))
         and 'read so' not in said, said)

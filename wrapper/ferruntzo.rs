@@ -165,7 +165,7 @@ impl fmt::Display for Refusal {
             Refusal::NotContracting => "helper too far from the inverse",
             Refusal::LargeResidual => "residual too large",
             Refusal::HelperNotPositive => "helper not positive",
-            Refusal::NegativeDiscriminant => "no radius for this root",
+            Refusal::NegativeDiscriminant => "negative discriminant of this root",
             Refusal::BadValue => "unknown command or value",
             Refusal::JobEnds => "the job ends early",
             Refusal::BytesAfterEnd => "bytes after the end",

@@ -136,9 +136,10 @@ fn p8_to_p10_roots() {
     assert_eq!(root(&Model::constant(S), &h, &w), Err(Refusal::NegativeDiscriminant));
 }
 
-/// Constants f with its radius, h and w, put to both root tests: their radii or refusals.
+/// By the root test, and by the tighter one.
 type BothRoots = (Result<i32, Refusal>, Result<i32, Refusal>);
 
+/// Constants f with its radius, h and w, put to both root tests: their radii or refusals.
 fn both_roots(f: i32, e: i32, h: i32, w: i32) -> BothRoots {
     let (f, h, w) = (model(&[f], e), Candidate::constant(h), Candidate::constant(w));
     let radius = |found: Result<Certificate, Refusal>| {

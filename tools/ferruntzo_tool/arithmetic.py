@@ -135,9 +135,14 @@ def root_numbers(f, h, w):
     return _displaced(numbers)
 
 
+def discriminant(numbers):
+    """(S-m)² and 8·b·M; the root test passes if the second is not the larger."""
+    return (S - numbers['m']) ** 2, 8 * numbers['b'] * numbers['M']
+
+
 def by_discriminant(numbers):
     """The end of the root test (0x21), with its radius."""
-    left, right = (S - numbers['m']) ** 2, 8 * numbers['b'] * numbers['M']
+    left, right = discriminant(numbers)
     if left < right:
         raise Refused(8, f'8·b·M is {right:,}, and must be at most (S-m)² = {left:,}', **numbers)
     return {**numbers, 'radius': up(2 * numbers['b'] * S, S - numbers['m'])}
@@ -169,7 +174,7 @@ def by_least_radius(numbers):
     """The end of the tighter root test (0x22), with its radius."""
     r = least_radius(numbers)
     if r is None:
-        raise Refused(17, f'no r from 0 to S = {S:,} has 2·M·r² + b·S² <= (S-m)·S·r', **numbers)
+        raise Refused(17, f'no whole r from 0 to S = {S:,} has 2·M·r² + b·S² <= (S-m)·S·r', **numbers)
     return {**numbers, 'radius': r}
 
 

@@ -35,8 +35,9 @@ def in_units(row):
 
 
 def rank(numbers):
-    """What is to be least: the radius; where it is equal the root test comes before the tighter one, and the helper
-    that is the better one for the root test before others."""
+    """What is to be least: the radius; where it is equal the root test comes before the tighter one; then the radius by
+    the root test, so that a helper that is the best by both tests is that of the job by 0x21, and of the root only
+    the command byte differs."""
     tight = numbers.get('command') == 'tight_root'
     return numbers['radius'], tight, ar.by_discriminant(numbers)['radius'] if tight else 0
 

@@ -40,7 +40,7 @@ def passes(good):
 
 def discriminant_line(n):
     """The last condition of the root test."""
-    left, right = (S - n['m']) ** 2, 8 * n['b'] * n['M']
+    left, right = ar.discriminant(n)
     return (f'(S-m)² = {left:,}, must be at least 8·b·M = {right:,}: {passes(left >= right)} '
             f'({share(right, left) if left else "none"} used)')
 
@@ -54,10 +54,10 @@ def radius_lines(n):
     if r is None:
         # The difference of the two sides is least at one of the two whole numbers about (S-m)·S/(4·M).
         v = (S - n['m']) * S // (4 * n['M'])
-        yield f'2·M·r² + b·S² must be at most (S-m)·S·r for an r from 0 to S: {passes(False)}; it comes nearest at'
+        yield f'2·M·r² + b·S² must be at most (S-m)·S·r for a whole r from 0 to S: {passes(False)}; it comes nearest at'
         yield from ('  ' + at(r) for r in sorted({min(v, S), min(v + 1, S)}))
         return
-    yield 'the radius is the least r from 0 to S with 2·M·r² + b·S² at most (S-m)·S·r:'
+    yield 'the radius is the least whole r from 0 to S with 2·M·r² + b·S² at most (S-m)·S·r:'
     yield f'  {at(r)}: {passes(True)}'
     if r:
         yield f'  {at(r - 1)}: does not pass, nor does any r below it'

@@ -43,12 +43,14 @@ def walk(job, block_bytes, radius_bytes, chosen):
 
 
 def other_layouts(job, at):
-    """Layouts with which the job ends well: everywhere, else at the refused command or the one before."""
+    """Layouts with which the job ends well: everywhere, else, if it does not end well as it is, at the refused command or
+    the one before."""
     for name, block_bytes, radius_bytes in LAYOUTS:
         number, ended = walk(job, block_bytes, radius_bytes, lambda number, name: True)
         if ended and number > 1:
             yield f'read so, the job ends well: {name}'
             return
+    # A job that ends well as it is has no block of another length.
     if walk(job, None, None, lambda number, name: False)[1]:
         return
     for place in (at, at - 1):

@@ -103,11 +103,11 @@ REFUSALS = [
     Refusal(16, 'LARGE_PROPOSAL', 'the weight of a made proposal, in units, is above 2^28',
             'rescale, or take a shorter stretch, on which the divisor keeps away from zero; a job never '
             'causes it'),
-    Refusal(17, 'NO_RADIUS', 'the proposed root fits too badly for the tighter root test (no r from 0 to S '
-            'satisfies it)',
+    Refusal(17, 'NO_RADIUS', 'the proposed root fits too badly for the tighter root test (no whole r from 0 '
+            'to S satisfies it)',
             'bring h nearer to the root and w nearer to 1/(2h); make the radius of f smaller; keep f, with its '
-            'radius, away from zero: take a shorter stretch. Or take the root test (0x21), if `ferruntzo explain` says '
-            'that it accepts the same candidates'),
+            'radius, away from zero: take a shorter stretch. Or take the root test (0x21) where it accepts the same '
+            'candidates: the lines about this command in `ferruntzo explain` say so'),
 ]
 REFUSAL = {refusal.number: refusal for refusal in REFUSALS}
 

@@ -1,4 +1,4 @@
-// What a test answers.
+// What a test answers, and the rules of the root tests.
 ghost use mathlib.Core.Path.{_≡_};
 ghost use mathlib.Core.Bool.{true};
 ghost use Rattle.model.specs.definitions.Models.{good, candidateModel};

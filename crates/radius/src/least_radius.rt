@@ -2,7 +2,7 @@
 ghost use mathlib.Core.Path.{_≡_};
 ghost use Prim.Native.Nat.{_+_, _*_, _-_, _^_, _≤_, _<_};
 ghost use Rattle.model.specs.definitions.Models.{scale, maxWeight};
-ghost use Rattle.radius.specs.definitions.LeastRadius.{RadiusFits, radiusFits, leastRadius};
+ghost use Rattle.radius.specs.definitions.LeastRadius.{RadiusSatisfies, radiusSatisfies, leastRadius};
 ghost use Rattle.radius.specs.declared.types.FoundRadius.the-variants.{Found};
 use crate::types::FoundRadius;
 use model::types::Model;
@@ -13,7 +13,7 @@ const SCALE: u64 = Model::SCALE as u64;
 // Does r satisfy? Formed as (2·M·r)·r, every number is below 2^61; 2·M·r is at most 2^39 + 2^29 up to v + 1, see `least_radius`.
 fn satisfies(weight: u64, m: u64, b: u64, r: u64) -> bool
     requires { ⌜ (weight ≤ maxWeight) × (m < scale) × (b ≤ scale) × (r ≤ scale) × (2 * weight * r ≤ 2 ^ 39 + 2 ^ 29) ⌝ }
-    ensures { λ t. ⌜ t ≡ radiusFits weight m b r ⌝ }
+    ensures { λ t. ⌜ t ≡ radiusSatisfies weight m b r ⌝ }
 {
     let linear = (SCALE - m) * SCALE * r;
     let square = 2 * weight * r * r;
@@ -24,7 +24,7 @@ fn satisfies(weight: u64, m: u64, b: u64, r: u64) -> bool
 // The least r up to `top` that satisfies, where `top` does. At most 21 passes: each halves what is left of 0 to S.
 fn bisect(weight: u64, m: u64, b: u64, top: u64) -> u64
     requires { ⌜ (weight ≤ maxWeight) × (m < scale) × (b ≤ scale) × (top ≤ scale) ⌝ }
-    requires { ⌜ (4 * weight * top ≤ (scale - m) * scale) × RadiusFits weight m b top ⌝ }
+    requires { ⌜ (4 * weight * top ≤ (scale - m) * scale) × RadiusSatisfies weight m b top ⌝ }
     ensures { λ r. ⌜ leastRadius weight m b ≡ Found r ⌝ }
 {
     let mut low = 0;

@@ -94,7 +94,7 @@ formedTest h e m n b = tested (largePlace (withRadius h e) ∷ []) (withRadius h
 abbrev pub rootEnd : RootRule → Model → ℕ → ℕ → ℕ → ℕ → Outcome Certificate
 rootEnd rule h M m n b = tested (rootLastPlaces rule h M m b) (rootModel rule h M m b) m n b
 
--- ---- the root test up to N and b: refused with a number, or M, m, N and b
+-- ---- a root test up to N and b: refused with a number, or M, m, N and b
 
 pub record Reach : Type 0 where
   pub M : ℕ

@@ -8,7 +8,7 @@ use Rattle.integer.specs.definitions.Rounding.{upℕ}
 use Rattle.chebyshev.specs.definitions.Coefficients.{weight, subtractLists, scaleList, coefficientSum}
 use Rattle.chebyshev.specs.definitions.TwoSums.{tabulate, twoSums}
 use Rattle.model.specs.definitions.Models.{scale, productSize, makeModel}
-use Rattle.radius.specs.definitions.LeastRadius.{RadiusFits, IsLeast}
+use Rattle.radius.specs.definitions.LeastRadius.{RadiusSatisfies, IsLeast}
 use Rattle.model.specs.declared.types.Model.{Model}
 use Rattle.certificate.specs.definitions.Tests.{Certificate, makeCertificate}
 
@@ -89,8 +89,8 @@ rootGiven f h w r = makeCertificate (makeModel (h .degree) (h .coefficients) r) 
 -- ---- the tighter root test
 
 -- 02, S-22: "2·M·r² + b·S² ≤ (S−m)·S·r"
-abbrev pub TightFits : Model → Model → Model → ℕ → Type 0
-TightFits f h w r = RadiusFits (weight (w .coefficients)) (root-m h w) (root-b f h w) r
+abbrev pub TightSatisfies : Model → Model → Model → ℕ → Type 0
+TightSatisfies f h w r = RadiusSatisfies (weight (w .coefficients)) (root-m h w) (root-b f h w) r
 
 -- "Its radius is the least whole r from 0 to S" with that
 abbrev pub TightHolds : Model → Model → Model → ℕ → Type 0

@@ -45,7 +45,7 @@ module _ (f g h w : Model) where
     pub quotient-groups-as-65 : (size : ℕ) → 0 < size → quotientInGroups size scratchSize len f g h w ≡ quotientNeeding productSize former f g h w
     quotient-groups-as-65 size some = quotient-groups size some scratchSize len ∙ quotient-as-65
 
--- ---- the root test
+-- ---- the root tests
 
 module _ (rule : RootRule) (f h w : Model) where
   pub root-below-16 : (len : ℕ) → len < scratchSize → rootOutcome rule len f h w ≡ refusedTest 1

@@ -50,8 +50,8 @@ accepted-tight = (
   ap (answering (constant 4194304 0) (constant 2097152 0) (constant 262144 0)) (no-displacement 262144 0 0 refl),
 )
 
--- 01's root test accepts, and no radius satisfies: w is small; f = 224·S, h = 16·S, w = S/32. Then b one more than where the radius
--- is S, and a test whose b·S² is a multiple of 2^64.
+-- 01's root test accepts, and no radius satisfies: both real roots of the inequality are S/6, which is not whole; the smaller is
+-- above S (f = 224·S, h = 16·S, w = S/32). Then b one more than where the radius is S, and b·S² a multiple of 2^64.
 pub refused-17 :
     (rootOutcome ByDiscriminant 16 (constant 116509 0) (constant 349526 0) (constant 18 0)
     ≡ accepted (makeCertificate (constant 349526 174763) 1048564 1 1))

@@ -21,7 +21,7 @@ use Rattle.model.specs.declared.types.Model.{Model}
 use Rattle.certificate.specs.definitions.Tests.{scratchSize, withRadius, Certificate, makeCertificate}
 use Rattle.certificate.specs.definitions.Root.{rootModel, rootContraction, rootResidual, rootCertificate, rootOutcome}
 use Rattle.certificate.specs.definitions.InnerContracts.{refusedTest}
-use Rattle.certificate.specs.definitions.TwoSums.{root-m, root-b, RootNumbersHold, rootGiven, TightFits, TightHolds}
+use Rattle.certificate.specs.definitions.TwoSums.{root-m, root-b, RootNumbersHold, rootGiven, TightSatisfies, TightHolds}
 use Rattle.certificate.specs.declared.types.RootRule.the-variants.{ByDiscriminant, ByLeastRadius}
 use Rattle.certificate.specs.laws.LeastAlgebra.{smaller-fits, discriminant-by}
 use Rattle.certificate.specs.laws.RootConditions.{RootConditions, rootDisplacement, root-passes, root-result}
@@ -74,9 +74,8 @@ module _ (len : ℕ) (f h w : Model) {c : Certificate} (passed : rootOutcome ByL
   pub tight-implies-root : rootOutcome ByDiscriminant len f h w ≡ accepted (rootCertificate ByDiscriminant f h w)
   tight-implies-root = root-result ByDiscriminant len f h w implied (root-fits len f h w ByDiscriminant implied)
 
-  -- whatever the scratch of each
   module _ (len′ : ℕ) {d : Certificate} (other : rootOutcome ByDiscriminant len′ f h w ≡ accepted d) where
-    -- with a radius that is not the smaller
+    -- where both accept, whatever the scratch of each, 0x22's radius is never the larger
     pub tight-not-larger : c .model .radius ≤ d .model .radius
     unfolding rootModel
     tight-not-larger =
@@ -85,7 +84,7 @@ module _ (len : ℕ) (f h w : Model) {c : Certificate} (passed : rootOutcome ByL
         (le-upℕ (2 * rootDisplacement f h w * scale) (scale - rootContraction h w) (omega (arith, conditions .numbers .contraction)))
         (conditions .holds))
 
-    -- and in nothing else do they differ
+    -- and all else is the same
     pub tight-same-but-radius : makeCertificate (withRadius (c .model) 0) (c .m) (c .N) (c .b) ≡ makeCertificate (withRadius (d .model) 0) (d .m) (d .N) (d .b)
     unfolding rootModel
     tight-same-but-radius = rw (root-passes ByLeastRadius len f h w passed .2, root-passes ByDiscriminant len′ f h w other .2)
@@ -116,7 +115,7 @@ module _ (len : ℕ) (f h w : Model) (enough : scratchSize ≤ len) (gf : good f
 
     -- no such r exists
     abbrev none : Type 0
-    none = (r : ℕ) → r ≤ scale → ¬ TightFits f h w r
+    none = (r : ℕ) → r ≤ scale → ¬ TightSatisfies f h w r
 
     -- then 17
     pub tight-none : none → rootOutcome ByLeastRadius len f h w ≡ refusedTest 17

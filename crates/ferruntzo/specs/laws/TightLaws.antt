@@ -1,6 +1,6 @@
 -- Document 02, S-22, for the exported functions, by the outcomes of their calls (`rootCall`), which decide number, result and numbers:
--- where `ferruntzo_tight_root` accepts, so does `ferruntzo_root` over the same areas; where both accept, over whatever areas, the
--- tighter radius is not the larger.
+-- where `ferruntzo_tight_root` accepts, so does `ferruntzo_root` over the same areas; where both accept the same f, h and w,
+-- whatever the other areas, the tighter radius is not the larger.
 use mathlib.Core.Path.{_≡_}
 use mathlib.Core.Bool.{Bool, true, false, cond}
 use mathlib.Core.List.{List}

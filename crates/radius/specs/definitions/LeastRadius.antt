@@ -7,11 +7,11 @@ use Rattle.radius.specs.declared.types.FoundRadius.{FoundRadius}
 use Rattle.radius.specs.declared.types.FoundRadius.the-variants.{Found, Missing}
 
 -- "2·M·r² + b·S² ≤ (S−m)·S·r", as a statement and as a test
-abbrev pub RadiusFits : ℕ → ℕ → ℕ → ℕ → Type 0
-RadiusFits M m b r = 2 * M * (r * r) + b * (scale * scale) ≤ (scale - m) * scale * r
+abbrev pub RadiusSatisfies : ℕ → ℕ → ℕ → ℕ → Type 0
+RadiusSatisfies M m b r = 2 * M * (r * r) + b * (scale * scale) ≤ (scale - m) * scale * r
 
-abbrev pub radiusFits : ℕ → ℕ → ℕ → ℕ → Bool
-radiusFits M m b r = leb (2 * M * (r * r) + b * (scale * scale)) ((scale - m) * scale * r)
+abbrev pub radiusSatisfies : ℕ → ℕ → ℕ → ℕ → Bool
+radiusSatisfies M m b r = leb (2 * M * (r * r) + b * (scale * scale)) ((scale - m) * scale * r)
 
 -- the first of the n numbers k, k+1, … that passes a test; `let`, or the prover computes what is behind k in any case
 unfoldable pub firstOf : (ℕ → Bool) → ℕ → ℕ → FoundRadius
@@ -20,7 +20,7 @@ firstOf test (suc n) k = let later = firstOf test n (suc k) in cond (test k) (Fo
 
 -- "the least whole r from 0 to S"
 unfoldable pub leastRadius : ℕ → ℕ → ℕ → FoundRadius
-leastRadius M m b = firstOf (radiusFits M m b) (suc scale) 0
+leastRadius M m b = firstOf (radiusSatisfies M m b) (suc scale) 0
 
 -- "no such r exists"
 abbrev pub isMissing : FoundRadius → Bool
@@ -35,5 +35,5 @@ radiusOf Missing = 0
 -- r is at most S, satisfies, and nothing smaller does
 pub record IsLeast (M m b r : ℕ) : Type 0 where
   pub within : r ≤ scale
-  pub satisfies : RadiusFits M m b r
-  pub least : (k : ℕ) → k < r → ¬ RadiusFits M m b k
+  pub satisfies : RadiusSatisfies M m b r
+  pub least : (k : ℕ) → k < r → ¬ RadiusSatisfies M m b k

@@ -8,7 +8,7 @@ use native.Mathlib.Decide.{decLe}
 use lib.Dec.{leb}
 use borrow.Author.Tests.{leb-true, leb-false, le-leb, lt-leb}
 use Rattle.model.specs.definitions.Models.{scale}
-use Rattle.radius.specs.definitions.LeastRadius.{RadiusFits, radiusFits, firstOf, leastRadius, isMissing, radiusOf, IsLeast}
+use Rattle.radius.specs.definitions.LeastRadius.{RadiusSatisfies, radiusSatisfies, firstOf, leastRadius, isMissing, radiusOf, IsLeast}
 use Rattle.radius.specs.declared.types.FoundRadius.{FoundRadius}
 use Rattle.radius.specs.declared.types.FoundRadius.the-variants.{Found, Missing}
 
@@ -93,13 +93,13 @@ found-is (Found r) h = refl
 found-is Missing h = absurd (true≢false h)
 
 module _ (M m b : ℕ) where
-  pub test-holds : (k : ℕ) → radiusFits M m b k ≡ true → RadiusFits M m b k
+  pub test-holds : (k : ℕ) → radiusSatisfies M m b k ≡ true → RadiusSatisfies M m b k
   test-holds k e = leb-true _ _ e
 
-  pub test-fails : (k : ℕ) → radiusFits M m b k ≡ false → ¬ RadiusFits M m b k
+  pub test-fails : (k : ℕ) → radiusSatisfies M m b k ≡ false → ¬ RadiusSatisfies M m b k
   test-fails k e = above _ _ e
 
-  fails-test : (k : ℕ) → ¬ RadiusFits M m b k → radiusFits M m b k ≡ false
+  fails-test : (k : ℕ) → ¬ RadiusSatisfies M m b k → radiusSatisfies M m b k ≡ false
   fails-test k h = not-below _ _ h
 
   pub least-found : (r : ℕ) → leastRadius M m b ≡ Found r → IsLeast M m b r
@@ -122,7 +122,7 @@ module _ (M m b : ℕ) where
       })
 
   -- none exactly if no r from 0 to S satisfies
-  pub least-missing : (leastRadius M m b ≡ Missing) ↔ ((r : ℕ) → r ≤ scale → ¬ RadiusFits M m b r)
+  pub least-missing : (leastRadius M m b ≡ Missing) ↔ ((r : ℕ) → r ≤ scale → ¬ RadiusSatisfies M m b r)
   unfolding leastRadius
   least-missing = (
     λ e r h. test-fails r (first-missing _ _ _ .0 e r (omega arith) (omega arith)),
