@@ -12,7 +12,7 @@
      bench former JOB..         the largest deviation that the former check finds
 
    count, time and stack first compare all answers and areas of the versions.  count and
-   alone have the two tests of every degree from 4 to 32, time and stack of 4, 8, 16 and 32.
+   alone have the tests of every degree from 4 to 32, time and stack of 4, 8, 16 and 32.
    The last JOB must hold a load and 31 roots; its first 1, 4 and 16 results are cases too. */
 #define _POSIX_C_SOURCE 200809L
 #include "ferruntzo.h"
@@ -49,7 +49,7 @@ multiply_entry plain2_multiply, plain3_multiply;
 integrate_entry plain2_integrate, plain3_integrate;
 evaluate_entry plain2_evaluate, plain3_evaluate;
 quotient_entry plain2_quotient, plain3_quotient;
-root_entry plain2_root, plain3_root;
+root_entry plain2_root, plain3_root, plain2_tight_root, plain3_tight_root;
 check_entry plain2_check, plain3_check;
 from_series_entry plain2_from_series, plain3_from_series;
 quotient_of_two_entry plain2_quotient_of_two, plain3_quotient_of_two;
@@ -58,6 +58,9 @@ make_quotient_entry plain2_make_quotient, plain3_make_quotient, passes_make_quot
 
 #ifdef WITHOUT_QUOTIENT_OF_TWO
 #define ferruntzo_quotient_of_two NULL
+#endif
+#ifdef WITHOUT_TIGHT_ROOT
+#define ferruntzo_tight_root NULL
 #endif
 #ifdef WITHOUT_MAKE_RECIPROCAL
 #define ferruntzo_make_reciprocal NULL
@@ -72,7 +75,7 @@ struct version {
     integrate_entry *integrate;
     evaluate_entry *evaluate;
     quotient_entry *quotient;
-    root_entry *root;
+    root_entry *root, *tight_root;
     check_entry *check;
     from_series_entry *from_series;
     quotient_of_two_entry *quotient_of_two;
@@ -84,25 +87,25 @@ enum { LIBRARY, PLAIN_O2, PLAIN_O3, PASSES, FORMER, VERSIONS };
 
 static const struct version versions[VERSIONS] = {
     {"library", ferruntzo_multiply, ferruntzo_integrate, ferruntzo_evaluate, ferruntzo_quotient,
-     ferruntzo_root, ferruntzo_check, ferruntzo_from_series, ferruntzo_quotient_of_two,
-     ferruntzo_make_reciprocal, ferruntzo_make_quotient},
+     ferruntzo_root, ferruntzo_tight_root, ferruntzo_check, ferruntzo_from_series,
+     ferruntzo_quotient_of_two, ferruntzo_make_reciprocal, ferruntzo_make_quotient},
     {"O2", plain2_multiply, plain2_integrate, plain2_evaluate, plain2_quotient, plain2_root,
-     plain2_check, plain2_from_series, plain2_quotient_of_two, plain2_make_reciprocal,
-     plain2_make_quotient},
+     plain2_tight_root, plain2_check, plain2_from_series, plain2_quotient_of_two,
+     plain2_make_reciprocal, plain2_make_quotient},
     {"O3", plain3_multiply, plain3_integrate, plain3_evaluate, plain3_quotient, plain3_root,
-     plain3_check, plain3_from_series, plain3_quotient_of_two, plain3_make_reciprocal,
-     plain3_make_quotient},
+     plain3_tight_root, plain3_check, plain3_from_series, plain3_quotient_of_two,
+     plain3_make_reciprocal, plain3_make_quotient},
     {.name = "passes", .make_reciprocal = passes_make_reciprocal, .make_quotient = passes_make_quotient},
     {.name = "former"},
 };
 
 enum kind {
-    MULTIPLY, INTEGRATE, EVALUATE, QUOTIENT, ROOT, CHECK, FROM_SERIES, QUOTIENT_OF_TWO, MAKE_RECIPROCAL,
-    MAKE_QUOTIENT
+    MULTIPLY, INTEGRATE, EVALUATE, QUOTIENT, ROOT, TIGHT_ROOT, CHECK, FROM_SERIES, QUOTIENT_OF_TWO,
+    MAKE_RECIPROCAL, MAKE_QUOTIENT
 };
 
-static const char *const kind_names[] = {"multiply", "integrate", "evaluate", "quotient", "root", "check",
-                                         "from_series", "quotient_of_two", "make_reciprocal",
+static const char *const kind_names[] = {"multiply", "integrate", "evaluate", "quotient", "root", "tight_root",
+                                         "check", "from_series", "quotient_of_two", "make_reciprocal",
                                          "make_quotient"};
 
 struct bench_case {
@@ -117,7 +120,7 @@ struct bench_case {
     int with_former;
 };
 
-#define MAX_CASES 128
+#define MAX_CASES 160
 static struct bench_case cases[MAX_CASES];
 static int case_count;
 
@@ -189,8 +192,8 @@ static const struct bench_case *add_quotient(int degree)
     return quotient;
 }
 
-/* The root test of the same g. */
-static void add_root(int degree)
+/* The two root tests of the same g. */
+static void add_roots(int degree)
 {
     struct bench_case *root = new_case(ROOT, "root", degree);
     double values[NODES], inverse[NODES];
@@ -202,9 +205,24 @@ static void add_root(int degree)
     project(values, degree, root->h);
     project(inverse, degree, root->w);
     root->with_former = degree == FERRUNTZO_MAX_DEGREE;
+
+    struct bench_case *tight = new_case(TIGHT_ROOT, "tight_root", degree);
+    memcpy(tight->f, root->f, sizeof tight->f);
+    memcpy(tight->h, root->h, sizeof tight->h);
+    memcpy(tight->w, root->w, sizeof tight->w);
 }
 
-/* Multiply, integrate, evaluate, both tests, the conversion of a series and the selection of
+/* Constants, so that the search for the least radius is a large part: (S - m) S / (4 M) is above S,
+   and 20 halvings of 0 .. S are needed. */
+static void add_longest_search(void)
+{
+    struct bench_case *tight = new_case(TIGHT_ROOT, "tight_root longest", -1);
+    tight->f[1] = 16 * FERRUNTZO_S;
+    tight->h[1] = 4 * FERRUNTZO_S + FERRUNTZO_S / 100;
+    tight->w[1] = FERRUNTZO_S / 8;
+}
+
+/* Multiply, integrate, evaluate, the tests, the conversion of a series and the selection of
    two proposals, every polynomial of one degree; the integrand has one less, so that its integral
    has that degree. */
 static void add_degree(int degree)
@@ -224,7 +242,7 @@ static void add_degree(int degree)
     memcpy(two->second + FERRUNTZO_CANDIDATE_SIZE, quotient->w, sizeof quotient->w);
     memcpy(two->first, two->second, sizeof two->first);
     two->first[1] += 1000;
-    add_root(degree);
+    add_roots(degree);
 
     struct bench_case *series = new_case(FROM_SERIES, "from_series", degree);
     geometric(series->series, degree, 4.0, 0.8, -0.7);
@@ -330,6 +348,10 @@ static void call(int v, const struct bench_case *c)
         lent.number = version->root(WHOLE(c->f), WHOLE(c->h), WHOLE(c->w), WHOLE(lent.scratch),
                                     WHOLE(lent.out), WHOLE(lent.numbers));
         break;
+    case TIGHT_ROOT:
+        lent.number = version->tight_root(WHOLE(c->f), WHOLE(c->h), WHOLE(c->w), WHOLE(lent.scratch),
+                                          WHOLE(lent.out), WHOLE(lent.numbers));
+        break;
     case FROM_SERIES:
         lent.number = version->from_series(WHOLE(c->series), WHOLE(lent.out));
         break;
@@ -358,6 +380,7 @@ static int has_version(int v, const struct bench_case *c)
     if (v == FORMER)
         return c->with_former;
     switch (c->kind) {
+    case TIGHT_ROOT: return versions[v].tight_root != NULL;
     case QUOTIENT_OF_TWO: return versions[v].quotient_of_two != NULL;
     case MAKE_RECIPROCAL: return versions[v].make_reciprocal != NULL;
     case MAKE_QUOTIENT: return versions[v].make_quotient != NULL;
@@ -534,9 +557,10 @@ int main(int argc, char **argv)
             add_degree(degree);
         } else if (logged) {
             add_quotient(degree);
-            add_root(degree);
+            add_roots(degree);
         }
     }
+    add_longest_search();
     add_makers();
     const struct bench_case *last = NULL;
     for (int i = first; i < argc; i++)

@@ -85,8 +85,9 @@ double former_job(const uint8_t *job, size_t job_len)
             at += 1 + BLOCK_BYTES + 4;
             continue;
         }
-        const double *a = values[operands[0]], *b = values[operands[byte == 0x21 ? 0 : 1]];
-        if (byte == 0x20 || byte == 0x21) {
+        int root = byte == 0x21 || byte == 0x22;
+        const double *a = values[operands[0]], *b = values[operands[root ? 0 : 1]];
+        if (byte == 0x20 || root) {
             size_t names = byte == 0x20 ? 2 : 1;
             evaluate_block(operands + names, out);
             for (int i = 0; i < FORMER_INSTANTS; i++) {

@@ -23,6 +23,7 @@ from jobs import Builder                                                # noqa: 
 from oracle import S, constant, model                                   # noqa: E402
 
 ACCIDENT_DEGREE = 12        # to which the margin of the accident was cut
+FORMER = ('root',)          # the commands for roots before 0x22; the examples of that time stay as they are
 
 
 def margin_stretches():
@@ -34,15 +35,20 @@ def margin_stretches():
     return [solver.cut_out(run, low, middle), solver.cut_out(run, middle, high)], curve
 
 
-def stretch():
+def stretch(roots=FORMER):
     stretches, curve = margin_stretches()
-    return solver.solve_stretch(stretches[0], curve.bur, curve.side).job.ended()
+    return solver.solve_stretch(stretches[0], curve.bur, curve.side, roots=roots).job.ended()
+
+
+def stretch_tight():
+    """The same stretch as the solver makes it since 0x22: its root by the tighter root test."""
+    return stretch(solver.ROOTS)
 
 
 def stretch32():
     """Two stretches that meet, and the three curves that compare them."""
     stretches, curve = margin_stretches()
-    job = solver.Job()
+    job = solver.Job(FORMER)
     bur = job.load(solver.bur_load(curve.bur))
     (x1, y1), _, _ = solver.add_stretch(job, bur, stretches[0], curve.side)
     (x2, y2), _, _ = solver.add_stretch(job, bur, stretches[1], curve.side)
@@ -66,22 +72,27 @@ def accident():
     parts = [exact.nearest(whole.parts[0][2 + axis], ACCIDENT_DEGREE) for axis in (0, 1)]
     x, y = (exact.Series(row, 1) for row in parts)
     cut = whole._replace(parts=[(whole.low, whole.high, x, y)])
-    job = solver.Job()
+    job = solver.Job(FORMER)
     bur = job.load(solver.bur_load(curve.bur)._replace(radius=0))
     solver.add_stretch(job, bur, cut, curve.side, scale=0)
     return job.ended()
 
 
-def accident_covered():
-    """The same stretch as the solver makes it: every load's radius covers rounding and cut."""
+def accident_covered(roots=FORMER):
+    """The same stretch with loads as the solver makes them: every load's radius covers rounding and cut."""
     whole, curve = accident_stretch()
-    return solver.solve_stretch(whole, curve.bur, curve.side).job.ended()
+    return solver.solve_stretch(whole, curve.bur, curve.side, roots=roots).job.ended()
+
+
+def accident_tight():
+    """The same as the solver makes it since 0x22: its root by the tighter root test."""
+    return accident_covered(solver.ROOTS)
 
 
 def accident_degree_12():
     """The same cut to degree 12, with the radius that it needs: accepted, and far beyond a limit of 2 µm."""
     whole, curve = accident_stretch()
-    return solver.solve_stretch(whole, curve.bur, curve.side, ACCIDENT_DEGREE, 0).job.ended()
+    return solver.solve_stretch(whole, curve.bur, curve.side, ACCIDENT_DEGREE, 0, roots=FORMER).job.ended()
 
 
 def must(kept):
@@ -103,7 +114,7 @@ def most_work():
 
 def most_quotients():
     """A load and 31 quotients by it, every block of degree 32 and without a zero: the longest job that
-    can be accepted, and the most work by instructions."""
+    can be accepted."""
     f = model([4 * S] + [round(0.8 * S * (-0.7) ** k) for k in range(1, 33)])
     builder = Builder()
     must(builder.load(f))
@@ -120,6 +131,12 @@ def refused():
             + jobs.root(0, constant(-2 * S), constant(-S // 4)) + jobs.END)
 
 
+def no_radius():
+    """A root that the root test accepts, with radius 2·S, and the tighter root test refuses: no r up to S satisfies."""
+    return (jobs.EDITION_1 + jobs.load(constant(224 * S))
+            + jobs.tight_root(0, constant(16 * S), constant(S // 32)) + jobs.END)
+
+
 def between_instants():
     """The owner's accident: g = 227 x^2 + 50 units, f = g + 2 units, h = 1. Of 500 equidistant
     instants the two nearest to 0 see f/g deviate from h by 2,085 units (2 micrometres); at 0
@@ -134,7 +151,8 @@ def between_instants():
 EXAMPLES = {'root_of_4': example_job, 'stretch': stretch, 'stretch32': stretch32, 'accident': accident,
             'accident_covered': accident_covered, 'accident_degree_12': accident_degree_12,
             'most_work': most_work, 'most_quotients': most_quotients, 'refused': refused,
-            'between_instants': between_instants}
+            'between_instants': between_instants, 'stretch_tight': stretch_tight, 'accident_tight': accident_tight,
+            'no_radius': no_radius}
 
 
 def main():

@@ -2,6 +2,8 @@
 docs/MEANING.md. Nothing here is a test.
 
   measure.py [margin.json]
+  measure.py --roots [margin.json]        instead: radii by 0x21 and by 0x22, of each root of the example jobs and of the
+                                          stretches of the margin
 
 Numbers are units of 2^-20 mm, of the worst stretch; errors are against the margin, at 13 points of each stretch.
 """
@@ -13,14 +15,15 @@ from random import Random
 HERE = Path(__file__).resolve().parent
 sys.path.insert(0, str(HERE.parent / 'tools'))
 
-from ferruntzo_tool import candidates, exact                            # noqa: E402
+from ferruntzo_tool import candidates, covered, exact                   # noqa: E402
 from ferruntzo_tool import solve as solver                              # noqa: E402
 from ferruntzo_tool.arithmetic import Refused, model, up                # noqa: E402
 from ferruntzo_tool.curve import read_curve                             # noqa: E402
-from ferruntzo_tool.reading import Checked                              # noqa: E402
-from ferruntzo_tool.tables import MAX_DEGREE, S                         # noqa: E402
+from ferruntzo_tool.reading import Checked, split                       # noqa: E402
+from ferruntzo_tool.tables import BY_NAME, MAX_DEGREE, S, is_root       # noqa: E402
 
-CURVE = read_curve(sys.argv[1] if len(sys.argv) > 1 else str(HERE / 'margin.json'))
+NAMED = [word for word in sys.argv[1:] if word != '--roots']
+CURVE = read_curve(NAMED[0] if NAMED else str(HERE / 'margin.json'))
 SIGN = 1 if CURVE.side == 'left' else -1
 POINTS = 12
 
@@ -88,7 +91,7 @@ def with_degrees(h_degree, w_degree):
             except Refused as refused:
                 error = refused
                 continue
-            if found is None or numbers['radius'] < found[2]['radius']:
+            if found is None or candidates.rank(numbers) < candidates.rank(found[2]):
                 found = h, w, numbers
         if found is None:
             raise error
@@ -120,7 +123,67 @@ def changed_bits(count):
     return accepted, beyond, moved
 
 
+# ---- Roots by 0x21 and by 0x22 ----
+
+def exchanged(job, name):
+    """The job with every root the named command, its candidates as they are."""
+    made = bytearray(job)
+    for step in filter(is_root, split(job)[0]):
+        made[step.offset] = BY_NAME[name].byte
+    return bytes(made)
+
+
+def largest_end(checked):
+    return max(checked.results[i].radius for i in checked.last_results())
+
+
+def share(small, large):
+    return f'{small / large:.3f}' if large else ''
+
+
+def roots_of_examples():
+    """A row for the roots of each accepted example job that have the same radii; equal roots but for the command once."""
+    print('| job | result | radius by 0x21 | by 0x22 | ratio | largest radius of the last results by 0x21 | by 0x22 | ratio |')
+    print('|-|-|-|-|-|-|-|-|')
+    seen = set()
+    for path in sorted(HERE.glob('*.job')):
+        job = path.read_bytes()
+        former, tight = (Checked(exchanged(job, name)) for name in solver.ROOTS)
+        operands = str([(former.results[step.values['f']], step.values) for step in former.makers if is_root(step)])
+        if not Checked(job).accepted or former.job == tight.job or operands in seen:
+            continue
+        seen.add(operands)
+        rows = {}
+        for i, step in enumerate(former.makers):
+            if is_root(step):
+                rows.setdefault((former.results[i].radius, tight.results[i].radius), []).append(i)
+        ends = largest_end(former), largest_end(tight)
+        for (by_21, by_22), results in rows.items():
+            print(f'| `{path.name}` | {covered.numbers_text(results)} | {by_21:,} | {by_22:,} | {share(by_22, by_21)} | '
+                  f'{ends[0]:,} | {ends[1]:,} | {share(ends[1], ends[0])} |')
+
+
+def root_radii(solved):
+    return [m.radius for one in solved for m, step in zip(one.results, Checked(one.job.ended()).makers) if is_root(step)]
+
+
+def roots_of_stretches():
+    """The worst root and the worst path of all stretches, without 0x22 and with it."""
+    print('| stretches | roots by 0x22 | worst root by 0x21 | with 0x22 | ratio | worst path by 0x21 | with 0x22 | ratio |')
+    print('|-|-|-|-|-|-|-|-|')
+    for n in (1, 2, 4, 8, 16, 32):
+        former, tight = ([plain(s, roots=roots) for s in stretches(n)] for roots in (solver.ROOTS[:1], solver.ROOTS))
+        used = sum(one.job.used.count('tight_root') for one in tight)
+        ends = max(root_radii(former)), max(root_radii(tight)), path(former), path(tight)
+        print(f'| {4 * n} | {used} of {4 * n} | {ends[0]:,} | {ends[1]:,} | {share(ends[1], ends[0])} | {ends[2]:,} | '
+              f'{ends[3]:,} | {share(ends[3], ends[2])} |')
+
+
 def main():
+    if '--roots' in sys.argv:
+        roots_of_examples()
+        print()
+        return roots_of_stretches()
     print('changed bits: accepted, beyond 2 µm, within it and moved', changed_bits(1500))
     print('stretches: normal rounded last: its radius, path, error; derivative of the rounded series, radius 0: path, '
           'error; with the radius that covers it: path; with k²/2: path')

@@ -3,10 +3,10 @@
    The library checks Chebyshev certificates.  Polynomials in the Chebyshev
    basis are added, subtracted, multiplied, integrated and evaluated with a
    proved error radius; models are made of power series; a proposed quotient or
-   square root is accepted with a proved radius or refused; of two proposals for
-   one quotient the tighter is chosen; proposals for reciprocals and quotients are
-   made in double arithmetic, for these tests to judge; and a whole job of such
-   commands is checked.
+   square root is accepted with a proved radius or refused, a root by either of two
+   tests; of two proposals for one quotient the tighter is chosen; proposals for
+   reciprocals and quotients are made in double arithmetic, for these tests to judge;
+   and a whole job of such commands is checked.
 
    Link with libferruntzo.a, which scripts/build_library makes (x86-64, System V
    calling convention):
@@ -16,8 +16,8 @@
    examples/check_job.c, examples/two_proposals.c and examples/make_proposal.c are
    programs to copy, docs/FORMAT.md the format of jobs.  "01" below is the scope
    document that fixes every number but those of power series, of two proposals, of
-   the scratch and of made proposals, which change requests S-3, S-14, S-17 and S-19
-   fix.
+   the scratch, of made proposals and of the tighter root test, which change requests
+   S-3, S-14, S-17, S-19 and S-22 fix.
 
    NUMBERS
 
@@ -84,7 +84,8 @@
      ferruntzo_make_reciprocal, ferruntzo_make_quotient and ferruntzo_to_units
      write, are zero after every refusal, 1 included.
    - The first 16 numbers of scratch are zero after every call of
-     ferruntzo_quotient, ferruntzo_root and ferruntzo_quotient_of_two.
+     ferruntzo_quotient, ferruntzo_root, ferruntzo_tight_root and
+     ferruntzo_quotient_of_two.
    ferruntzo_check says what holds of its work, scratch and answer. */
 #ifndef FERRUNTZO_H
 #define FERRUNTZO_H
@@ -99,9 +100,9 @@ extern "C" {
 /* ---- Version ---- */
 
 #define FERRUNTZO_VERSION_MAJOR 3
-#define FERRUNTZO_VERSION_MINOR 1
+#define FERRUNTZO_VERSION_MINOR 2
 #define FERRUNTZO_VERSION_PATCH 0
-#define FERRUNTZO_VERSION "3.1.0"
+#define FERRUNTZO_VERSION "3.2.0"
 
 /* ---- Limits ---- */
 
@@ -109,7 +110,7 @@ extern "C" {
 #define FERRUNTZO_MAX_DEGREE 32
 #define FERRUNTZO_MAX_WEIGHT 268435456    /* 2^28 */
 #define FERRUNTZO_MAX_RADIUS 268435456    /* 2^28 */
-#define FERRUNTZO_MAX_RESIDUAL 268435456  /* 2^28, of N in the two tests */
+#define FERRUNTZO_MAX_RESIDUAL 268435456  /* 2^28, of N in the tests */
 #define FERRUNTZO_MAX_RESULTS 32          /* of a job */
 
 /* ---- Sizes of the areas, in numbers ---- */
@@ -161,6 +162,7 @@ extern "C" {
 #define FERRUNTZO_COMMAND_MULTIPLY 0x13
 #define FERRUNTZO_COMMAND_QUOTIENT 0x20
 #define FERRUNTZO_COMMAND_ROOT 0x21
+#define FERRUNTZO_COMMAND_TIGHT_ROOT 0x22
 #define FERRUNTZO_BLOCK_BYTES 133       /* degree byte and 33 coefficients */
 
 /* No longer job is ever accepted: edition, a load, 31 quotients, end. */
@@ -178,8 +180,8 @@ enum ferruntzo_refusal {
     FERRUNTZO_POINT_OUTSIDE = 4,          /* p is not from -S to S */
     FERRUNTZO_NOT_CONTRACTING = 5,        /* m >= S: the helper w is too far from the inverse */
     FERRUNTZO_LARGE_RESIDUAL = 6,         /* N > 2^28 */
-    FERRUNTZO_HELPER_NOT_POSITIVE = 7,    /* root: w_0 + .. + w_32 <= 0 */
-    FERRUNTZO_NEGATIVE_DISCRIMINANT = 8,  /* root: (S - m)^2 < 8 b M */
+    FERRUNTZO_HELPER_NOT_POSITIVE = 7,    /* both root tests: w_0 + .. + w_32 <= 0 */
+    FERRUNTZO_NEGATIVE_DISCRIMINANT = 8,  /* root test: (S - m)^2 < 8 b M */
     FERRUNTZO_BAD_VALUE = 9,              /* unknown command, edition or kept degree; edition not first or again */
     FERRUNTZO_JOB_ENDS = 10,              /* the job ends inside a command or without an end */
     FERRUNTZO_BYTES_AFTER_END = 11,       /* bytes follow the end */
@@ -187,7 +189,8 @@ enum ferruntzo_refusal {
     FERRUNTZO_TOO_MANY_RESULTS = 13,      /* a 33rd result */
     FERRUNTZO_BAD_SERIES = 14,            /* a series' degree, weight, or a nonzero beyond the degree */
     FERRUNTZO_NOT_FINITE = 15,            /* g_0 is zero, or a value is not finite */
-    FERRUNTZO_LARGE_PROPOSAL = 16         /* the weight of a list turned into units is above 2^28 */
+    FERRUNTZO_LARGE_PROPOSAL = 16,        /* the weight of a list turned into units is above 2^28 */
+    FERRUNTZO_NO_RADIUS = 17              /* tighter root test: no whole r from 0 to S has 2 M r^2 + b S^2 <= (S - m) S r */
 };
 
 /* ---- Plain operations on models ----
@@ -250,9 +253,10 @@ uint32_t ferruntzo_evaluate(const int32_t *a, size_t a_len,
 uint32_t ferruntzo_from_series(const int32_t *series, size_t series_len,
                                int32_t *out, size_t out_len);
 
-/* ---- The two tests ----
+/* ---- The tests ----
 
    h is the proposed answer, w a helper; docs/FORMAT.md says how to choose them.
+   M is the weight of w.
    Sizes: f and g 35, h and w 34, scratch 16, out 35, numbers 3.
    Accepted: out holds h with the radius that the test gives; numbers holds 01's
    m, N and b.  Refused: out and numbers are zero.  The 16 numbers of scratch are
@@ -280,6 +284,19 @@ uint32_t ferruntzo_root(const int32_t *f, size_t f_len,
                         int64_t *scratch, size_t scratch_len,
                         int32_t *out, size_t out_len,
                         uint64_t *numbers, size_t numbers_len);
+
+/* The tighter root test: ferruntzo_root up to N and b; the radius is the least whole r
+   from 0 to S with 2 M r^2 + b S^2 <= (S - m) S r, and 17 says that there is none.
+   Accepted: as for ferruntzo_root, with this radius.  Where it accepts, ferruntzo_root
+   accepts too, with a radius that is never smaller; it can refuse what ferruntzo_root
+   accepts (f = 224 S, h = 16 S, w = S/32).
+   Refusals: 1 (any area), 2 (f, h or w), 7, 5, 6, 17. */
+uint32_t ferruntzo_tight_root(const int32_t *f, size_t f_len,
+                              const int32_t *h, size_t h_len,
+                              const int32_t *w, size_t w_len,
+                              int64_t *scratch, size_t scratch_len,
+                              int32_t *out, size_t out_len,
+                              uint64_t *numbers, size_t numbers_len);
 
 /* ---- Two proposals for one quotient ----
 
@@ -404,7 +421,7 @@ uint32_t ferruntzo_to_units(const double *values, size_t values_len,
      12  a named result that is not there yet
      13  a 33rd result
      2   the loaded model, or h or w
-     7, 5, 6, 8, 3   as the operation or test gives them
+     7, 5, 6, 8, 17, 3   as the operation or test gives them
      11  bytes after the end */
 uint32_t ferruntzo_check(const uint8_t *job, size_t job_len,
                          int32_t *work, size_t work_len,

@@ -20,7 +20,8 @@
 enum {
     LARGE_RESULT = 3, POINT_OUTSIDE = 4, NOT_CONTRACTING = 5, LARGE_RESIDUAL = 6,
     HELPER_NOT_POSITIVE = 7, NEGATIVE_DISCRIMINANT = 8, BAD_VALUE = 9, JOB_ENDS = 10,
-    BYTES_AFTER_END = 11, NOT_A_RESULT = 12, TOO_MANY_RESULTS = 13, BAD_SERIES = 14
+    BYTES_AFTER_END = 11, NOT_A_RESULT = 12, TOO_MANY_RESULTS = 13, BAD_SERIES = 14,
+    NO_RADIUS = 17
 };
 
 enum { CHOSEN_FIRST = 1, CHOSEN_SECOND = 2 };
@@ -174,7 +175,7 @@ static uint32_t from_series(const int32_t *series, int32_t *out)
     return finish(degree, row, up(error, EXPANSION_UNIT), out);
 }
 
-/* ---- The two tests ----
+/* ---- The tests ----
 
    The list C stands on the stack, all 65 numbers at once; a lent scratch is only measured and
    cleared, as include/ferruntzo.h says. */
@@ -274,8 +275,14 @@ static uint32_t select_proposal(const int32_t *f, const int32_t *g,
     return number;
 }
 
-static uint32_t test_root(const int32_t *f, const int32_t *h, const int32_t *w,
-                          int32_t *out, uint64_t *numbers)
+/* What the two root tests share. */
+struct root_numbers {
+    int64_t m_weight, m, n, b;
+};
+
+/* Everything up to N and b. */
+static uint32_t form_root_numbers(const int32_t *f, const int32_t *h, const int32_t *w,
+                                  struct root_numbers *formed)
 {
     int64_t c[PRODUCT_SIZE];
     if (!good_model(f) || !good_candidate(h) || !good_candidate(w))
@@ -295,14 +302,66 @@ static uint32_t test_root(const int32_t *f, const int32_t *h, const int32_t *w,
     int64_t n = up(weight(c, PRODUCT_SIZE) + 2 * (int64_t)UNIT * f[RADIUS], 2 * UNIT);
     if (n > LIMIT)
         return LARGE_RESIDUAL;
-    int64_t b = up(m_weight * n, UNIT);
+    *formed = (struct root_numbers){m_weight, m, n, up(m_weight * n, UNIT)};
+    return 0;
+}
+
+static uint32_t test_root(const int32_t *f, const int32_t *h, const int32_t *w,
+                          int32_t *out, uint64_t *numbers)
+{
+    struct root_numbers p;
+    uint32_t number = form_root_numbers(f, h, w, &p);
+    if (number != 0)
+        return number;
     /* 8 b M can pass 64 bits, so b is compared with the quotient; M >= 1 here. */
-    if (b > (UNIT - m) * (UNIT - m) / (8 * m_weight))
+    if (p.b > (UNIT - p.m) * (UNIT - p.m) / (8 * p.m_weight))
         return NEGATIVE_DISCRIMINANT;
-    int64_t radius = up(2 * b * UNIT, UNIT - m);
+    int64_t radius = up(2 * p.b * UNIT, UNIT - p.m);
     if (radius > LIMIT)
         return LARGE_RESULT;
-    accept_candidate(h, radius, m, n, b, out, numbers);
+    accept_candidate(h, radius, p.m, p.n, p.b, out, numbers);
+    return 0;
+}
+
+#define NO_SUCH_RADIUS (UNIT + 1)
+
+/* The least whole r from 0 to S with 2 M r^2 + b S^2 <= c r, where c = (S - m) S; M >= 1.  Up to v,
+   which is c/(4 M) rounded down, what satisfies still does as r grows, from v + 1 on as r falls; so
+   if v does not satisfy, only v + 1 can.  No number passes 2^61. */
+static uint64_t least_radius(uint64_t m_weight, uint64_t m, uint64_t b)
+{
+    if (b > UNIT)
+        return NO_SUCH_RADIUS;
+    if (b == 0)
+        return 0;
+    uint64_t c = (UNIT - m) * UNIT, twice = 2 * m_weight, scaled = b * UNIT * UNIT;
+    uint64_t v = c / (4 * m_weight);
+    uint64_t low = 0, high = v < UNIT ? v : UNIT;
+    if (twice * high * high + scaled > c * high) {
+        uint64_t next = v + 1;
+        return next <= UNIT && twice * next * next + scaled <= c * next ? next : NO_SUCH_RADIUS;
+    }
+    while (high - low > 1) {        /* low does not satisfy, high does */
+        uint64_t middle = (low + high) / 2;
+        if (twice * middle * middle + scaled <= c * middle)
+            high = middle;
+        else
+            low = middle;
+    }
+    return high;
+}
+
+static uint32_t test_tight_root(const int32_t *f, const int32_t *h, const int32_t *w,
+                                int32_t *out, uint64_t *numbers)
+{
+    struct root_numbers p;
+    uint32_t number = form_root_numbers(f, h, w, &p);
+    if (number != 0)
+        return number;
+    uint64_t radius = least_radius((uint64_t)p.m_weight, (uint64_t)p.m, (uint64_t)p.b);
+    if (radius == NO_SUCH_RADIUS)
+        return NO_RADIUS;
+    accept_candidate(h, (int64_t)radius, p.m, p.n, p.b, out, numbers);
     return 0;
 }
 
@@ -383,6 +442,19 @@ uint32_t plain_root(const int32_t *f, size_t f_len, const int32_t *h, size_t h_l
     return number;
 }
 
+uint32_t plain_tight_root(const int32_t *f, size_t f_len, const int32_t *h, size_t h_len,
+                          const int32_t *w, size_t w_len, int64_t *scratch, size_t scratch_len,
+                          int32_t *out, size_t out_len, uint64_t *numbers, size_t numbers_len)
+{
+    uint32_t number = SHORT_AREA;
+    int fit = CLEAR(out, MODEL_SIZE) & CLEAR(numbers, NUMBERS_SIZE);
+    if (fit && f_len >= MODEL_SIZE && h_len >= CANDIDATE_SIZE && w_len >= CANDIDATE_SIZE
+        && scratch_len >= SCRATCH_SIZE)
+        number = test_tight_root(f, h, w, out, numbers);
+    CLEAR(scratch, SCRATCH_SIZE);
+    return number;
+}
+
 uint32_t plain_quotient_of_two(const int32_t *f, size_t f_len, const int32_t *g, size_t g_len,
                                const int32_t *first, size_t first_len,
                                const int32_t *second, size_t second_len,
@@ -426,7 +498,8 @@ static int known(uint8_t byte, size_t *width, size_t *names)
     case 0x12: *width = 2;             *names = 2; return 1;
     case 0x13: *width = 3;             *names = 2; return 1;
     case 0x20: *width = 2 + 2 * BLOCK_BYTES; *names = 2; return 1;
-    case 0x21: *width = 1 + 2 * BLOCK_BYTES; *names = 1; return 1;
+    case 0x21:
+    case 0x22: *width = 1 + 2 * BLOCK_BYTES; *names = 1; return 1;
     default: return 0;
     }
 }
@@ -455,7 +528,9 @@ static uint32_t operate(uint8_t byte, const uint8_t *operands, size_t names,
     read_block(operands + names + BLOCK_BYTES, w);
     if (byte == 0x20)
         return test_quotient(a, b, h, w, out, numbers);
-    return test_root(a, h, w, out, numbers);
+    if (byte == 0x21)
+        return test_root(a, h, w, out, numbers);
+    return test_tight_root(a, h, w, out, numbers);
 }
 
 /* Checks the commands in turn; leaves the last command's number in *command. */

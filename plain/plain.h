@@ -38,6 +38,13 @@ uint32_t plain_root(const int32_t *f, size_t f_len,
                     int32_t *out, size_t out_len,
                     uint64_t *numbers, size_t numbers_len);
 
+/* The radius is the least one; a root that has none is refused with 17 in place of 8. */
+uint32_t plain_tight_root(const int32_t *f, size_t f_len,
+                          const int32_t *h, size_t h_len, const int32_t *w, size_t w_len,
+                          int64_t *scratch, size_t scratch_len,
+                          int32_t *out, size_t out_len,
+                          uint64_t *numbers, size_t numbers_len);
+
 /* answer: 1 or 2 for the proposal chosen, and its radius; 0 and 0 when refused.  A proposal
    is 68 numbers, h and then w; a shorter one fails by itself. */
 uint32_t plain_quotient_of_two(const int32_t *f, size_t f_len, const int32_t *g, size_t g_len,

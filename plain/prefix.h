@@ -11,6 +11,7 @@
 #define plain_quotient PREFIXED(PREFIX, quotient)
 #define plain_quotient_of_two PREFIXED(PREFIX, quotient_of_two)
 #define plain_root PREFIXED(PREFIX, root)
+#define plain_tight_root PREFIXED(PREFIX, tight_root)
 #define plain_check PREFIXED(PREFIX, check)
 #define plain_make_reciprocal PREFIXED(PREFIX, make_reciprocal)
 #define plain_make_quotient PREFIXED(PREFIX, make_quotient)

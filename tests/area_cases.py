@@ -11,9 +11,9 @@ from examples_of_01 import example_job
 from header import (
     ACCEPTED, ANSWER_SIZE, BAD_MODEL, BAD_SERIES, BAD_VALUE, BOUNDS_SIZE, BYTES_AFTER_END,
     CANDIDATE_SIZE, HELPER_NOT_POSITIVE, JOB_ENDS, LARGE_RESIDUAL, LARGE_RESULT, MAX_DEGREE,
-    MAX_RESULTS, MODEL_SIZE, NEGATIVE_DISCRIMINANT, NOT_A_RESULT, NOT_CONTRACTING, NUMBERS_SIZE, OUTCOME_SIZE, POINT_OUTSIDE,
-    QUOTIENT_RECORD_SIZE, RECIPROCAL_RECORD_SIZE, SCRATCH_SIZE, SELECTION_SIZE, SERIES_SIZE, TOO_MANY_RESULTS, VALUES_SIZE,
-    WORK_SIZE)
+    MAX_RESULTS, MODEL_SIZE, NEGATIVE_DISCRIMINANT, NO_RADIUS, NOT_A_RESULT, NOT_CONTRACTING, NUMBERS_SIZE, OUTCOME_SIZE,
+    POINT_OUTSIDE, QUOTIENT_RECORD_SIZE, RECIPROCAL_RECORD_SIZE, SCRATCH_SIZE, SELECTION_SIZE, SERIES_SIZE, TOO_MANY_RESULTS,
+    VALUES_SIZE, WORK_SIZE)
 from oracle import LIMIT, PRODUCT_SIZE, S, constant, model, power, series, term
 from selection_cases import DIVIDEND, DIVISOR, TESTED
 from series_cases import GROWN
@@ -42,6 +42,7 @@ AREAS = {
     'make_reciprocal': (MODEL_IN, ('Q', RECIPROCAL_RECORD_SIZE, 'record'), W, OUTCOME),
     'make_quotient': (MODEL_IN, MODEL_IN, ('Q', QUOTIENT_RECORD_SIZE, 'record'), H, W, OUTCOME),
     'to_units': (('Q', VALUES_SIZE, 'values'), ('i', CANDIDATE_SIZE, 'units')),
+    'tight_root': (MODEL_IN, CANDIDATE_IN, CANDIDATE_IN, SCRATCH, OUT, NUMBERS),
 }
 # Numbers that a long enough area has beyond its size; a scratch half of the time none, else up to those of the list C and one more.
 MORE = {what: (0, 0, 1, 3) for areas in AREAS.values() for _, _, what in areas}
@@ -86,6 +87,7 @@ WITNESSES = {
         NOT_CONTRACTING: one_load(jobs.root(0, TWO, ONE)),
         LARGE_RESIDUAL: one_load(jobs.root(0, TWO, QUARTER), loaded=constant(-LIMIT)),
         NEGATIVE_DISCRIMINANT: one_load(jobs.root(0, TWO, QUARTER), loaded=ONE),
+        NO_RADIUS: one_load(jobs.tight_root(0, TWO, QUARTER), loaded=ONE),
         LARGE_RESULT: one_load(jobs.add(0, 0), loaded=MOST),
         BYTES_AFTER_END: example_job() + jobs.END,
     }.items()},
@@ -94,6 +96,9 @@ WITNESSES = {
     'quotient_of_two': {number: (DIVIDEND, DIVISOR, tested[0], tested[-1]) for number, tested in TESTED.items()},
     **proposal_cases.WITNESSES, 'to_units': unit_cases.WITNESSES,
 }
+# Up to N the tighter root test is the root test.
+WITNESSES['tight_root'] = {NO_RADIUS if number == NEGATIVE_DISCRIMINANT else number: inputs
+                           for number, inputs in WITNESSES['root'].items()}
 
 
 def witness(entry, number):

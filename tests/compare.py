@@ -10,9 +10,10 @@
 Exits with 0 when all answers agree, 1 when any answer differs, 2 when something
 could not be built or run or the oracle's own checks failed.  A sample of the
 accepted cases is also put through the soundness checks, of tests and jobs those
-with a scratch of 16; of the models that are made of series and of the chosen
-proposals, each as it was answered.  Each made proposal is put to the quotient
-test, and what that accepts is checked too.
+with a scratch of 16; of the models that are made of series, of the chosen
+proposals and of the tighter roots, each as it was answered.  Each made proposal is
+put to the quotient test, and what that accepts is checked too.  What is put to the
+tighter root test is put to the root test too.
 """
 
 import argparse
@@ -37,6 +38,7 @@ import scratch_cases
 import selection_cases
 import series_cases
 import soundness
+import tight_root_cases
 import unit_cases
 from area_cases import ANSWERS, ANY_LENGTH, AREAS, DOUBLES, MORE, WITNESSES, area_cases, sized, witness
 from examples_of_01 import check_examples
@@ -51,15 +53,17 @@ ENTRIES = list(AREAS)
 # Shares of the random cases.
 SHARE = {'add': 2, 'subtract': 2, 'multiply': 3, 'integrate': 3, 'evaluate': 3,
          'quotient': 4, 'root': 4, 'check': 5, 'from_series': 3, 'quotient_of_two': 3,
-         'make_reciprocal': 1, 'make_quotient': 1, 'to_units': 58}
+         'make_reciprocal': 1, 'make_quotient': 1, 'to_units': 60, 'tight_root': 4}
 BATCH = 2000
 SOUNDNESS_SAMPLE = 0.04
 SAMPLE_OF_16 = 0.25         # of the accepted cases that have a scratch, of 16 numbers
-ANSWERED = ('from_series', 'quotient_of_two')       # checked for soundness as the library answered, each of them
+ANSWERED = ('from_series', 'quotient_of_two', 'tight_root')     # checked for soundness as the library answered, each of them
 UNVOUCHED = tuple(proposal_cases.WRITTEN)           # nothing holds of what they answer but its bits
-WHOLE = 190000              # calls of the whole comparison; at least so many of them
+WHOLE = 210000              # calls of the whole comparison; at least so many of them
 TIED = 2000                 # are accepted where some near rounds a tie
 PAIRS, CHOSEN = 7000, 4000  # have two proposals; have one chosen and put to random fractions
+TIGHT, TIGHT_JOBS = 4000, 3000      # are tighter root tests on areas long enough; are jobs with 0x22
+SOUND_TIGHT, SOUND_TIGHT_JOBS = 2000, 100       # are such tests, such jobs checked for soundness
 SOUND_OF_16 = 50            # of each entry with a scratch are checked for soundness with one of 16
 MODELS, PATTERNS = 3000, 100000     # different ones are put to the makers; to the step to units, each alone
 ROUNDING = ('multiply', 'integrate', 'evaluate', 'from_series', 'check')        # the entries that use near
@@ -86,7 +90,7 @@ def oracle_answer(case):
     if entry == 'evaluate':
         number, low, high = o.evaluate(*inputs, case.scalar)
         return number, {'bounds': [low, high]}
-    if entry in ('quotient', 'root'):
+    if entry in ('quotient', 'root', 'tight_root'):
         number, result, *numbers = getattr(o, entry)(*inputs)
         return number, {'scratch': [0] * SCRATCH_SIZE, 'out': flat(result), 'numbers': numbers}
     if entry == 'quotient_of_two':
@@ -215,9 +219,9 @@ def perhaps_shortened(rng, case):
 def make_cases(entries, wanted, rng):
     """All fixed cases of the entries, then random ones up to the number wanted."""
     fixed = {**cases.FIXED, **certificate_cases.FIXED, **job_cases.FIXED, **series_cases.FIXED, **selection_cases.FIXED,
-             **proposal_cases.FIXED, **unit_cases.FIXED}
+             **proposal_cases.FIXED, **unit_cases.FIXED, **tight_root_cases.FIXED}
     drawn = {**cases.RANDOM, **certificate_cases.RANDOM, 'check': job_cases.RandomJobs(), **series_cases.RANDOM,
-             **selection_cases.RANDOM, **proposal_cases.RANDOM, **unit_cases.RANDOM}
+             **selection_cases.RANDOM, **proposal_cases.RANDOM, **unit_cases.RANDOM, **tight_root_cases.RANDOM}
     made = 0
     for entry in entries:
         for case in (*area_cases(entry), *scratch_cases.scratch_cases(entry), *group_cases(entry), *fixed[entry]()):
@@ -231,9 +235,12 @@ def make_cases(entries, wanted, rng):
 
 
 def with_tests(drawn, entries):
-    """Each case, and behind one that makes a proposal the quotient test of that."""
+    """Each case, behind one that makes a proposal the quotient test of that, and behind a tighter root test the root test of the
+    same candidates."""
     for case in drawn:
         yield case
+        if 'root' in entries and case.entry == 'tight_root' and not case.lengths:
+            yield case._replace(entry='root')
         if 'quotient' in entries and case.entry in proposal_cases.MAKERS and not case.lengths:
             yield from proposal_cases.tests_of(case)
 
@@ -259,15 +266,31 @@ def scratch_of(case, areas):
     return areas[scratch_cases.PLACES[case.entry]][1] if case.entry in scratch_cases.PLACES else None
 
 
+def answered_row(case, areas, answer, wanted=('out', 'answer')):
+    """The numbers of the first area of these kinds of an answer, and which it is."""
+    start, area = next(faults.places_of(case, areas, wanted))
+    code, size, what = AREAS[case.entry][area]
+    return array(code, answer[start:start + array(code).itemsize * size]), what
+
+
+def model_of(row):
+    return o.Model(row[0], tuple(row[1:PLACE_RADIUS]), row[PLACE_RADIUS])
+
+
 def answered_model(case, areas, answer):
     """The model in the area out of an answer; or the chosen proposal's h with the radius answered."""
-    start, area = next(faults.places_of(case, areas, ('out', 'answer')))
-    code, size, what = AREAS[case.entry][area]
-    row = array(code, answer[start:start + array(code).itemsize * size])
+    row, what = answered_row(case, areas, answer)
     if what == 'answer':
         chosen, radius = row
         row = [*case.inputs[1 + chosen][:CANDIDATE_SIZE], radius]
-    return o.Model(row[0], tuple(row[1:PLACE_RADIUS]), row[PLACE_RADIUS])
+    return model_of(row)
+
+
+def answered_job(case, areas, answer):
+    """Of a job's answer the command, and the models of the results."""
+    (count, command), _ = answered_row(case, areas, answer)
+    work, _ = answered_row(case, areas, answer, ('work',))
+    return command, [model_of(work[MODEL_SIZE * i:MODEL_SIZE * (i + 1)]) for i in range(count)]
 
 
 def check_ties(ties, total):
@@ -287,6 +310,22 @@ def check_pairs(pairs, chosen, entries, total):
     enough = drawn * WHOLE >= PAIRS * part and chosen * WHOLE >= CHOSEN * part
     assert set(entries) != set(ENTRIES) or enough, f'{drawn} pairs, {chosen} chosen proposals checked'
     return f'{selection_cases.counted(pairs)}; {chosen} chosen proposals checked for soundness'
+
+
+def check_tight_roots(tests, tight_jobs, sound, entries, total):
+    """The counts of tighter root tests and of jobs with 0x22, in words: each kind, enough in the whole comparison."""
+    whole, both = set(entries) == set(ENTRIES), {'root', 'tight_root'} <= set(entries)
+    for what, wanted, count, asked in (
+            ('tighter root tests', TIGHT, tests['tests'], whole), ('jobs with 0x22', TIGHT_JOBS, tight_jobs['jobs'], whole),
+            ('tighter root tests with 0x21 behind', TIGHT, tests['0x21 behind it'], both),
+            ('tighter roots checked for soundness', SOUND_TIGHT, sound, whole),
+            ('jobs with 0x22 checked for soundness', SOUND_TIGHT_JOBS, tight_jobs['checked for soundness'], whole)):
+        assert not asked or count * WHOLE >= wanted * min(total, WHOLE), f'{count} {what}'
+    if 'tight_root' in entries:
+        yield (f'tighter roots: {tight_root_cases.counted(tests)}; with the root test of the same candidates behind it: '
+               f'{tests["0x21 behind it"]}; checked for soundness: {sound}')
+    if 'check' in entries:
+        yield f'tighter roots in jobs: {tight_root_cases.counted_jobs(tight_jobs)}'
 
 
 def check_scratches(scratches, sound, entries, total):
@@ -354,17 +393,18 @@ def main():
     selection_cases.check_selection()
     proposal_cases.check_makers()
     unit_cases.check_units()
+    tight_root_cases.check_tight()
 
     rng, sound_rng = Random(options.seed), Random(options.seed)
     began = time.perf_counter()
     oracle_time, differences, planted = 0.0, 0, False
-    pairs, made, units, sound, sound_of_16 = (Counter() for _ in range(5))
+    pairs, made, units, sound, sound_of_16, tight, tight_jobs = (Counter() for _ in range(7))
     scratches = {entry: Counter() for entry in entries if entry in scratch_cases.PLACES}
     counts, ties = ({entry: Counter() for entry in entries} for _ in range(2))
     with tempfile.TemporaryDirectory() as folder:
         program = build_harness(folder, entries, options.library, options.plain,
                                 options.link.split())
-        batch = []
+        batch, previous = [], None
 
         def judge():
             nonlocal differences, planted
@@ -403,12 +443,21 @@ def main():
                 made.update(proposal_cases.kinds(case, lengths, number))
             if case.entry == 'to_units' and number != SHORT_AREA:
                 units.update(unit_cases.kinds(case, number))
+            if case.entry == 'tight_root':
+                tight.update(tight_root_cases.kinds(case, lengths, number))
+            tight['0x21 behind it'] += case.entry == 'root' and previous == case._replace(entry='tight_root')
+            previous = case
+            of_job = []
+            if case.entry == 'check' and number != SHORT_AREA:
+                of_job = tight_root_cases.job_kinds(*case.inputs, number, *answered_job(case, areas, expected))
+                tight_jobs.update(of_job)
             batch.append((case, areas, number, expected))
             share = {None: SOUNDNESS_SAMPLE, SCRATCH_SIZE: SAMPLE_OF_16}.get(scratch_of(case, areas), 0)
             if number == 0 and case.entry not in (*ANSWERED, *UNVOUCHED) and (sound_rng.random() < share or case.made):
                 soundness.check(sound_rng, case)
                 sound[case.entry] += 1
                 sound_of_16[case.entry] += scratch_of(case, areas) == SCRATCH_SIZE
+                tight_jobs['checked for soundness'] += 'jobs' in of_job
             if len(batch) == BATCH:
                 judge()
         judge()
@@ -422,7 +471,8 @@ def main():
         print('pairs of proposals:', check_pairs(pairs, sound['quotient_of_two'], entries, total))
     if scratches:
         print('scratches:', check_scratches(scratches, sound_of_16, entries, total))
-    for text in check_proposals(made, units, entries, total):
+    for text in (*check_proposals(made, units, entries, total),
+                 *check_tight_roots(tight, tight_jobs, sound['tight_root'], entries, total)):
         print(text)
     print(f'{total} cases, {differences} differences, {time.perf_counter() - began:.1f} s '
           f'(oracle {oracle_time:.1f} s), '

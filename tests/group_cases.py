@@ -1,6 +1,6 @@
 """Cases for a list C that is formed in groups of 16 places, document 02's S-17: where C ends and where f does, each place of C as
 the only one that counts, and the constant of m beside places 16, 32, 48 and 64.  Each is tested by itself, in a job and as both of
-two proposals."""
+two proposals; each root by both tests."""
 
 from collections import Counter
 
@@ -15,6 +15,7 @@ from selection_cases import proposal
 GROUP = 16
 SUMS = (14, 15, 16, 17, 31, 32, 33, 47, 48, 49, 63, 64)     # of two degrees: the last place of C
 F_ENDS = (15, 16, 31, 32)                                   # the last place of f, behind C's
+ROOTS = ('root', 'tight_root')
 ZERO, ONE, TWO, QUARTER = constant(0), constant(S), constant(2 * S), constant(S // 4)
 
 
@@ -52,7 +53,7 @@ def lists(case):
 
 
 def on_border(case):
-    """f with the radius that makes N 2^28, and one more: 3 or 8, and 6, which each place of the list decides."""
+    """f with the radius that makes N 2^28, and one more: 3, 8 or 17, and 6, which each place of the list decides."""
     f, *rest = case.inputs
     edge = LIMIT - o.up(o.weight(lists(case)[1]), 2 * S)
     for radius in (edge, edge + 1):
@@ -142,20 +143,28 @@ def constants():
                     terms((0, S // 2), (GROUP, -x // 2), (2 * GROUP, -x // 2)))
 
 
+def by_both(cases):
+    """Behind each root test the tighter one of the same candidates."""
+    for case in cases:
+        yield case
+        if case.entry == 'root':
+            yield case._replace(entry='tight_root')
+
+
 def tests():
-    yield from (*ends(), *longer(), *beside_others(), *constants())
+    yield from by_both((*ends(), *longer(), *beside_others(), *constants()))
     for k in range(PRODUCT_SIZE):
-        yield from (*alone_in_m(k), *alone_in_n(k))
+        yield from by_both((*alone_in_m(k), *alone_in_n(k)))
 
 
 def in_job(case):
     f, *divisor, h, w = case.inputs
-    command = jobs.quotient(0, 1, h, w) if divisor else jobs.root(0, h, w)
+    command = jobs.quotient(0, 1, h, w) if divisor else getattr(jobs, case.entry)(0, h, w)
     return Case('check', (jobs.EDITION_1 + b''.join(map(jobs.load, (f, *divisor))) + command + jobs.END,))
 
 
 def group_cases(entry):
-    if entry in ('quotient', 'root'):
+    if entry in ('quotient', *ROOTS):
         yield from (case for case in tests() if case.entry == entry)
     elif entry == 'check':
         yield from map(in_job, tests())
@@ -186,16 +195,16 @@ def check_cases():
     found = Counter()
     for k in range(PRODUCT_SIZE):
         for which, cases in enumerate((alone_in_m(k), alone_in_n(k))):
-            for case in cases:
+            for case in by_both(cases):
                 places = [place for place, c in enumerate(lists(case)[which]) if c]
                 assert places == [k] and answer(case) != answer(case, k), (k, case)
                 found[case.entry, 'mN'[which], k] += 1
-    for case in ends():
+    for case in by_both(ends()):
         f, *divisor, h, w = case.inputs
         g = divisor[0] if divisor else h
         for letter, a, b in (('m', w, g), ('N', g, h)):
             found[case.entry, f'C of {letter} ends at', last_place(o.product_list(a.coefficients, b.coefficients))] += 1
-    for case in longer():
+    for case in by_both(longer()):
         f, *divisor, h, w = case.inputs
         end = last_place(o.product_list((divisor or [h])[0].coefficients, h.coefficients))
         assert last_place(f.coefficients) > end
@@ -205,11 +214,12 @@ def check_cases():
     even = [total for total in SUMS if total % 2 == 0]
     missing = [key for key in (
         *(('quotient', letter, k) for letter in 'mN' for k in range(PRODUCT_SIZE)),
-        *(('root', 'm', k) for k in range(PRODUCT_SIZE)),
-        *(('root', 'N', k) for k in range(PRODUCT_SIZE) if k <= MAX_DEGREE or k % 2 == 0),
+        *((root, 'm', k) for root in ROOTS for k in range(PRODUCT_SIZE)),
+        *((root, 'N', k) for root in ROOTS for k in range(PRODUCT_SIZE) if k <= MAX_DEGREE or k % 2 == 0),
         *(('quotient', f'C of {letter} ends at', total) for letter in 'mN' for total in SUMS),
-        *(('root', 'C of m ends at', total) for total in SUMS), *(('root', 'C of N ends at', total) for total in even),
-        *((entry, 'f ends at', last) for entry in ('quotient', 'root') for last in F_ENDS)) if not found[key]]
+        *((root, 'C of m ends at', total) for root in ROOTS for total in SUMS),
+        *((root, 'C of N ends at', total) for root in ROOTS for total in even),
+        *((entry, 'f ends at', last) for entry in ('quotient', *ROOTS) for last in F_ENDS)) if not found[key]]
     assert not missing, missing
     entries = Counter(case.entry for case in tests())
     numbers = Counter((case.entry, answer(case)[0]) for case in tests())

@@ -30,6 +30,9 @@ uint32_t ENTRY(quotient)(const int32_t *, size_t, const int32_t *, size_t,
 uint32_t ENTRY(root)(const int32_t *, size_t, const int32_t *, size_t,
                      const int32_t *, size_t,
                      int64_t *, size_t, int32_t *, size_t, uint64_t *, size_t);
+uint32_t ENTRY(tight_root)(const int32_t *, size_t, const int32_t *, size_t,
+                           const int32_t *, size_t,
+                           int64_t *, size_t, int32_t *, size_t, uint64_t *, size_t);
 uint32_t ENTRY(check)(const uint8_t *, size_t, int32_t *, size_t, int64_t *, size_t,
                       uint32_t *, size_t);
 uint32_t ENTRY(from_series)(const int32_t *, size_t, int32_t *, size_t);
@@ -127,6 +130,9 @@ static uint32_t call(int entry, struct area *x, uint32_t scalar)
 #endif
 #ifdef WITH_TO_UNITS
     case 12: return ENTRY(to_units)(AREA(0), AREA(1));
+#endif
+#ifdef WITH_TIGHT_ROOT
+    case 13: return ENTRY(tight_root)(AREA(0), AREA(1), AREA(2), AREA(3), AREA(4), AREA(5));
 #endif
     default: fail("an entry that was not compiled in");
     }

@@ -1,6 +1,6 @@
 /* What the header promises of null pointers, of areas that are too short, of scratches longer
-   than needed, of inputs that are the same area, of series, of two proposals, of made ones, and of
-   areas that need no alignment beyond their type's.
+   than needed, of inputs that are the same area, of series, of the tighter root test, of two
+   proposals, of made ones, and of areas that need no alignment beyond their type's.
    Exit status 0 when all holds. */
 #include "ferruntzo.h"
 
@@ -19,7 +19,7 @@ static int failures;
 
 #define S FERRUNTZO_S
 
-static int32_t one[FERRUNTZO_MODEL_SIZE] = {0, S};
+static int32_t one[FERRUNTZO_MODEL_SIZE] = {0, S}, half[FERRUNTZO_MODEL_SIZE] = {0, S / 2};
 static int32_t curve[FERRUNTZO_SERIES_SIZE] = {2, S, 0, 2 * S};      /* 1 + 2 x^2 */
 static int32_t out[FERRUNTZO_MODEL_SIZE], work[FERRUNTZO_WORK_SIZE];
 static int64_t scratch[FERRUNTZO_SCRATCH_SIZE], bounds[FERRUNTZO_BOUNDS_SIZE];
@@ -63,6 +63,9 @@ static void null_pointers(void)
                                      WHOLE(selected)) == FERRUNTZO_ACCEPTED);
     EXPECT(selected[0] == FERRUNTZO_CHOSEN_SECOND && selected[1] == 0);
     EXPECT(ferruntzo_root(NONE, NONE, NONE, NONE, NONE, NONE) == FERRUNTZO_SHORT_AREA);
+    EXPECT(ferruntzo_tight_root(NONE, NONE, NONE, NONE, NONE, NONE) == FERRUNTZO_SHORT_AREA);
+    EXPECT(ferruntzo_tight_root(WHOLE(one), CANDIDATE(one), CANDIDATE(one), NONE, WHOLE(out), WHOLE(numbers))
+           == FERRUNTZO_SHORT_AREA);
     EXPECT(ferruntzo_make_reciprocal(NONE, NONE, NONE, NONE) == FERRUNTZO_SHORT_AREA);
     EXPECT(ferruntzo_make_reciprocal(WHOLE(one), NONE, WHOLE(w), WHOLE(outcome)) == FERRUNTZO_SHORT_AREA);
     EXPECT(ferruntzo_make_quotient(NONE, NONE, NONE, NONE, NONE, NONE) == FERRUNTZO_SHORT_AREA);
@@ -99,6 +102,11 @@ static void short_areas(void)
     EXPECT(ferruntzo_root(WHOLE(one), CANDIDATE(one), CANDIDATE(one), WHOLE(scratch), SHORT(out),
                           WHOLE(numbers)) == FERRUNTZO_SHORT_AREA);
     EXPECT(scratch[FERRUNTZO_SCRATCH_SIZE - 1] == 0 && numbers[2] == 0 && out[1] == 7);
+    scratch[FERRUNTZO_SCRATCH_SIZE - 1] = 7;
+    numbers[2] = 7;
+    EXPECT(ferruntzo_tight_root(WHOLE(one), CANDIDATE(one), CANDIDATE(one), WHOLE(scratch), WHOLE(out),
+                                SHORT(numbers)) == FERRUNTZO_SHORT_AREA);
+    EXPECT(scratch[FERRUNTZO_SCRATCH_SIZE - 1] == 0 && numbers[2] == 7 && out[1] == 0);
     work[0] = 7;
     scratch[0] = 7;
     EXPECT(ferruntzo_check(NONE, WHOLE(work), SHORT(scratch), WHOLE(answer)) == FERRUNTZO_SHORT_AREA);
@@ -130,6 +138,9 @@ static void scratches(void)
         EXPECT(ferruntzo_root(WHOLE(one), CANDIDATE(one), CANDIDATE(one), held, length, WHOLE(out),
                               WHOLE(numbers)) == (fits ? FERRUNTZO_NOT_CONTRACTING : FERRUNTZO_SHORT_AREA));
         EXPECT(cleared(WHOLE(held), zeros));
+        EXPECT(ferruntzo_tight_root(WHOLE(one), CANDIDATE(one), CANDIDATE(half), held, length, WHOLE(out),
+                                    WHOLE(numbers)) == (fits ? 0 : FERRUNTZO_SHORT_AREA));
+        EXPECT(out[1] == (fits ? S : 0) && cleared(WHOLE(held), zeros));
         EXPECT(ferruntzo_quotient_of_two(WHOLE(one), WHOLE(one), WHOLE(rough), WHOLE(exact), held, length,
                                          WHOLE(selected)) == (fits ? 0 : FERRUNTZO_SHORT_AREA));
         EXPECT(selected[0] == (fits ? FERRUNTZO_CHOSEN_SECOND : FERRUNTZO_CHOSEN_NONE));
@@ -150,6 +161,38 @@ static void same_inputs(void)
     EXPECT(ferruntzo_quotient(WHOLE(one), WHOLE(one), CANDIDATE(one), CANDIDATE(one), WHOLE(scratch),
                               WHOLE(out), WHOLE(numbers)) == 0);
     EXPECT(out[1] == S && out[FERRUNTZO_PLACE_RADIUS] == 0 && numbers[0] == 0 && numbers[1] == 0);
+}
+
+/* What the tighter root test answers for constants: the radius, or minus the refusal. */
+static int32_t tighter(int32_t f, int32_t e, int32_t h, int32_t w)
+{
+    int32_t under[FERRUNTZO_MODEL_SIZE] = {0, f, [FERRUNTZO_PLACE_RADIUS] = e};
+    int32_t candidate[FERRUNTZO_CANDIDATE_SIZE] = {0, h}, helper[FERRUNTZO_CANDIDATE_SIZE] = {0, w};
+    uint32_t number = ferruntzo_tight_root(WHOLE(under), WHOLE(candidate), WHOLE(helper), WHOLE(scratch), WHOLE(out),
+                                           WHOLE(numbers));
+    EXPECT(out[1] == (number == 0 ? h : 0) && scratch[0] == 0);
+    return number == 0 ? out[FERRUNTZO_PLACE_RADIUS] : -(int32_t)number;
+}
+
+/* The least radius: 0, a small one, that behind the last which the search looks at, S; and none, each refusal. */
+static void tighter_roots(void)
+{
+    const int32_t most = FERRUNTZO_MAX_WEIGHT;
+    EXPECT(tighter(4 * S, 0, 2 * S, S / 4) == 0);
+    EXPECT(tighter(4 * S, 0, 2 * S + 100, S / 4) == 102);
+    EXPECT(tighter(15783, 0, 133844, 5908123) == 26129);
+    EXPECT(numbers[0] == 459693 && numbers[1] == 1302 && numbers[2] == 7337);
+    EXPECT(tighter(6366, 3182, 81708, 716408) == 40854);
+    EXPECT(tighter(6553600, 3 * S, 5 * S / 2, 1) == S);
+    EXPECT(tighter(6553600, 3 * S + 1, 5 * S / 2, 1) == -FERRUNTZO_NO_RADIUS);
+    EXPECT(tighter(4, 1 << 16, 2048, most) == -FERRUNTZO_NO_RADIUS);
+    EXPECT(tighter(224 * S, 0, 16 * S, S / 32) == -FERRUNTZO_NO_RADIUS && numbers[2] == 0);
+    EXPECT(tighter(4 * S, -1, 2 * S, S / 4) == -FERRUNTZO_BAD_MODEL);
+    EXPECT(tighter(4 * S, 0, -2 * S, -S / 4) == -FERRUNTZO_HELPER_NOT_POSITIVE);
+    EXPECT(tighter(4 * S, 0, 2 * S, S) == -FERRUNTZO_NOT_CONTRACTING);
+    EXPECT(tighter(-most, 0, 2 * S, S / 4) == -FERRUNTZO_LARGE_RESIDUAL);
+    EXPECT(ferruntzo_tight_root(WHOLE(one), CANDIDATE(one), CANDIDATE(half), WHOLE(scratch), WHOLE(out), WHOLE(numbers)) == 0);
+    EXPECT(out[1] == S && out[FERRUNTZO_PLACE_RADIUS] == 0);
 }
 
 /* A series: accepted, 14 by each of its grounds, 3 by rounding alone. */
@@ -366,6 +409,9 @@ static void alignment(void)
         EXPECT(ferruntzo_root(a, size, CANDIDATE(a), CANDIDATE(out), wide + shift,
                               FERRUNTZO_SCRATCH_SIZE, b, size, WHOLE(numbers))
                != FERRUNTZO_SHORT_AREA);
+        EXPECT(ferruntzo_tight_root(a, size, CANDIDATE(a), CANDIDATE(half), wide + shift, FERRUNTZO_SCRATCH_SIZE, b, size,
+                                    WHOLE(numbers)) == 0);
+        EXPECT(b[1] == S && b[FERRUNTZO_PLACE_RADIUS] == 0);
         memcpy(pair + shift, exact, sizeof exact);
         EXPECT(ferruntzo_quotient_of_two(a, size, a, size, WHOLE(rough), pair + shift, COUNT(exact),
                                          wide + shift, FERRUNTZO_SCRATCH_SIZE, given + shift,
@@ -384,6 +430,7 @@ int main(void)
     short_areas();
     scratches();
     same_inputs();
+    tighter_roots();
     power_series();
     two_proposals();
     made_reciprocals();

@@ -5,6 +5,7 @@ from random import Random
 
 import jobs
 import oracle as o
+import tight_root_cases
 from candidates import clipped
 from cases import BORDER_MODELS, LOWEST, ODD, Case, random_model, spoiled
 from examples_of_01 import example_job
@@ -51,6 +52,7 @@ def faulty_commands(count):
         yield jobs.root(name, BAD, BAD)
         yield jobs.root(name, TWO, constant(-1))                        # 12 before 7
         yield jobs.root(name, TWO, QUARTER)[:-1]                        # 10 before 12
+        yield jobs.tight_root(name, TWO, QUARTER)
     for m, _ in BORDER_MODELS:                                          # 2, or good
         if 0 <= m.degree <= 255:
             candidate = m._replace(radius=0)
@@ -67,8 +69,9 @@ def faulty_commands(count):
     yield jobs.root(0, constant(0), constant(1))                        # 5
     yield jobs.root(0, constant(LIMIT), constant(LIMIT))                # 5 before 6
     yield jobs.root(0, constant(LIMIT), constant((1 << 39) // LIMIT))   # 6
-    yield jobs.root(0, constant(4 * S), constant(S // 8))               # 8
-    yield jobs.root(0, constant(1 << 11), constant(LIMIT))
+    for root in (jobs.root, jobs.tight_root):
+        yield root(0, constant(4 * S), constant(S // 8))                # 8 or 17
+        yield root(0, constant(1 << 11), constant(LIMIT))
     yield jobs.quotient(0, 0, constant(S), constant(0))                 # 5
     yield jobs.quotient(0, 0, constant(LIMIT), constant(0))             # 5 before 6
     yield jobs.quotient(0, 0, constant(LIMIT), QUARTER)                 # 6
@@ -110,6 +113,7 @@ def fixed_check():
     mixed.multiply(1, 1, 2)
     mixed.root(2, 8)
     mixed.quotient(0, 3, 8)
+    mixed.tight_root(2, 8)
     mixed.subtract(4, 0)
     for job in (example, mixed.job()):              # cut at every byte, and longer
         for length in range(len(job)):
@@ -160,6 +164,7 @@ def fixed_check():
         pass
     yield case(work.job())
     yield case(work.prefix() + jobs.root(0, TWO, QUARTER) + END)
+    yield from map(case, tight_root_cases.fixed_jobs())
 
 
 # ---- Random cases ---------------------------------------------------------------------
@@ -207,6 +212,7 @@ def faulty(rng, builder):
         jobs.add(name, other), jobs.subtract(other, name),
         jobs.multiply(name, other, rng.randrange(256)), jobs.quotient(name, other, h, w),
         jobs.quotient(other, name, TWO, w), jobs.root(name, h, w), jobs.root(name, TWO, w),
+        jobs.tight_root(name, h, w), jobs.tight_root(name, TWO, w),
         jobs.load(h._replace(radius=rng.choice((*UNSET_RADIUS, 0)))),
         jobs.load(constant(LOWEST)), bytes([rng.randrange(256)]), EDITION_1, END,
         jobs.load(constant(LIMIT)) + jobs.add(count, count),
@@ -220,7 +226,7 @@ def tampered(rng, builder):
     """One test's candidate or helper altered so that it no longer fits: all
     else in the job is as it was."""
     commands = list(builder.commands)
-    tests = [i for i, c in enumerate(commands) if c[0] in (o.QUOTIENT, o.ROOT)]
+    tests = [i for i, c in enumerate(commands) if c[0] in o.TESTS]
     if not tests:
         return faulty(rng, builder)
     i = rng.choice(tests)
@@ -248,11 +254,14 @@ class RandomJobs:
     def __call__(self, rng):
         kind = rng.random()
         if kind < 0.35 or len(self.kept) < 5:
-            builder = (tied_builder if rng.random() < 0.3 else random_builder)(rng)
+            draw, = rng.choices((tied_builder, random_builder, tight_root_cases.tight_builder), (3, 5, 2))
+            builder = draw(rng)
             self.kept = (self.kept + [builder])[-40:]
             return case(builder.job())
         builder = rng.choice(self.kept)
-        if kind < 0.52:
+        if kind < 0.4:
+            return case(tight_root_cases.random_job(rng))
+        if kind < 0.53:
             return case(mutated(rng, builder.job()))
         if kind < 0.65:
             return case(mutated_command_bytes(rng, builder))

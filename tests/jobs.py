@@ -42,6 +42,21 @@ def root(i, h, w):
     return bytes([o.ROOT, i]) + block(h) + block(w)
 
 
+def tight_root(i, h, w):
+    return bytes([o.TIGHT_ROOT, i]) + block(h) + block(w)
+
+
+def read_commands(job):
+    """Byte and operands of each command; the last may be unknown or cut off."""
+    position = 0
+    while position < len(job):
+        width = o.OPERAND_WIDTH.get(job[position], 0)
+        yield job[position], job[position + 1:position + 1 + width]
+        if job[position] not in o.OPERAND_WIDTH:
+            return
+        position += 1 + width
+
+
 class Builder:
     """A job so far: its commands as separate bytes, and the results' models."""
 
@@ -77,12 +92,18 @@ class Builder:
             return False
         return self._keep(quotient(i, j, *found), *o.quotient(f, g, *found)[:2])
 
-    def root(self, i, degree=MAX_DEGREE, found=None):
+    def _root(self, command, test, i, degree, found):
         f = self.results[i]
         found = found or root_candidates(f, degree)
         if found is None:
             return False
-        return self._keep(root(i, *found), *o.root(f, *found)[:2])
+        return self._keep(command(i, *found), *test(f, *found)[:2])
+
+    def root(self, i, degree=MAX_DEGREE, found=None):
+        return self._root(root, o.root, i, degree, found)
+
+    def tight_root(self, i, degree=MAX_DEGREE, found=None):
+        return self._root(tight_root, o.tight_root, i, degree, found)
 
     def job(self):
         return b''.join(self.commands) + END
@@ -110,16 +131,17 @@ def grow(rng, builder, wanted):
             builder.load(curve_model(rng) if rng.random() < 0.9 else random_model(rng))
             continue
         i, j = rng.randrange(count), rng.randrange(count)
-        if kind < 0.4:
+        if kind < 0.38:
             builder.add(i, j)
-        elif kind < 0.55:
+        elif kind < 0.5:
             builder.subtract(i, j)
-        elif kind < 0.75:
+        elif kind < 0.68:
             builder.multiply(i, j, rng.choice((DEFAULT_KEPT, MAX_DEGREE, rng.randint(0, MAX_DEGREE))))
-        elif kind < 0.88:
+        elif kind < 0.8:
             builder.quotient(i, j, rng.choice((MAX_DEGREE, 24, random_degree(rng))))
         else:
-            builder.root(i, rng.choice((MAX_DEGREE, 24, random_degree(rng))))
+            one = rng.choice((builder.root, builder.tight_root, builder.tight_root))
+            one(i, rng.choice((MAX_DEGREE, 24, random_degree(rng))))
 
 
 def random_builder(rng, wanted=None):

@@ -34,6 +34,7 @@ from header import (BLOCK_BYTES, COEFFICIENTS, HELPER_NOT_POSITIVE, MAX_RESULTS,
                     SHORT_AREA)
 from oracle import model
 from slips import NEAR, TIES_DOWN, TIES_UP, spoiled_plain
+from soundness import ROOTS
 
 SAME, NEGATED = (1,) * COEFFICIENTS, (-1,) * COEFFICIENTS
 MIRRORED = tuple((-1) ** k for k in range(COEFFICIENTS))
@@ -49,7 +50,7 @@ KINDS = {
 }
 SIGNED_JOB, MIRRORED_JOB = 'job, signs of its loads', 'job, mirrored'
 ENTRY = {**{kind: entry for kind, (entry, _, _) in KINDS.items()}, SIGNED_JOB: 'check', MIRRORED_JOB: 'check'}
-BLOCKS = {o.LOAD: 1, o.QUOTIENT: 2, o.ROOT: 2}
+BLOCKS = {o.LOAD: 1, o.QUOTIENT: 2, o.ROOT: 2, o.TIGHT_ROOT: 2}
 # Of each kind at least: pairs, accepted ones, pairs that a wrong rule of ties shows in.
 PAIRS, ACCEPTED, SHOWN = 600, 300, 50
 ANSWER_AREAS = ('out', 'bounds', 'work', 'answer')
@@ -77,15 +78,14 @@ def times(m, signs):
 
 # ---- Twins of jobs --------------------------------------------------------------------
 
-def read_commands(job):
+def job_parts(job):
     """The bytes of the edition; the commands that make a result, as far as they are whole and name results that are there; the
     bytes behind."""
     commands, position = [], len(jobs.EDITION_1)
-    while job.startswith(jobs.EDITION_1) and position < len(job) and job[position] in o.RESULT_BYTES:
-        byte = job[position]
-        operands = job[position + 1:position + 1 + o.OPERAND_WIDTH[byte]]
-        names = operands[:o.RESULT_BYTES[byte]]
-        if len(operands) < o.OPERAND_WIDTH[byte] or any(name >= len(commands) for name in names):
+    for byte, operands in list(jobs.read_commands(job))[1:] if job.startswith(jobs.EDITION_1) else ():
+        names = operands[:o.RESULT_BYTES.get(byte, 0)]
+        if (byte not in o.RESULT_BYTES or len(operands) < o.OPERAND_WIDTH[byte]
+                or any(name >= len(commands) for name in names)):
             break
         commands.append((byte, operands))
         position += 1 + len(operands)
@@ -127,7 +127,7 @@ def load_signs(rng, commands):
         named = [masks[name] for name in operands[:o.RESULT_BYTES[byte]]]
         if byte == o.LOAD:
             mask, loads = 1 << loads, loads + 1
-        elif byte == o.ROOT:
+        elif byte in ROOTS:
             mask = 0
             equal.append(named[0])
         else:
@@ -141,7 +141,7 @@ def load_signs(rng, commands):
 
 def job_counterparts(rng, case):
     """The job with some loads negated, and the job with the odd coefficients of all its blocks negated."""
-    edition, commands, rest = read_commands(*case.inputs)
+    edition, commands, rest = job_parts(*case.inputs)
     results = [NEGATED if negated else SAME for negated in load_signs(rng, commands)]
     # h has its result's sign, w that of the divisor; below a root all signs are plus.
     blocks = [(sign, results[operands[1]] if byte == o.QUOTIENT else sign)
@@ -180,7 +180,8 @@ def drawn_cases(rng, wanted):
         yield job_cases.case(jobs.tied_builder(rng).job())
     # Every refusal behind a load that no command before it names: its sign is free, and it is not its own mirror.
     head = jobs.EDITION_1 + jobs.load(FOUR) + jobs.load(CURVE)
-    for command in (*job_cases.faulty_commands(2), *(jobs.root(0, FOUR, model([0, w])) for w in (S, -S))):
+    signs = [root(0, FOUR, model([0, w])) for root in (jobs.root, jobs.tight_root) for w in (S, -S)]
+    for command in (*job_cases.faulty_commands(2), *signs):
         yield job_cases.case(head + command + jobs.END)
 
 

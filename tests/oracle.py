@@ -4,15 +4,16 @@ Every answer is formed with Python's unbounded whole numbers.  Products and
 primitives are formed in the power basis (1, x, x^2, ...) and converted back;
 neither the pair walk nor the primitive rule of the product is used to get
 them.  Power series (document 02, S-3) are expanded by binomials, not by the
-rule of the product's table.  Only the rounding is taken over from document 01 as it stands there,
-with the ties of document 02 (S-11).
+rule of the product's table.  The least radius of the tighter root test (S-22) comes
+from a whole square root, not from a search.  Only the rounding is taken over from
+document 01 as it stands there, with the ties of document 02 (S-11).
 Areas, and refusal 1 for a short one, are compare.py's; a short proposal (S-14) is tested here.
 
 Run as a program it checks the examples P1 to P11.
 """
 
 from functools import lru_cache
-from math import comb, lcm
+from math import comb, isqrt, lcm
 from operator import mul
 from typing import NamedTuple
 
@@ -20,7 +21,7 @@ from header import (
     BAD_MODEL, BAD_SERIES, BAD_VALUE, BLOCK_BYTES, BYTES_AFTER_END, CANDIDATE_SIZE, CHOSEN_FIRST,
     CHOSEN_NONE, CHOSEN_SECOND, COEFFICIENTS, DEFAULT_KEPT,
     HELPER_NOT_POSITIVE, JOB_ENDS, LARGE_RESIDUAL, LARGE_RESULT, MAX_DEGREE, MAX_RESULTS,
-    MAX_WEIGHT, NEGATIVE_DISCRIMINANT, NOT_A_RESULT, NOT_CONTRACTING, POINT_OUTSIDE,
+    MAX_WEIGHT, NEGATIVE_DISCRIMINANT, NO_RADIUS, NOT_A_RESULT, NOT_CONTRACTING, POINT_OUTSIDE,
     PROGRAM_JOB_BYTES, PROPOSAL_SIZE, S, SHORT_AREA, TOO_MANY_RESULTS)
 
 LIMIT = MAX_WEIGHT          # MAX_RADIUS and MAX_RESIDUAL too
@@ -295,7 +296,7 @@ def from_series(s):
     return finished(s.degree, row, up(error, 1 << SCALE))
 
 
-# ---- The two tests ------------------------------------------------------------
+# ---- The tests ------------------------------------------------------------
 
 def _refused_test(number):
     return number, ZERO_MODEL, 0, 0, 0
@@ -328,28 +329,76 @@ def quotient(f, g, h, w):
     return 0, Model(h.degree, h.coefficients, radius), m, n, b
 
 
-def root(f, h, w):
-    """Number, model, m, N, b."""
+def root_numbers(f, h, w):
+    """What both root tests share: number, and M, m, N, b if it is 0."""
     if not (good(f) and good(h) and good(w)):
-        return _refused_test(BAD_MODEL)
+        return BAD_MODEL, None
     if sum(w.coefficients) <= 0:
-        return _refused_test(HELPER_NOT_POSITIVE)
+        return HELPER_NOT_POSITIVE, None
     big_m = weight(w.coefficients)
     off = _difference(product_list(w.coefficients, h.coefficients), (S * S,), 1)
     m = up(weight(off), S)
     if m >= S:
-        return _refused_test(NOT_CONTRACTING)
+        return NOT_CONTRACTING, None
     residual = _difference(product_list(h.coefficients, h.coefficients),
                            f.coefficients, 2 * S)
     n = up(weight(residual) + 2 * S * f.radius, 2 * S)
     if n > LIMIT:
-        return _refused_test(LARGE_RESIDUAL)
-    b = up(big_m * n, S)
-    if (S - m) ** 2 < 8 * b * big_m:
-        return _refused_test(NEGATIVE_DISCRIMINANT)
-    radius = up(2 * b * S, S - m)
-    assert radius <= 1 << 27, "document 01: at or below 2^27"
+        return LARGE_RESIDUAL, None
+    return 0, (big_m, m, n, up(big_m * n, S))
+
+
+def root_radius(big_m, m, b):
+    """The radius of 0x21, or None."""
+    return None if (S - m) ** 2 < 8 * b * big_m else up(2 * b * S, S - m)
+
+
+def satisfies(big_m, m, b, r, unit=S):
+    """The inequality of the tighter root test, with S = unit."""
+    return 2 * big_m * r * r + b * unit * unit <= (unit - m) * unit * r
+
+
+def first_at_most(square, constant_part, c, top):
+    """The least whole r from 0 to top with square r^2 + constant_part <= c r, or None;
+    square and c above 0, constant_part not below.  r satisfies exactly if |2 square r - c|
+    is at most the root of c^2 - 4 square constant_part; being whole, at most that root
+    rounded down."""
+    under = c * c - 4 * square * constant_part
+    if under < 0:
+        return None
+    reach = isqrt(under)
+    r = up(c - reach, 2 * square)
+    return r if r <= top and 2 * square * r - c <= reach else None
+
+
+def least_radius(big_m, m, b, unit=S):
+    """The least whole r from 0 to S that satisfies, with S = unit, or None."""
+    return first_at_most(2 * big_m, b * unit * unit, (unit - m) * unit, unit)
+
+
+def _root_test(f, h, w, refusal, radius_of):
+    number, numbers = root_numbers(f, h, w)
+    if number:
+        return _refused_test(number)
+    big_m, m, n, b = numbers
+    radius = radius_of(big_m, m, b)
+    if radius is None:
+        return _refused_test(refusal)
     return 0, Model(h.degree, h.coefficients, radius), m, n, b
+
+
+def root(f, h, w):
+    """Number, model, m, N, b."""
+    tested = _root_test(f, h, w, NEGATIVE_DISCRIMINANT, root_radius)
+    assert tested[1].radius <= 1 << 27, "document 01: at or below 2^27"
+    return tested
+
+
+def tight_root(f, h, w):
+    """Number, model, m, N, b."""
+    tested = _root_test(f, h, w, NO_RADIUS, least_radius)
+    assert tested[1].radius <= S, "document 02, S-22: at or below S"
+    return tested
 
 
 # ---- Two proposals for one quotient (document 02, S-14) -----------------------------
@@ -377,11 +426,13 @@ def quotient_of_two(f, g, first, second):
 
 # ---- Jobs -----------------------------------------------------------------------
 
-END, EDITION, LOAD, ADD, SUBTRACT, MULTIPLY, QUOTIENT, ROOT = (
-    0x00, 0x01, 0x10, 0x11, 0x12, 0x13, 0x20, 0x21)
+END, EDITION, LOAD, ADD, SUBTRACT, MULTIPLY, QUOTIENT, ROOT, TIGHT_ROOT = (
+    0x00, 0x01, 0x10, 0x11, 0x12, 0x13, 0x20, 0x21, 0x22)
 OPERAND_WIDTH = {END: 0, EDITION: 1, LOAD: BLOCK_BYTES + 4, ADD: 2, SUBTRACT: 2,
-                 MULTIPLY: 3, QUOTIENT: 2 + 2 * BLOCK_BYTES, ROOT: 1 + 2 * BLOCK_BYTES}
-RESULT_BYTES = {LOAD: 0, ADD: 2, SUBTRACT: 2, MULTIPLY: 2, QUOTIENT: 2, ROOT: 1}
+                 MULTIPLY: 3, QUOTIENT: 2 + 2 * BLOCK_BYTES, ROOT: 1 + 2 * BLOCK_BYTES,
+                 TIGHT_ROOT: 1 + 2 * BLOCK_BYTES}
+RESULT_BYTES = {LOAD: 0, ADD: 2, SUBTRACT: 2, MULTIPLY: 2, QUOTIENT: 2, ROOT: 1, TIGHT_ROOT: 1}
+TESTS = {QUOTIENT: quotient, ROOT: root, TIGHT_ROOT: tight_root}
 
 
 def read_block(data, start, radius=0):
@@ -404,8 +455,7 @@ def _operation(byte, operands, named):
     blocks = RESULT_BYTES[byte]
     h = read_block(operands, blocks)
     w = read_block(operands, blocks + BLOCK_BYTES)
-    test = quotient if byte == QUOTIENT else root
-    return test(*named, h, w)[:2]
+    return TESTS[byte](*named, h, w)[:2]
 
 
 def check_job(job):

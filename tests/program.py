@@ -28,7 +28,7 @@ from typing import Callable, NamedTuple
 
 import jobs
 import oracle as o
-from examples_of_01 import check_examples, example_job
+from examples_of_01 import check_examples, example_job, root_job, root_jobs
 from header import MAX_RESULTS, PROGRAM_JOB_BYTES as LONGEST
 from job_cases import RandomJobs, fixed_check
 
@@ -223,6 +223,18 @@ def fixed_runs(feed):
     yield read_whole('at once', feed.at_once, b'\x01' * (LONGEST + 1))
 
 
+def root_runs(feed):
+    """Roots by 0x21 and 0x22 as command 2, 3 and 7, with texts that are written out and not the oracle's; and a root by
+    0x22 that is cut off or has a byte behind it."""
+    for job, text in root_jobs():
+        yield Run('root', feed.at_once, job, text.encode())
+    job = root_job(0x22, 4 * o.S, 0, 2 * o.S, o.S // 4)
+    for text, spoiled in (('refused 10 2', job[:141]), ('refused 10 2', job[:-2]), ('refused 10 3', job[:-1]),
+                          ('refused 11 3', job + b'\0'), ('refused 12 2', job[:141] + b'\x01' + job[142:]),
+                          ('refused 2 2', job[:142] + b'\x21' + job[143:])):
+        yield Run('root by 0x22, spoiled', feed.from_file, spoiled, f'{text}\n'.encode())
+
+
 def failing_runs(feed):
     """A read fails: nothing is said of the job, unless it was too long before."""
     example, empty = example_job(), b'\x01\x01\x00'
@@ -273,7 +285,7 @@ def main():
     feed = Feed(str(options.program.resolve()))
     rng = Random(options.seed)
     began, differences, missed, kinds = time.perf_counter(), 0, 0, Counter()
-    runs = [*fixed_runs(feed), *random_runs(feed, options.cases, rng), *failing_runs(feed)]
+    runs = [*fixed_runs(feed), *root_runs(feed), *random_runs(feed, options.cases, rng), *failing_runs(feed)]
     for i, (name, way, job, expected) in enumerate(runs):
         kinds[expected.split(b'\n')[-2].split()[0].decode()] += 1
         status, output = way(job)

@@ -9,9 +9,9 @@ import oracle as o
 from area_cases import AREAS, FOUR, MOST, ONE, QUARTER, TWO, WITNESSES, sized, witness
 from cases import Case
 from header import (ACCEPTED, BAD_MODEL, BAD_VALUE, BYTES_AFTER_END, HELPER_NOT_POSITIVE, JOB_ENDS, LARGE_RESIDUAL, LARGE_RESULT,
-                    MAX_DEGREE, MAX_RESULTS, NEGATIVE_DISCRIMINANT, NOT_A_RESULT, NOT_CONTRACTING, S, SCRATCH_SIZE, SHORT_AREA,
-                    TOO_MANY_RESULTS)
-from oracle import ADD, LIMIT, LOAD, MULTIPLY, PRODUCT_SIZE, QUOTIENT, ROOT, SUBTRACT, constant
+                    MAX_DEGREE, MAX_RESULTS, NEGATIVE_DISCRIMINANT, NO_RADIUS, NOT_A_RESULT, NOT_CONTRACTING, S, SCRATCH_SIZE,
+                    SHORT_AREA, TOO_MANY_RESULTS)
+from oracle import ADD, LIMIT, LOAD, MULTIPLY, PRODUCT_SIZE, QUOTIENT, ROOT, SUBTRACT, TIGHT_ROOT, constant
 from selection_cases import DIVIDEND, DIVISOR, NUMBERS, TESTED
 
 PLACES = {entry: i for entry, areas in AREAS.items() for i, (_, _, what) in enumerate(areas) if what == 'scratch'}
@@ -21,9 +21,10 @@ OTHER = 'another area short'
 # ---- Jobs: number and operation where they are refused; result 0 is 4, and count the number of results before ----------
 
 BAD = constant(LIMIT + 1)
-OPERATIONS = {LOAD: 'load', ADD: 'add', SUBTRACT: 'subtract', MULTIPLY: 'multiply', QUOTIENT: 'quotient', ROOT: 'root'}
+OPERATIONS = {LOAD: 'load', ADD: 'add', SUBTRACT: 'subtract', MULTIPLY: 'multiply', QUOTIENT: 'quotient', ROOT: 'root',
+              TIGHT_ROOT: 'tight_root'}
 READING = (BAD_VALUE, JOB_ENDS, NOT_A_RESULT, TOO_MANY_RESULTS, BYTES_AFTER_END)
-TESTS = jobs.quotient(0, 0, ONE, QUARTER) + jobs.root(0, TWO, QUARTER)     # both pass
+TESTS = jobs.quotient(0, 0, ONE, QUARTER) + jobs.root(0, TWO, QUARTER) + jobs.tight_root(0, TWO, QUARTER)      # all pass
 
 
 def endings(count):
@@ -35,13 +36,13 @@ def endings(count):
         (NOT_A_RESULT, ''): jobs.root(count, TWO, QUARTER) + end, (BYTES_AFTER_END, ''): end + end,
         (TOO_MANY_RESULTS, ''): jobs.load(ONE) * (MAX_RESULTS - count) + jobs.root(0, TWO, QUARTER) + end,
         (BAD_MODEL, 'load'): jobs.load(BAD) + end, (BAD_MODEL, 'quotient'): jobs.quotient(0, 0, ONE, BAD) + end,
-        (BAD_MODEL, 'root'): jobs.root(0, BAD, QUARTER) + end,
-        (HELPER_NOT_POSITIVE, 'root'): jobs.root(0, constant(-2 * S), constant(-S // 4)) + end,
         (NOT_CONTRACTING, 'quotient'): jobs.quotient(0, 0, ONE, constant(0)) + end,
-        (NOT_CONTRACTING, 'root'): jobs.root(0, TWO, ONE) + end,
         (LARGE_RESIDUAL, 'quotient'): jobs.quotient(0, 0, MOST, QUARTER) + end,
-        (LARGE_RESIDUAL, 'root'): jobs.root(0, MOST, constant((1 << 39) // LIMIT)) + end,
-        (NEGATIVE_DISCRIMINANT, 'root'): jobs.root(0, FOUR, constant(S // 8)) + end,
+        **{(number, root.__name__): root(0, h, w) + end
+           for root, none in ((jobs.root, NEGATIVE_DISCRIMINANT), (jobs.tight_root, NO_RADIUS))
+           for number, h, w in ((BAD_MODEL, BAD, QUARTER), (HELPER_NOT_POSITIVE, constant(-2 * S), constant(-S // 4)),
+                                (NOT_CONTRACTING, TWO, ONE), (LARGE_RESIDUAL, MOST, constant((1 << 39) // LIMIT)),
+                                (none, FOUR, constant(S // 8)))},
         (LARGE_RESULT, 'quotient'): jobs.quotient(0, 0, constant(LIMIT // 8), constant(S // 4 + S // 5)) + end,
         (LARGE_RESULT, 'add'): most + jobs.add(count, count) + end,
         (LARGE_RESULT, 'subtract'): jobs.load(constant(0, LIMIT)) + jobs.subtract(count, count) + end,
@@ -50,8 +51,8 @@ def endings(count):
 
 
 def job_inputs():
-    """Each of them, before any test and behind two that pass."""
-    for tests, count in ((b'', 1), (TESTS, 3)):
+    """Each of them, before any test and behind three that pass."""
+    for tests, count in ((b'', 1), (TESTS, 4)):
         for ending in endings(count).values():
             yield Case('check', (jobs.EDITION_1 + jobs.load(FOUR) + tests + ending,))
 
@@ -81,14 +82,6 @@ def scratch_cases(entry):
 
 # ---- What is counted ----------------------------------------------------------------------------------------------------
 
-def read_commands(job):
-    """The command bytes of a job as far as they are known."""
-    position = 0
-    while position < len(job) and job[position] in o.OPERAND_WIDTH:
-        yield job[position]
-        position += 1 + o.OPERAND_WIDTH[job[position]]
-
-
 def own_answer(case):
     """What a call is answered with where every area is long enough: a number; the numbers of both proposals; of a job the number,
     the operation refused and whether a test passed before."""
@@ -98,10 +91,10 @@ def own_answer(case):
     if case.entry != 'check':
         return getattr(o, case.entry)(*case.inputs)[0]
     verdict, *answer = o.check_job(*case.inputs)
-    read = list(read_commands(*case.inputs))
+    read = [byte for byte, _ in jobs.read_commands(*case.inputs)]
     number, command = (ACCEPTED, len(read)) if verdict == 'accepted' else answer
     at = '' if number in (ACCEPTED, *READING) else OPERATIONS[read[command]]
-    return number, at, bool({QUOTIENT, ROOT} & set(read[:command]))
+    return number, at, bool(set(o.TESTS) & set(read[:command]))
 
 
 def kinds(case, lengths, number):

@@ -16,9 +16,12 @@ from proposal_slips import PROPOSAL_SLIPS
 HERE = Path(__file__).resolve().parent
 PLAIN = HERE.parent / 'plain'
 TESTS = 'quotient,root'
+ROOTS = ('root', 'tight_root')
 M_LINE = 'int64_t m = up(weight(c, PRODUCT_SIZE) + 2 * m_weight'
 N_LINE = 'int64_t n = up(weight(c, PRODUCT_SIZE) + 2 * (int64_t)UNIT * f[RADIUS],'
-B_LINE = '    if (b > (UNIT - m) * (UNIT - m) / (8 * m_weight))'
+B_LINE = '    if (p.b > (UNIT - p.m) * (UNIT - p.m) / (8 * p.m_weight))'
+ROOT_M, ROOT_B = 'int64_t m = up(weight(c, PRODUCT_SIZE), UNIT)', 'n, up(m_weight * n, UNIT)};'
+F_RADIUS = '+ 2 * (int64_t)UNIT * f[RADIUS], 2'
 P_LINE = 'int64_t p = (int64_t)a[1 + i] * b[1 + j];'
 SECOND_TEST = '    uint32_t other = test_proposal(good, f, g, second, second_len, c, &two);'
 SELECT_END = '        answer[1] = (uint32_t)one.radius;\n    }\n    return number;'
@@ -39,36 +42,27 @@ WRONG_NEAR = {
 
 # Name, entries that must show it, old text (its first place), new text.
 SLIPS = [
-    ('helper sign left out', 'root', 'if (sum <= 0)', 'if (sum == 0)'),
-    ('helper sum zero passes', 'root', 'if (sum <= 0)', 'if (sum < 0)'),
-    ('helper sign after m', 'root', 'if (sum <= 0)', 'if (sum <= 0 && sum > -1000)'),
     ('pair 0,0 once', 'multiply', 'c[i > j ? i - j : j - i] += p;',
      'if (i + j) c[i > j ? i - j : j - i] += p;'),
     ('equal pairs once', 'multiply', 'c[i > j ? i - j : j - i] += p;',
      'if (i != j || !i) c[i > j ? i - j : j - i] += p;'),
     ('m downwards', TESTS, M_LINE, M_LINE.replace('up(', 'down(')),
     ('m to the nearest', TESTS, M_LINE, M_LINE.replace('up(', 'near(')),
-    ('root m downwards', 'root', 'int64_t m = up(weight(c, PRODUCT_SIZE), UNIT)',
-     'int64_t m = down(weight(c, PRODUCT_SIZE), UNIT)'),
-    ('N downwards', 'root', N_LINE, N_LINE.replace('up(', 'down(')),
-    ('N to the nearest', 'root', N_LINE, N_LINE.replace('up(', 'near(')),
     ('b downwards', TESTS, 'int64_t b = up(', 'int64_t b = down('),
     ('radius downwards', 'quotient', 'radius = up(b * UNIT', 'radius = down(b * UNIT'),
-    ('root radius not doubled', 'root', 'up(2 * b * UNIT', 'up(b * UNIT'),
+    ('root radius not doubled', 'root', 'up(2 * p.b * UNIT', 'up(p.b * UNIT'),
     ('dropped not paid', 'multiply', 'error += weight(c + degree + 1, PRODUCT_SIZE - degree - 1);', ''),
     ('radii product left out', 'multiply', ' + e_a * e_b);', ');'),
     ('8bM wraps signed', 'root', B_LINE,
-     '    if ((UNIT - m) * (UNIT - m) < (int64_t)(8 * (uint64_t)b * (uint64_t)m_weight))'),
+     '    if ((UNIT - p.m) * (UNIT - p.m) < (int64_t)(8 * (uint64_t)p.b * (uint64_t)p.m_weight))'),
     ('8bM wraps unsigned', 'root', B_LINE,
-     '    if ((uint64_t)((UNIT - m) * (UNIT - m)) < 8 * (uint64_t)b * (uint64_t)m_weight)'),
+     '    if ((uint64_t)((UNIT - p.m) * (UNIT - p.m)) < 8 * (uint64_t)p.b * (uint64_t)p.m_weight)'),
     ('8bM equality refused', 'root', B_LINE, B_LINE.replace('b >', 'b >=')),
     ('8bM one too many', 'root', B_LINE, B_LINE.replace('b >', 'b - 1 >')),
     ('8bM with 4', 'root', B_LINE, B_LINE.replace('8 *', '4 *')),
     ('f longer than C', 'quotient',
      '    int64_t n = up(weight(c, PRODUCT_SIZE) + 2 * (int64_t)UNIT * f[RADIUS] + 2 * h',
      '    int64_t n = up(weight(c, g[0] + h[0] + 1) + 2 * (int64_t)UNIT * f[RADIUS] + 2 * h'),
-    ('f longer than C, root', 'root', N_LINE, N_LINE.replace('PRODUCT_SIZE', '2 * h[0] + 1')),
-    ('f radius left out', 'root', '+ 2 * (int64_t)UNIT * f[RADIUS], 2', '+ 0 * f[RADIUS], 2'),
     ('m = S passes', TESTS, 'if (m >= UNIT)', 'if (m > UNIT)'),
     ('m = S - 1 refused', TESTS, 'if (m >= UNIT)', 'if (m >= UNIT - 1)'),
     ('N = 2^28 refused', 'quotient', 'if (n > LIMIT)', 'if (n >= LIMIT)'),
@@ -157,6 +151,108 @@ SLIPS = [
      '        return 0;\n    }\n    if (byte == 0x20)\n'),
 ]
 
+# What the root tests share must show in each.
+SLIPS += [(f'{name}, {entry}', entry, old, new) for name, old, new in (
+    ('helper sign left out', 'if (sum <= 0)', 'if (sum == 0)'),
+    ('helper sum zero passes', 'if (sum <= 0)', 'if (sum < 0)'),
+    ('helper sign after m', 'if (sum <= 0)', 'if (sum <= 0 && sum > -1000)'),
+    ('m downwards', ROOT_M, ROOT_M.replace('up(', 'down(')),
+    ('m = S passes', f'{ROOT_M};\n    if (m >= UNIT)', f'{ROOT_M};\n    if (m > UNIT)'),
+    ('m = S - 1 refused', f'{ROOT_M};\n    if (m >= UNIT)', f'{ROOT_M};\n    if (m >= UNIT - 1)'),
+    ('N downwards', N_LINE, N_LINE.replace('up(', 'down(')),
+    ('N to the nearest', N_LINE, N_LINE.replace('up(', 'near(')),
+    ('N = 2^28 refused', f'{N_LINE} 2 * UNIT);\n    if (n > LIMIT)', f'{N_LINE} 2 * UNIT);\n    if (n >= LIMIT)'),
+    ('N one more passes', f'{N_LINE} 2 * UNIT);\n    if (n > LIMIT)', f'{N_LINE} 2 * UNIT);\n    if (n > LIMIT + 1)'),
+    ('b downwards', ROOT_B, ROOT_B.replace('up(', 'down(')),
+    ('f longer than C', N_LINE, N_LINE.replace('PRODUCT_SIZE', '2 * h[0] + 1')),
+    ('f radius left out', F_RADIUS, '+ 0 * f[RADIUS], 2'),
+) for entry in ROOTS]
+
+# The tighter root test: what is wrong, old text, new text.
+SCALED, NEXT = 'scaled = b * UNIT * UNIT;', 'next <= UNIT && twice * next * next + scaled <= c * next'
+LARGE_B, NO_B = '    if (b > UNIT)\n        return NO_SUCH_RADIUS;\n', '    if (b == 0)\n        return 0;\n'
+LEAST, NONE = '    uint64_t radius = least_radius(', '    if (radius == NO_SUCH_RADIUS)\n        return NO_RADIUS;'
+REFUSED, FORMER = B_LINE[8:-1], '(uint64_t)up(2 * p.b * UNIT, UNIT - p.m)'      # as 0x21 has it
+TIGHT_END = '    accept_candidate(h, (int64_t)radius, p.m, p.n, p.b, out, numbers);'
+LOOP_END = '            low = middle;\n    }\n    return high;'
+SLIPS += [(f'tight: {name}', 'tight_root', old, new) for name, old, new in (
+    ('v + 1 not tried', NEXT, '0'),
+    ('v + 1 tried beyond S', NEXT, NEXT.replace('next <= UNIT && ', '')),
+    ('v + 1 not tried at equality', NEXT, NEXT.replace('<= c', '< c')),
+    ('v + 1 taken untried', NEXT, 'next <= UNIT'),
+    ('the greatest r', LOOP_END, LOOP_END.replace('    return high;', """
+    while (high < UNIT && twice * (high + 1) * (high + 1) + scaled <= c * (high + 1))
+        high++;
+    return high;""")),
+    ('b S for b S^2', SCALED, 'scaled = b * UNIT;'),
+    ('b S^2 in 64 bits, b unlimited', LARGE_B, ''),
+    ('b above 2^24 alone refused', LARGE_B, LARGE_B.replace('b > UNIT', 'b > 16 * UNIT')),
+    ('b = 2^24 alone refused', LARGE_B, LARGE_B.replace('b > UNIT', 'b == 16 * UNIT')),
+    ('8 for 17', NONE, NONE.replace('NO_RADIUS', 'NEGATIVE_DISCRIMINANT')),
+    ('6 for 17', NONE, NONE.replace('NO_RADIUS', 'LARGE_RESIDUAL')),
+    ('3 above S/2', NONE, f'{NONE}\n    if (radius > UNIT / 2)\n        return LARGE_RESULT;'),
+    ('S refused with 3', NONE, f'{NONE}\n    if (radius >= UNIT)\n        return LARGE_RESULT;'),
+    ('the search begun at 1', NO_B, ''),
+    ('b = 1 gives 0', NO_B, NO_B.replace('b == 0', 'b <= 1')),
+    ('M for 2 M', 'twice = 2 * m_weight', 'twice = m_weight'),
+    ('4 M for 2 M', 'twice = 2 * m_weight', 'twice = 4 * m_weight'),
+    ('S for S - m', '(UNIT - m) * UNIT, twice', '(uint64_t)UNIT * UNIT, twice'),
+    ('S - m for (S - m) S', '(UNIT - m) * UNIT, twice', 'UNIT - m, twice'),
+    ('below, not at most, in the search', '+ scaled <= c * middle', '+ scaled < c * middle'),
+    ('below, not at most, at v', '+ scaled > c * high', '+ scaled >= c * high'),
+    ('r up to S - 1', 'v < UNIT ? v : UNIT;', 'v < UNIT ? v : UNIT - 1;'),
+    ('r beyond S', 'v < UNIT ? v : UNIT;', 'v;'),
+    ('v from 2 M', 'c / (4 * m_weight)', 'c / (2 * m_weight)'),
+    ('v from 8 M', 'c / (4 * m_weight)', 'c / (8 * m_weight)'),
+    ('v rounded up', 'c / (4 * m_weight)', '(c - 1) / (4 * m_weight) + 1'),
+    ('the search ends early', 'high - low > 1', 'high - low > 2'),
+    ('the last that does not satisfy', LOOP_END, LOOP_END.replace('return high', 'return low')),
+    ('ten halvings', 'while (high - low > 1) {', 'for (int i = 0; i < 10 && high - low > 1; i++) {'),
+    ('nineteen halvings', 'while (high - low > 1) {', 'for (int i = 0; i < 19 && high - low > 1; i++) {'),
+    ('the radius of 0x21', NONE, f'{NONE}\n    radius = {FORMER};'),
+    ('half the radius of 0x21', NONE, f'{NONE}\n    radius = ({FORMER} + 1) / 2;'),
+    ('accepted where 0x21 accepts', NONE,
+     f'    if (radius == NO_SUCH_RADIUS && !({REFUSED}))\n        radius = {FORMER};\n{NONE}'),
+    ('the root test', NONE, f'    radius = {REFUSED} ? NO_SUCH_RADIUS : {FORMER};\n{NONE}'),
+    ('m and b exchanged', f'{LEAST}(uint64_t)p.m_weight, (uint64_t)p.m, (uint64_t)p.b);',
+     f'{LEAST}(uint64_t)p.m_weight, (uint64_t)p.b, (uint64_t)p.m);'),
+    ('numbers left at zero', TIGHT_END, TIGHT_END.replace('p.m, p.n, p.b', '0, 0, 0')),
+)]
+
+# Its areas, in the text of its entry alone.
+TIGHT_ENTRY = re.search(r'uint32_t plain_tight_root\(.*?\n}\n', (PLAIN / 'plain.c').read_text(), re.S)[0]
+SLIPS += [(f'tight: {name}', 'tight_root', TIGHT_ENTRY, TIGHT_ENTRY.replace(old, new)) for name, old, new in (
+    ('f of 34 numbers', 'f_len >= MODEL_SIZE', 'f_len >= CANDIDATE_SIZE'),
+    ('h of 33 numbers', 'h_len >= CANDIDATE_SIZE', 'h_len >= COEFFICIENTS'),
+    ('w of 33 numbers', 'w_len >= CANDIDATE_SIZE', 'w_len >= COEFFICIENTS'),
+    ('w of 35 numbers', 'w_len >= CANDIDATE_SIZE', 'w_len >= MODEL_SIZE'),
+    ('h and w exchanged', 'f, h, w, out', 'f, w, h, out'),
+    ('numbers left on refusal', 'CLEAR(numbers, NUMBERS_SIZE)', '(numbers_len >= NUMBERS_SIZE)'),
+    ('numbers left where out is short', '& CLEAR(numbers', '&& CLEAR(numbers'),
+    ('out left on refusal', 'CLEAR(out, MODEL_SIZE)', '(out_len >= MODEL_SIZE)'),
+    ('scratch left on 1', '    CLEAR(scratch', '    if (number != SHORT_AREA)\n        CLEAR(scratch'),
+    ('scratch left on 17', '    CLEAR(scratch', '    if (number != NO_RADIUS)\n        CLEAR(scratch'),
+    ('scratch left where out is short', '    CLEAR(scratch', '    if (fit)\n        CLEAR(scratch'),
+)]
+
+# Its command.
+TIGHT_COMMAND = '    case 0x22: *width = 1 + 2 * BLOCK_BYTES; *names = 1; return 1;\n'
+SLIPS += [(f'job: {name}', 'check', old, new) for name, old, new in (
+    ('0x22 unknown', TIGHT_COMMAND, TIGHT_COMMAND.replace('case 0x22: ', '')),
+    ('0x23 known', TIGHT_COMMAND, f'    case 0x23:\n{TIGHT_COMMAND}'),
+    ('0x22 names nothing', f'    case 0x21:\n{TIGHT_COMMAND}',
+     f'{TIGHT_COMMAND.replace("0x22", "0x21")}{TIGHT_COMMAND.replace("names = 1", "names = 0")}'),
+    ('0x22 names two', f'    case 0x21:\n{TIGHT_COMMAND}',
+     f'{TIGHT_COMMAND.replace("0x22", "0x21")}{TIGHT_COMMAND.replace("names = 1", "names = 2").replace("1 + 2", "2 + 2")}'),
+    ('0x22 one byte longer', f'    case 0x21:\n{TIGHT_COMMAND}',
+     f'{TIGHT_COMMAND.replace("0x22", "0x21")}{TIGHT_COMMAND.replace("1 + 2", "2 + 2")}'),
+    ('0x22 is 0x21', '    if (byte == 0x21)\n', '    if (byte == 0x21 || byte == 0x22)\n'),
+    ('0x21 is 0x22', '    if (byte == 0x21)\n', '    if (byte == 0)\n'),
+    ('0x22 with h and w exchanged', 'return test_tight_root(a, h, w', 'return test_tight_root(a, w, h'),
+    ('8 for 17', NONE, NONE.replace('NO_RADIUS', 'NEGATIVE_DISCRIMINANT')),
+    ('v + 1 not tried', NEXT, '0'),
+)]
+
 # Two proposals for one quotient: what is wrong, old text, new text.
 SLIPS += [(f'two: {name}', 'quotient_of_two', old, new) for name, old, new in (
     ('ties to the second', 'two.radius < one.radius', 'two.radius <= one.radius'),
@@ -204,7 +300,7 @@ SLIPS += [(f'two: {name}', 'quotient_of_two', old, new) for name, old, new in (
 # Forming C in groups of 16 places: the texts by which each test forms what m and what N weighs.
 LISTS = {entry: [f'product_list({one}, c);\n    c[0] -= {constant};\n', f'product_list({other}, c);\n    take_residual(c, f);\n']
          for entry, one, other, constant in (('quotient', 'w, g', 'g, h', '2 * (int64_t)UNIT * UNIT'),
-                                             ('root', 'w, h', 'h, h', '(int64_t)UNIT * UNIT'))}
+                                             *((root, 'w, h', 'h, h', '(int64_t)UNIT * UNIT') for root in ROOTS))}
 SLIPS += [(f'groups: place {place} left out of {letter}, {entry}', entry, formed, f'{formed}    c[{place}] = 0;\n')
           for entry, both in LISTS.items() for letter, formed in zip('mN', both) for place in (15, 31, 47, 63, 64)]
 SLIPS += [(f'groups: the constant in each, {entry}', entry, of_m,
@@ -213,21 +309,23 @@ SLIPS += [(f'groups: the constant in each, {entry}', entry, of_m,
 # The loop over f ends where C ends, at its last place or with its last group.
 SLIPS += [(f'groups: f dropped past {where}, {entry}', entry, LISTS[entry][1], LISTS[entry][1].replace(
            'take_residual(c, f);', f'for (int k = 0; k <= f[0] && k {ends}; k++)\n        c[k] -= 2 * (int64_t)UNIT * f[1 + k];'))
-          for entry, last in (('quotient', '(g[0] + h[0])'), ('root', '2 * h[0]'))
+          for entry, last in (('quotient', '(g[0] + h[0])'), *((root, '2 * h[0]') for root in ROOTS))
           for where, ends in (("C's end", f'<= {last}'), ("C's last group", f'/ 16 <= {last} / 16'))]
 SLIPS += [(f'groups: |i - j| = 0 from both sides, {entry}', entry, 'c[i > j ? i - j : j - i] += p;',
-           'c[i > j ? i - j : j - i] += i == j ? 2 * p : p;') for entry in ('multiply', 'quotient', 'root')]
+           'c[i > j ? i - j : j - i] += i == j ? 2 * p : p;') for entry in ('multiply', 'quotient', *ROOTS)]
 
 # The scratch of each entry: where its length is looked at, and where it is cleared.
 LOOKED_AT = {
     'quotient': 'w_len >= CANDIDATE_SIZE && scratch_len >= SCRATCH_SIZE',
     'root': '&& scratch_len >= SCRATCH_SIZE)\n        number = test_root',
+    'tight_root': '&& scratch_len >= SCRATCH_SIZE)\n        number = test_tight_root',
     'quotient_of_two': '&& scratch_len >= SCRATCH_SIZE)\n        number = select_proposal',
     'check': 'work_len < WORK_SIZE || scratch_len < SCRATCH_SIZE',
 }
 CLEARED = {
     'quotient': 'test_quotient(f, g, h, w, out, numbers);\n    CLEAR(scratch, SCRATCH_SIZE);',
     'root': 'test_root(f, h, w, out, numbers);\n    CLEAR(scratch, SCRATCH_SIZE);',
+    'tight_root': 'test_tight_root(f, h, w, out, numbers);\n    CLEAR(scratch, SCRATCH_SIZE);',
     'quotient_of_two': 'second_len, answer);\n    CLEAR(scratch, SCRATCH_SIZE);',
     'check': '    memset(scratch, 0, SCRATCH_SIZE * sizeof *scratch);\n    if',
 }
@@ -244,12 +342,12 @@ SLIPS += [(f'{name}, {entry}', entry, NEAR, f'{NEAR}    return {rule};\n')
           for name, rule in WRONG_NEAR.items()
           for entry in ('multiply', 'integrate', 'evaluate', 'from_series', 'check')]
 
-# One walk over the pairs serves multiply and both tests: a wrong visit must show in each.
+# One walk over the pairs serves multiply and the tests: a wrong visit must show in each.
 SLIPS += [(f'walk: {name}, {entry}', entry, P_LINE, new)
           for name, new in (('diagonal skipped', 'if (i == j)\n                continue;\n            ' + P_LINE),
                             ('last pair twice', P_LINE[:-1] + ' * (i == a[0] && j == b[0] ? 2 : 1);'),
                             ('last pair left out', P_LINE[:-1] + ' * !(i == a[0] && j == b[0]);'))
-          for entry in ('multiply', 'quotient', 'root')]
+          for entry in ('multiply', 'quotient', *ROOTS)]
 
 
 def spoiled_plain(folder, old, new, sources=('plain.c', 'areas.h')):

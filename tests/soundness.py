@@ -4,7 +4,8 @@ Each soundness_*() takes what was handed in and what came out, draws a fraction
 and allowed values there, and raises AssertionError when a value that the
 result should cover is not covered.  compare.py calls check() on a sample and on
 every made proposal that passes its test, and check_answered() on every model that
-the library makes of a series and on every proposal that it chooses.
+the library makes of a series, on every proposal that it chooses and on every root
+that its tighter test accepts.
 """
 
 from fractions import Fraction
@@ -12,9 +13,11 @@ from math import isqrt
 
 import oracle as o
 from header import S
+from jobs import read_commands
 from oracle import LIMIT
 
 FINE = 1 << 96              # boxes that may be wider are rounded out to 1/FINE
+ROOTS = (o.ROOT, o.TIGHT_ROOT)      # one rule of boxes for both
 
 
 def random_point(rng):
@@ -159,8 +162,9 @@ def soundness_quotient(rng, f, g, result):
 
 
 def soundness_root(rng, f, result):
+    """Of both root tests: squares are compared, no root is formed."""
     x = random_point(rng)
-    assert value(f, x) >= radius(f), 'a negative value is allowed under the root'
+    assert value(f, x) > radius(f), 'a value that is not positive is allowed under the root'
     v = allowed_value(rng, f, x)
     low = value(result, x) - radius(result)
     high = value(result, x) + radius(result)
@@ -192,11 +196,7 @@ def root_box(rng, box):
 def commands_of(job):
     """Command byte and operands of each command of an accepted job that makes
     a result."""
-    position = 2
-    while job[position] != o.END:
-        width = o.OPERAND_WIDTH[job[position]]
-        yield job[position], job[position + 1:position + 1 + width]
-        position += 1 + width
+    return list(read_commands(job))[1:-1]           # between edition and end
 
 
 def next_box(rng, byte, operands, boxes, x):
@@ -208,7 +208,7 @@ def next_box(rng, byte, operands, boxes, x):
     named = [boxes[name] for name in operands[:o.RESULT_BYTES[byte]]]
     if None in named:
         return None
-    if byte == o.ROOT:
+    if byte in ROOTS:
         return root_box(rng, named[0])
     (low, high), (low2, high2) = named
     if byte == o.ADD:
@@ -233,9 +233,9 @@ def soundness_job(rng, job, results):
         if byte == o.QUOTIENT:
             g = results[operands[1]]
             assert abs(value(g, x)) > radius(g), 'the divisor allows zero'
-        if byte == o.ROOT:
+        if byte in ROOTS:
             f = results[operands[0]]
-            assert value(f, x) >= radius(f), 'a negative value is allowed under the root'
+            assert value(f, x) > radius(f), 'a value that is not positive is allowed under the root'
         box = next_box(rng, byte, operands, boxes, x)
         boxes.append(box)
         if box is not None:
@@ -278,5 +278,8 @@ def check_answered(rng, case, result):
     """Checks one accepted case by the model that the library answered."""
     if case.entry == 'from_series':
         soundness_from_series(rng, *case.inputs, result)
+    elif case.entry == 'tight_root':
+        for _ in range(3):
+            soundness_root(rng, case.inputs[0], result)
     else:
         soundness_quotient(rng, *case.inputs[:2], result)

@@ -1,5 +1,5 @@
 """Tests of tools/ferruntzo by its command line and modules: exit statuses, explain against the program over
-the whole corpus of job tests, list and assemble round trips, the page, versions.
+the whole corpus of job tests, list and assemble round trips, the page, the least radius of 0x22, versions.
 
   tool_commands.py [--tool tools/ferruntzo] [--jobcheck target/bin/jobcheck] [--cases N] [--plant]
 """
@@ -22,9 +22,10 @@ sys.path.insert(0, str(ROOT / 'tools'))
 
 from examples_of_01 import example_job                                  # noqa: E402
 from ferruntzo_tool import __version__, explain, program                # noqa: E402
+from ferruntzo_tool import arithmetic as ar                             # noqa: E402
 from ferruntzo_tool.reading import Checked, split                       # noqa: E402
-from ferruntzo_tool.tables import (COMMANDS, MAX_DEGREE, REFUSALS,      # noqa: E402
-                                   in_micrometres, is_load)
+from ferruntzo_tool.tables import (BY_NAME, COMMANDS, LIMIT, MAX_DEGREE, REFUSALS, S,   # noqa: E402
+                                   in_micrometres, is_load, is_tight)
 from ferruntzo_tool.text import assemble, listing                       # noqa: E402
 from job_cases import RandomJobs, fixed_check                           # noqa: E402
 
@@ -71,6 +72,67 @@ def explained(jobs, rng):
                job[:40].hex())
 
 
+SIDES = re.compile(r'r = ([\d,]+): 2·M·r² \+ b·S² = ([\d,]+), \(S-m\)·S·r = ([\d,]+)(: passes|: does not pass|)')
+
+
+def least_radii(rng):
+    """Of random M, m and b, and of the borders: r satisfies and r - 1 does not, or none satisfies. Those that satisfy
+    follow one another, so that the two whole numbers about the middle of them decide whether there are any."""
+    found = none = above = behind = 0
+    for i in range(20000):
+        big_m, m = int(2 ** rng.uniform(0, 28)), S - int(2 ** rng.uniform(0, 20))
+        most = (S - m) ** 2 // (8 * big_m)              # the largest b with which a real r satisfies
+        b = rng.choice((0, 1, 3, most // 2, most - 1, most, most + 1, most + rng.randrange(1, S), (S - m) - 2, (S - m) - 1,
+                        rng.randrange(S + 2)))
+        if i % 3 == 0:                                  # M is the largest for b: few numbers satisfy, or none
+            b = int(2 ** rng.uniform(0, 20))
+            big_m = (S - m) ** 2 // (8 * b)
+        if b < 0 or not 1 <= big_m <= LIMIT:
+            continue
+        n, most = {'M': big_m, 'm': m, 'b': b}, (S - m) ** 2 // (8 * big_m)
+        v, r = (S - m) * S // (4 * big_m), ar.least_radius(n)
+
+        def good(r):
+            return 2 * big_m * r * r + b * S * S <= (S - m) * S * r
+        if r is None:
+            none, above = none + 1, above + (b <= most)
+            expect('no radius', not any(good(min(k, S)) for k in (v, v + 1)), str(n))
+        else:
+            found, behind = found + 1, behind + (r == v + 1)
+            expect('least radius', 0 <= r <= S and good(r) and not (r and good(r - 1)), f'{n}: {r}')
+            expect('never larger than by 0x21', r <= ar.by_discriminant(n)['radius'], f'{n}: {r}')
+    expect('kinds of least radii', min(found, none, above, behind) >= 20, f'{found} {none} {above} {behind}')
+
+
+def explained_roots(jobs, rng):
+    """The lines about a root by 0x22 show that its radius is the least, or that there is none; those about the other
+    test say what it gives."""
+    kinds = {True: 0, False: 0}
+    byte = bytes([BY_NAME['tight_root'].byte])
+    with_byte = [job for job in jobs if byte in job]
+    for job in rng.sample(with_byte, min(1500, len(with_byte))):
+        checked = Checked(job)
+        for outcome in checked.outcomes:
+            n = outcome.numbers
+            if not is_tight(outcome.step) or 'b' not in n:
+                continue
+            lines = list(explain.test_lines(outcome))
+            rows = [(*(int(word.replace(',', '')) for word in row[:3]), row[3]) for row in SIDES.findall('\n'.join(lines))]
+            for r, left, right, _ in rows:
+                expect('sides', left == 2 * n['M'] * r * r + n['b'] * S * S and right == (S - n['m']) * S * r, lines)
+            kinds[outcome.model is not None] += 1
+            other = 'accepts' if (S - n['m']) ** 2 >= 8 * n['b'] * n['M'] else 'refuses'
+            expect('the other test', lines[-1].startswith(f'the root test (0x21) {other} the same candidates'), lines)
+            if outcome.model is None:
+                expect('17 is explained', outcome.refusal == 17 and rows and all(
+                    left > right and not said for _, left, right, said in rows), lines)
+                continue
+            radius = outcome.model.radius
+            expect('a least radius is explained', [(row[0], row[1] <= row[2], row[3]) for row in rows] == [
+                (radius, True, ': passes'), (radius - 1, False, ': does not pass')][:2 if radius else 1], lines)
+    expect('roots by 0x22 are explained', kinds[True] >= 20 and kinds[False] >= 5, str(kinds))
+
+
 def round_trips(jobs):
     for job in jobs:
         expect('list and assemble', assemble('\n'.join(listing(job))) == job, job[:60].hex())
@@ -107,6 +169,7 @@ def pages(run, folder):
 
 def statuses(run, folder, checker):
     example, refused = ROOT / 'examples/stretch.job', ROOT / 'examples/refused.job'
+    tight, none = ROOT / 'examples/stretch_tight.job', ROOT / 'examples/no_radius.job'
     wide = ROOT / 'examples/accident_degree_12.job'
     cut = ROOT / 'examples/accident.job'
     (folder / 'long.job').write_bytes(bytes(70000))
@@ -137,6 +200,7 @@ def statuses(run, folder, checker):
         (0, 'explain', example), (1, 'explain', refused), (2, 'explain', folder / 'nosuch'),
         (2, 'explain', example, '--jobcheck', folder / 'liar'), (2, 'explain', folder / 'long.job'),
         (2, 'explain', example, '--jobcheck', folder / 'silent'),
+        (0, 'check', tight), (0, 'explain', tight), (1, 'check', none), (1, 'explain', none), (0, 'list', none),
         (0, 'list', example), (2, 'list', folder / 'nosuch'), (2, 'assemble', example),
         (2, 'assemble', folder / 'nosuch'),
         (2, 'show', example, '-o', folder / 'no' / 'page'), (2, 'show', folder / 'nosuch', '-o', folder / 'p'),
@@ -196,6 +260,19 @@ def words(run, folder):
     expect('explain says what is not covered', 'results 0 to 4' in said and 'NOT covered' in said)
     said = run('check', ROOT / 'examples/refused.job').stdout
     expect('a refused job is not milled', 'REFUSED with 7' in said and 'Do not mill' in said)
+    none = ROOT / 'examples/no_radius.job'
+    said = run('check', none).stdout
+    expect('17 in words', 'REFUSED with 17 at command 2 (byte 140): the proposed root fits too badly for the tighter root test'
+           in said and 'Do not mill' in said, said)
+    said = run('explain', none).stdout
+    expect('17 is explained in words', all(text in said for text in (
+        'square root of result 0 (tighter root test)', 'for a whole r from 0 to S: FAILS',
+        'the root test (0x21) accepts the same candidates, with radius 2,097,152 (2000 µm)',
+        'What to do: bring h nearer to the root and w nearer to 1/(2h)', 'It says "refused 17 2", as explained'))
+        and 'read so' not in said, said)
+    said = run('explain', ROOT / 'examples/stretch.job').stdout
+    expect('0x21 is told what 0x22 gives', 'the tighter root test (0x22) accepts the same candidates, with radius' in said, said)
+    expect('a root by 0x22 as text', '\ntight_root 0            # command 2' in run('list', none).stdout)
     text = folder / 'bad.txt'
     for line, wanted in (('load radius 0\nend', 'lacks its block model'), ('lode', 'is no command'),
                          ('multiply 1 2', '"kept"'), ('add 1', 'lacks its operand b'), ('add 1 300', "'300'"),
@@ -235,7 +312,7 @@ def numbers():
     named = dict(re.findall(r'FERRUNTZO_([A-Z_]+) = (\d+)', header))
     named.pop('ACCEPTED')
     expect('refusals as in the header', {r.name: str(r.number) for r in REFUSALS} == named, str(named))
-    bytes_of = dict(re.findall(r'#define FERRUNTZO_COMMAND_([A-Z]+) 0x([0-9a-f]+)', header))
+    bytes_of = dict(re.findall(r'#define FERRUNTZO_COMMAND_([A-Z_]+) 0x([0-9a-f]+)', header))
     expect('commands as in the header', {c.name.upper(): f'{c.byte:02x}' for c in COMMANDS} == bytes_of, str(bytes_of))
 
 
@@ -263,6 +340,8 @@ def main():
         with tempfile.TemporaryDirectory() as name:
             folder = Path(name)
             explained(jobs, rng)
+            explained_roots(jobs, rng)
+            least_radii(rng)
             round_trips(jobs)
             statuses(run, folder, options.jobcheck)
             lacks(run, folder)

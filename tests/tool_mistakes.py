@@ -2,7 +2,8 @@
 
   tool_mistakes.py [--verbose]
 
-Each mistake is made in examples/stretch.job, whose commands are known.
+Each mistake is made in examples/stretch.job, whose commands are known; those that leave every byte in its place also with its
+root by 0x22; results counted from 1 also in jobs whose root is what is refused.
 """
 
 import struct
@@ -16,7 +17,9 @@ sys.path.insert(0, str(ROOT / 'tools'))
 from header import BLOCK_BYTES, COEFFICIENTS, MAX_DEGREE               # noqa: E402
 from ferruntzo_tool import explain                                      # noqa: E402
 from ferruntzo_tool.reading import Checked, read_block, split, write_block  # noqa: E402
-from ferruntzo_tool.tables import S                                     # noqa: E402
+from ferruntzo_tool.tables import BY_NAME, S                            # noqa: E402
+import jobs                                                             # noqa: E402
+from oracle import constant                                             # noqa: E402
 
 GOOD = (ROOT / 'examples' / 'stretch.job').read_bytes()
 STEPS = split(GOOD)[0]
@@ -107,6 +110,14 @@ def from_one():
     return bytes(job)
 
 
+def root_from_one(root, refusal):
+    """The root of the first result; read as that of the second it is refused with this number."""
+    job = (jobs.EDITION_1 + jobs.load(constant(4 * S)) + jobs.load(constant(S))
+           + root(1, constant(2 * S), constant(S // 4)) + jobs.END)
+    assert Checked(job).refusal == refusal
+    return job
+
+
 def reverse(row, degree):
     return row[:degree + 1][::-1]
 
@@ -157,12 +168,23 @@ MISTAKES = [
     ('two jobs joined', GOOD + GOOD, 'two jobs were joined'),
     ('newline at the end', GOOD + b'\n', 'newline'),
     ('results counted from 1', from_one(), 'counted from 1'),
+    ('results counted from 1, 8', root_from_one(jobs.root, 8), 'counted from 1'),
+    ('results counted from 1, 17', root_from_one(jobs.tight_root, 17), 'counted from 1'),
     ('no edition', GOOD[2:], 'the edition is missing'),
     ('text mode', GOOD.replace(b'\n', b'\r\n') if b'\n' in GOOD else
      put(GOOD, H, lambda r, n: [*r[:n], (r[n] & ~255) | 10]).replace(b'\n', b'\r\n'), 'text mode'),
     ('hexadecimal text', GOOD.hex().encode(), 'hexadecimal text'),
     ('a listing', b'# ferruntzo job text 1\nedition 1\nend\n', 'assemble'),
 ]
+
+
+def tighter(job):
+    """The job with its root by 0x22."""
+    return job[:ROOT_STEP.offset] + bytes([BY_NAME['tight_root'].byte]) + job[ROOT_STEP.offset + 1:]
+
+
+MISTAKES += [(f'{name}, 0x22', tighter(job), words) for name, job, words in MISTAKES
+             if len(job) == len(GOOD) and job[ROOT_STEP.offset] == ROOT_STEP.command.byte]
 
 
 def main():
@@ -177,10 +199,11 @@ def main():
             if not named:
                 print('\n'.join('      ' + line for line in lines[-6:]))
         missed += not named
-    good = '\n'.join(explain.explanation(GOOD, Checked(GOOD)))
-    if 'mistake' in good or 'CAUTION' in good:
-        print('a good job is said to have a mistake')
-        missed += 1
+    for job in (GOOD, tighter(GOOD)):
+        good = '\n'.join(explain.explanation(job, Checked(job)))
+        if 'mistake' in good or 'CAUTION' in good:
+            print('a good job is said to have a mistake')
+            missed += 1
     print(f'{len(MISTAKES)} mistakes, {missed} not named')
     sys.exit(1 if missed else 0)
 

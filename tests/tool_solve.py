@@ -1,6 +1,6 @@
 """Tests of `ferruntzo solve`: every radius covers the error against the margin itself, sampled in exact
-arithmetic, for each shipped stretch and for random margins; mirrored margins give mirrored paths; and curves that cannot be
-used are named.
+arithmetic, for each shipped stretch and for random margins; mirrored margins give mirrored paths; a root is the command with
+the smaller radius; and curves that cannot be used are named.
 
   tool_solve.py [--tool tools/ferruntzo] [--jobcheck target/bin/jobcheck] [--samples K] [--seed N]
 """
@@ -20,9 +20,10 @@ ROOT = Path(__file__).resolve().parent.parent
 sys.path.insert(0, str(ROOT / 'tools'))
 
 import oracle                                                           # noqa: E402
+from ferruntzo_tool import arithmetic as ar                             # noqa: E402
 from ferruntzo_tool import covered, exact                               # noqa: E402
 from ferruntzo_tool import solve as solver                              # noqa: E402
-from ferruntzo_tool.arithmetic import Refused                           # noqa: E402
+from ferruntzo_tool.arithmetic import Refused, model                    # noqa: E402
 from ferruntzo_tool.curve import read_curve                             # noqa: E402
 from ferruntzo_tool.reading import Checked, split                       # noqa: E402
 from ferruntzo_tool.tables import MAX_DEGREE, S, is_load                # noqa: E402
@@ -75,7 +76,8 @@ def shipped(samples):
     whole = solver.cut_out(run, run[0].low, run[0].high)
     rows = [('stretch', margin, first, (13, 14), True), ('stretch32', margin, first, (13, 14), True),
             ('stretch32', margin, second, (27, 28), True), ('accident_covered', accident, whole, (13, 14), True),
-            ('accident_degree_12', accident, whole, (13, 14), True), ('accident', accident, whole, (13, 14), False)]
+            ('accident_degree_12', accident, whole, (13, 14), True), ('accident', accident, whole, (13, 14), False),
+            ('stretch_tight', margin, first, (13, 14), True), ('accident_tight', accident, whole, (13, 14), True)]
     for name, curve, stretch, results, good in rows:
         job = (ROOT / 'examples' / f'{name}.job').read_bytes()
         models = oracle.check_job(job)[2]
@@ -137,10 +139,53 @@ def load_error(solved, samples):
 
 class Options:
     degree = scale = stretches = None
+    only_0x21 = False
     limit_um = Fraction(1, 2)
 
 
+# ---- Which command a root is ----
+
+def radius_by(test, f, h, w):
+    try:
+        return test(f, h, w)['radius']
+    except Refused:
+        return None
+
+
+def chosen_root(f, roots=solver.ROOTS):
+    """The command of a root, and its radius by 0x21 and by 0x22 for the candidates that were found."""
+    job = solver.Job(roots)
+    job.root(job.load(f))
+    step = split(job.ended())[0][-2]
+    radii = [radius_by(test, f, step.values['h'], step.values['w']) for test in (ar.root, ar.tight_root)]
+    expect('the tool checks what it made', Checked(job.ended()).text() == job.text() and job.used == [step.command.name])
+    expect('the radius is that of the command', job.results[-1].radius == radii[step.command.name == 'tight_root'])
+    return step.command.name, *radii
+
+
+def chosen_roots(rng):
+    """0x22 where its radius is the smaller, 0x21 where the radii are equal or 0x22 refuses."""
+    for f in (model([4 * S]), model([S]), model([9 * S, 0, 0])):                # exact: both have radius 0
+        expect('equal radii: 0x21', chosen_root(f) == ('root', 0, 0), str(chosen_root(f)))
+    for radius in (40 * S, 60 * S, 80 * S):                                     # the least r would be above S
+        name, by_21, by_22 = chosen_root(model([224 * S], radius))
+        expect('0x22 refuses: 0x21', name == 'root' and by_21 is not None and by_22 is None, f'{name} {by_21} {by_22}')
+    for _ in range(20):
+        row = [rng.randrange(3 * S, 8 * S)] + [rng.randrange(-S // 6, S // 6) for _ in range(rng.randrange(12))]
+        f = model(row, rng.choice((0, 3, 500, 20000)))
+        name, by_21, by_22 = chosen_root(f)
+        expect('the smaller radius: 0x22', name == 'tight_root' and by_22 < by_21, f'{name} {by_21} {by_22}')
+        former, only, _ = chosen_root(f, solver.ROOTS[:1])
+        expect('0x22 is not allowed', former == 'root' and only > by_22, f'{former} {only} {by_22}')
+
+
+def without_22(solved, curve):
+    """The same stretch with no root by 0x22."""
+    return solver.solve_stretch(solved.stretch, curve.bur, curve.side, roots=solver.ROOTS[:1])
+
+
 def random_margins(rng, samples, folder, count):
+    smaller = 0
     for i in range(count):
         path = folder / 'curve.json'
         path.write_text(json.dumps(random_series(rng) if i % 3 else random_points(rng)))
@@ -151,6 +196,12 @@ def random_margins(rng, samples, folder, count):
             expect('radius of its loads', load_error(solved, samples))
             text = solved.job.text()
             expect('the oracle agrees', oracle.printed(solved.job.ended()) == text)
+            former = without_22(solved, curve)
+            expect('no root by 0x22', former.job.used == ['root'])
+            expect('with 0x22 the radius is not larger', solver.final(solved) <= solver.final(former),
+                   f'{solver.final(solved)} {solver.final(former)}')
+            smaller += solver.final(solved) < solver.final(former)
+    expect('with 0x22 the radius is smaller', smaller >= count, smaller)
 
 
 def mirrored_margins(rng, folder, count):
@@ -220,6 +271,9 @@ def commands(run, folder):
     line.write_text('{"bur_mm": 0.3, "series_mm": [{"x": [0, 1], "y": [0]}]}')
     rows = [
         (0, '1 stretch,', 'solve', examples / 'accident.json', '--verify', '40', '-o', folder / 'out'),
+        (0, ' 0x22 ', 'solve', examples / 'accident.json'),
+        (0, ' 0x21 ', 'solve', examples / 'accident.json', '--only-0x21', '-o', folder / 'former'),
+        (0, ' 0x21 ', 'solve', line),
         (1, 'BEYOND', 'solve', examples / 'accident.json', '--stretches', '1', '--degree', '12'),
         (0, '16 stretches,', 'solve', examples / 'margin.json', '--stretches', '4', '--limit-um', '0.02'),
         (0, 'against the margin itself', 'solve', examples / 'margin_points.txt', '--bur-mm', '0.6', '--verify', '10'),
@@ -234,8 +288,9 @@ def commands(run, folder):
         expect('status of solve', done.returncode == status, f'{told}: {done.returncode} {done.stderr[-300:]}')
         expect('words of solve', words in done.stdout + done.stderr,
                f'{told}: {done.stdout[-200:]} {done.stderr[-200:]}')
-    expect('jobs of solve are the examples', (folder / 'out/accident_0000.job').read_bytes()
-           == (examples / 'accident_covered.job').read_bytes())
+    for out, example in (('out', 'accident_tight'), ('former', 'accident_covered')):
+        expect('jobs of solve are the examples', (folder / out / 'accident_0000.job').read_bytes()
+               == (examples / f'{example}.job').read_bytes(), example)
     piece = '{"series_mm": [{"x": [%s], "y": [%s]}]}'
     bad = [
         ('{', 'no JSON'), ('{"points_mm": [[0, 0]]}', 'different points'), ('{"series_mm": [{"x": [1]}]}', '"y"'),
@@ -295,6 +350,7 @@ def main():
 
     rng = Random(options.seed)
     series(rng)
+    chosen_roots(Random(options.seed))
     shipped(options.samples)
     with tempfile.TemporaryDirectory() as name:
         random_margins(rng, 14, Path(name), options.margins)

@@ -82,7 +82,7 @@ pub const OUTCOME_SIZE: usize = 1;
 
 const RADIUS: usize = 34;
 
-/// The numbered refusals of document 01, and numbers 14 to 16 of document 02.
+/// The numbered refusals of document 01, and numbers 14 to 17 of document 02.
 #[derive(Clone, Copy, Debug, PartialEq, Eq, Hash)]
 #[repr(u32)]
 pub enum Refusal {
@@ -100,7 +100,7 @@ pub enum Refusal {
     LargeResidual = 6,
     /// The coefficients of a root's helper have a sum of 0 or below.
     HelperNotPositive = 7,
-    /// Root: (S − m)² < 8·b·M.
+    /// Root test: (S − m)² < 8·b·M.
     NegativeDiscriminant = 8,
     /// Unknown command, edition or kept degree; edition not first, or again.
     BadValue = 9,
@@ -118,11 +118,13 @@ pub enum Refusal {
     NotFinite = 15,
     /// The weight of a list turned into units is above 2^28.
     LargeProposal = 16,
+    /// Tighter root test: no whole r from 0 to S has 2·M·r² + b·S² ≤ (S − m)·S·r.
+    NoRadius = 17,
 }
 
 impl Refusal {
     /// All refusals, by rising number.
-    pub const ALL: [Refusal; 16] = [
+    pub const ALL: [Refusal; 17] = [
         Refusal::ShortArea,
         Refusal::BadModel,
         Refusal::LargeResult,
@@ -139,9 +141,10 @@ impl Refusal {
         Refusal::BadSeries,
         Refusal::NotFinite,
         Refusal::LargeProposal,
+        Refusal::NoRadius,
     ];
 
-    /// Its number, 1 to 16.
+    /// Its number, 1 to 17.
     pub fn number(self) -> u32 {
         self as u32
     }
@@ -162,7 +165,7 @@ impl fmt::Display for Refusal {
             Refusal::NotContracting => "helper too far from the inverse",
             Refusal::LargeResidual => "residual too large",
             Refusal::HelperNotPositive => "helper not positive",
-            Refusal::NegativeDiscriminant => "no radius for this root",
+            Refusal::NegativeDiscriminant => "negative discriminant of this root",
             Refusal::BadValue => "unknown command or value",
             Refusal::JobEnds => "the job ends early",
             Refusal::BytesAfterEnd => "bytes after the end",
@@ -171,6 +174,7 @@ impl fmt::Display for Refusal {
             Refusal::BadSeries => "bad series",
             Refusal::NotFinite => "a divisor begins with zero, or a value is not finite",
             Refusal::LargeProposal => "proposal too large",
+            Refusal::NoRadius => "no radius satisfies the tighter root test",
         };
         write!(f, "refused {}: {}", self.number(), reason)
     }
@@ -515,6 +519,31 @@ pub fn root(f: &Model, h: &Candidate, w: &Candidate) -> Result<Certificate, Refu
     Ok(Certificate { model, m, n, b })
 }
 
+/// The tighter root test: [`root`] up to N and b, with the least whole radius r from 0 to S for
+/// which 2·M·r² + b·S² ≤ (S − m)·S·r, where M is the weight of w. Where it accepts, `root`
+/// accepts too, with a radius that is never smaller; it can refuse what `root` accepts.
+///
+/// Refusals, in order: `BadModel`, `HelperNotPositive`, `NotContracting`, `LargeResidual`,
+/// `NoRadius`.
+///
+/// ```
+/// use ferruntzo::{root, tight_root, Candidate, Model, S};
+///
+/// // The square root of 4, a hundredth off: half the radius of the root test and a little more.
+/// let (f, h) = (Model::constant(4 * S), Candidate::constant(2 * S + S / 100));
+/// let w = Candidate::constant(S / 4);
+/// let (former, tighter) = (root(&f, &h, &w).unwrap(), tight_root(&f, &h, &w).unwrap());
+/// assert_eq!((former.model.radius(), tighter.model.radius()), (21130, 10619));
+/// ```
+pub fn tight_root(f: &Model, h: &Candidate, w: &Candidate) -> Result<Certificate, Refusal> {
+    let mut scratch = [0; SCRATCH_SIZE];
+    let mut model = Model::ZERO;
+    let mut numbers = [0; NUMBERS_SIZE];
+    areas::tight_root(&f.0, &h.0, &w.0, &mut scratch, &mut model.0, &mut numbers)?;
+    let [m, n, b] = numbers;
+    Ok(Certificate { model, m, n, b })
+}
+
 /// An accepted job: its results, 0 to 32 of them.
 #[derive(Clone, Debug, PartialEq, Eq)]
 pub struct CheckedJob {
@@ -705,6 +734,25 @@ pub mod areas {
         })
     }
 
+    /// The tighter root test, over the areas of [`root`].
+    pub fn tight_root(
+        f: &[i32],
+        h: &[i32],
+        w: &[i32],
+        scratch: &mut [i64],
+        out: &mut [i32],
+        numbers: &mut [u64],
+    ) -> Result<(), Refusal> {
+        // SAFETY: as in `add`.
+        accepted(unsafe {
+            raw::ferruntzo_tight_root(
+                f.as_ptr(), f.len(), h.as_ptr(), h.len(), w.as_ptr(), w.len(),
+                scratch.as_mut_ptr(), scratch.len(), out.as_mut_ptr(), out.len(),
+                numbers.as_mut_ptr(), numbers.len(),
+            )
+        })
+    }
+
     /// The check of a job; `work` has 1120 numbers, `scratch` 16, `answer` 2: count, command.
     ///
     /// `ShortArea` leaves `work` and `scratch` as they were, and an `answer` of 2 or more numbers at
@@ -761,6 +809,11 @@ mod raw {
             scratch: *mut i64, scratch_len: usize, answer: *mut u32, answer_len: usize,
         ) -> u32;
         pub fn ferruntzo_root(
+            f: *const i32, f_len: usize, h: *const i32, h_len: usize, w: *const i32, w_len: usize,
+            scratch: *mut i64, scratch_len: usize, out: *mut i32, out_len: usize,
+            numbers: *mut u64, numbers_len: usize,
+        ) -> u32;
+        pub fn ferruntzo_tight_root(
             f: *const i32, f_len: usize, h: *const i32, h_len: usize, w: *const i32, w_len: usize,
             scratch: *mut i64, scratch_len: usize, out: *mut i32, out_len: usize,
             numbers: *mut u64, numbers_len: usize,

@@ -43,6 +43,10 @@ fn root_of(result: u8, h: i32, w: i32) -> Vec<u8> {
     [&[0x21, result], &block(0, &[h])[..], &block(0, &[w])].concat()
 }
 
+fn tight_root_of(result: u8, h: i32, w: i32) -> Vec<u8> {
+    [&[0x22, result], &block(0, &[h])[..], &block(0, &[w])].concat()
+}
+
 fn job(commands: &[&[u8]]) -> Vec<u8> {
     [&[0x01, 1], &commands.concat()[..], &[0x00]].concat()
 }
@@ -130,6 +134,45 @@ fn p8_to_p10_roots() {
     assert_eq!(found.model, h.with_radius(S));
     assert_eq!(root(&Model::constant(2097151), &h, &w), Err(Refusal::NegativeDiscriminant));
     assert_eq!(root(&Model::constant(S), &h, &w), Err(Refusal::NegativeDiscriminant));
+}
+
+/// By the root test, and by the tighter one.
+type BothRoots = (Result<i32, Refusal>, Result<i32, Refusal>);
+
+/// Constants f with its radius, h and w, put to both root tests: their radii or refusals.
+fn both_roots(f: i32, e: i32, h: i32, w: i32) -> BothRoots {
+    let (f, h, w) = (model(&[f], e), Candidate::constant(h), Candidate::constant(w));
+    let radius = |found: Result<Certificate, Refusal>| {
+        found.map(|certificate| {
+            assert_eq!(certificate.model, h.with_radius(certificate.model.radius()));
+            certificate.model.radius()
+        })
+    };
+    let (former, tighter) = (root(&f, &h, &w), tight_root(&f, &h, &w));
+    if let (Ok(former), Ok(tighter)) = (former, tighter) {
+        assert_eq!((former.m, former.n, former.b), (tighter.m, tighter.n, tighter.b));
+    }
+    (radius(former), radius(tighter))
+}
+
+/// Document 02, S-22: the least radius, and candidates that only the root test accepts.
+#[test]
+fn tighter_roots() {
+    let (none, negative) = (Err(Refusal::NoRadius), Err(Refusal::NegativeDiscriminant));
+    assert_eq!(both_roots(4 * S, 0, 2 * S, S / 4), (Ok(0), Ok(0)));
+    assert_eq!(both_roots(4 * S, 0, 2 * S + 100, S / 4), (Ok(203), Ok(102)));
+    assert_eq!(both_roots(2 * S, 0, 2 * S, S / 4), (Ok(S), Ok(S)));
+    assert_eq!(both_roots(2 * S - 1, 0, 2 * S, S / 4), (negative, none));
+    // The least radius is (S − m)·S/(4·M) rounded up.
+    assert_eq!(both_roots(6366, 3182, 81708, 716408).1, Ok(40854));
+    assert_eq!(both_roots(15783, 0, 133844, 5908123).1, Ok(26129));
+    // It is S, and with b one more there is none.
+    assert_eq!(both_roots(6553600, 3 * S, 5 * HALF, 1), (Ok(1258292), Ok(S)));
+    assert_eq!(both_roots(6553600, 3 * S + 1, 5 * HALF, 1), (negative, none));
+    // b·S² is 2^64.
+    assert_eq!(both_roots(4, 1 << 16, 2048, 1 << 28), (negative, none));
+    assert_eq!(both_roots(224 * S, 0, 16 * S, S / 32), (Ok(2 * S), none));
+    assert_eq!(both_roots(116509, 0, 349526, 18), (Ok(174763), none));
 }
 
 #[test]
@@ -231,7 +274,7 @@ fn numbers_of_refusals() {
     for refusal in Refusal::ALL {
         assert_eq!(Refusal::from_number(refusal.number()), Some(refusal));
     }
-    for number in [0, 17, 255, u32::MAX] {
+    for number in [0, 18, 255, u32::MAX] {
         assert_eq!(Refusal::from_number(number), None);
     }
 }
@@ -324,15 +367,21 @@ fn refusals_of_tests() {
     assert_eq!(quotient(&four, &small, &zero, &helper), Err(Refusal::LargeResult));
 
     let (h, w) = (candidate(2 * S), candidate(S / 4));
-    assert_eq!(root(&four, &h, &candidate(LIMIT + 1)), Err(Refusal::BadModel));
-    assert_eq!(root(&four, &h, &zero), Err(Refusal::HelperNotPositive));
-    assert_eq!(
-        root(&four, &candidate(-2 * S), &candidate(-S / 4)),
-        Err(Refusal::HelperNotPositive)
-    );
-    assert_eq!(root(&four, &h, &candidate(S)), Err(Refusal::NotContracting));
-    assert_eq!(root(&f, &h, &w), Err(Refusal::LargeResidual));
+    for test in [root, tight_root] {
+        let large = model(&[4 * S], LIMIT + 1);
+        assert_eq!(test(&large, &h, &w), Err(Refusal::BadModel));
+        assert_eq!(test(&four, &bad, &w), Err(Refusal::BadModel));
+        assert_eq!(test(&four, &h, &candidate(LIMIT + 1)), Err(Refusal::BadModel));
+        assert_eq!(test(&four, &h, &zero), Err(Refusal::HelperNotPositive));
+        assert_eq!(
+            test(&four, &candidate(-2 * S), &candidate(-S / 4)),
+            Err(Refusal::HelperNotPositive)
+        );
+        assert_eq!(test(&four, &h, &candidate(S)), Err(Refusal::NotContracting));
+        assert_eq!(test(&f, &h, &w), Err(Refusal::LargeResidual));
+    }
     assert_eq!(root(&one, &h, &w), Err(Refusal::NegativeDiscriminant));
+    assert_eq!(tight_root(&one, &h, &w), Err(Refusal::NoRadius));
 }
 
 #[test]
@@ -343,7 +392,7 @@ fn refusals_of_jobs() {
     assert_eq!(refused(&[0x01, 2]), (9, 0));
     assert_eq!(refused(&[0x01, 1]), (10, 1));
     assert_eq!(refused(&job(&[&[0x01, 1]])), (9, 1));
-    assert_eq!(refused(&job(&[&[0x22]])), (9, 1));
+    assert_eq!(refused(&job(&[&[0x23]])), (9, 1));
     assert_eq!(refused(&example()[..300]), (10, 2));
     assert_eq!(refused(&[&example()[..], &[0]].concat()), (11, 3));
     assert_eq!(refused(&job(&[&four, &[0x11, 0, 1]])), (12, 2));
@@ -358,6 +407,33 @@ fn refusals_of_jobs() {
     assert_eq!(refused(&job(&[&four, &root_of(0, 2 * S, S)])), (5, 2));
     assert_eq!(refused(&job(&[&load(-LIMIT, 0), &root_of(0, 2 * S, S / 4)])), (6, 2));
     assert_eq!(refused(&job(&[&load(S, 0), &root_of(0, 2 * S, S / 4)])), (8, 2));
+}
+
+/// The tighter root test in jobs: beside the root test, as the 32nd and the 33rd result, and each refusal.
+#[test]
+fn tighter_roots_in_jobs() {
+    let (four, passes) = (load(4 * S, 0), tight_root_of(0, 2 * S + 100, S / 4));
+    let former = root_of(0, 2 * S + 100, S / 4);
+    let checked = check(&job(&[&four, &former, &passes, &[0x12, 1, 2]])).unwrap();
+    let radii: Vec<i32> = checked.results().map(|result| result.radius()).collect();
+    assert_eq!(radii, [0, 203, 102, 305]);
+    assert_eq!(checked.result(2), Some(model(&[2 * S + 100], 102)));
+
+    let many: Vec<&[u8]> = [vec![&four[..]], vec![&passes[..]; 32]].concat();
+    assert_eq!(check(&job(&many[..32])).unwrap().count(), 32);
+    assert_eq!(refused(&job(&many)), (13, 33));
+
+    let large = [load(224 * S, 0), root_of(0, 16 * S, S / 32)].concat();
+    assert_eq!(check(&job(&[&large])).unwrap().count(), 2);
+    assert_eq!(refused(&job(&[&large, &tight_root_of(0, 16 * S, S / 32)])), (17, 3));
+    assert_eq!(refused(&job(&[&load(S, 0), &tight_root_of(0, 2 * S, S / 4)])), (17, 2));
+    assert_eq!(refused(&job(&[&load(-LIMIT, 0), &tight_root_of(0, 2 * S, S / 4)])), (6, 2));
+    assert_eq!(refused(&job(&[&four, &tight_root_of(0, 2 * S, S)])), (5, 2));
+    assert_eq!(refused(&job(&[&four, &tight_root_of(0, -2 * S, -S / 4)])), (7, 2));
+    assert_eq!(refused(&job(&[&four, &tight_root_of(0, LIMIT + 1, S / 4)])), (2, 2));
+    assert_eq!(refused(&job(&[&four, &tight_root_of(1, 2 * S, S / 4)])), (12, 2));
+    let whole = job(&[&four, &passes]);
+    assert_eq!(refused(&whole[..whole.len() - 2]), (10, 2));
 }
 
 // ---- Areas ----
@@ -463,21 +539,30 @@ const SIZES: [usize; 7] = [
     NUMBERS_SIZE,
 ];
 
+/// The tests that take these areas.
+#[derive(Clone, Copy, Debug, PartialEq)]
+enum Test {
+    Quotient,
+    Root,
+    TightRoot,
+}
+
 /// A test of f = 1 and h = w = 1 (refused with 5 as a root) or w = 0, over areas of these lengths.
-fn call_test(root: bool, lengths: [usize; 7]) {
+fn call_test(test: Test, lengths: [usize; 7]) {
     let (one, zero) = (Model::constant(S), Model::ZERO);
+    let root = test != Test::Quotient;
     let (f, g) = (held(&one, lengths[0]), held(&one, lengths[1]));
     let (h, w) = (held(&one, lengths[2]), held(if root { &one } else { &zero }, lengths[3]));
     let (mut scratch, mut out) = (vec![WIDE; lengths[4]], vec![MARK; lengths[5]]);
     let mut numbers = vec![LONG; lengths[6]];
-    let found = if root {
-        areas::root(&f, &h, &w, &mut scratch, &mut out, &mut numbers)
-    } else {
-        areas::quotient(&f, &g, &h, &w, &mut scratch, &mut out, &mut numbers)
+    let found = match test {
+        Test::Quotient => areas::quotient(&f, &g, &h, &w, &mut scratch, &mut out, &mut numbers),
+        Test::Root => areas::root(&f, &h, &w, &mut scratch, &mut out, &mut numbers),
+        Test::TightRoot => areas::tight_root(&f, &h, &w, &mut scratch, &mut out, &mut numbers),
     };
     let short = (0..7).any(|i| lengths[i] < SIZES[i] && !(root && i == 1));
     let expected = if short { Refusal::ShortArea } else { Refusal::NotContracting };
-    assert_eq!(found, Err(expected), "root: {root}, lengths {lengths:?}");
+    assert_eq!(found, Err(expected), "{test:?}, lengths {lengths:?}");
     assert_eq!(scratch, zeroed(WIDE, lengths[4], SCRATCH_SIZE), "lengths {lengths:?}");
     assert_eq!(out, zeroed(MARK, lengths[5], MODEL_SIZE), "lengths {lengths:?}");
     assert_eq!(numbers, zeroed(LONG, lengths[6], NUMBERS_SIZE), "lengths {lengths:?}");
@@ -485,7 +570,7 @@ fn call_test(root: bool, lengths: [usize; 7]) {
 
 #[test]
 fn areas_of_tests() {
-    for root in [false, true] {
+    for test in [Test::Quotient, Test::Root, Test::TightRoot] {
         for i in 0..7 {
             for j in 0..7 {
                 for first in lengths(SIZES[i]) {
@@ -493,7 +578,7 @@ fn areas_of_tests() {
                         let mut told = SIZES;
                         told[i] = first;
                         told[j] = second;
-                        call_test(root, told);
+                        call_test(test, told);
                     }
                 }
             }
@@ -534,7 +619,7 @@ fn areas_of_accepted_calls() {
     }
 }
 
-/// An accepted job and an accepted root: what they answer, scratch zero, numbers behind as they were.
+/// An accepted job and a root that both tests accept: what they answer, scratch zero, numbers behind as they were.
 fn call_accepted(scratch_len: usize) {
     let mut scratch = vec![WIDE; scratch_len];
     let (mut work, mut answer) = (vec![MARK; WORK_SIZE + 3], [9u32; ANSWER_SIZE + 1]);
@@ -546,15 +631,17 @@ fn call_accepted(scratch_len: usize) {
     assert_eq!(work[WORK_SIZE..], [MARK; 3]);
     assert_eq!(scratch, zeroed(WIDE, scratch_len, SCRATCH_SIZE));
 
-    scratch.fill(WIDE);
-    let (mut out, mut numbers) = (vec![MARK; MODEL_SIZE + 1], [LONG; NUMBERS_SIZE + 1]);
-    let (f, h, w) =
-        (Model::constant(2 * S), Candidate::constant(2 * S), Candidate::constant(S / 4));
-    assert_eq!(areas::root(&f.0, &h.0, &w.0, &mut scratch, &mut out, &mut numbers), Ok(()));
-    assert_eq!(out[..MODEL_SIZE], *h.with_radius(S).numbers());
-    assert_eq!((out[MODEL_SIZE], numbers[NUMBERS_SIZE]), (MARK, LONG));
-    assert_eq!(numbers[..NUMBERS_SIZE], [0, 2 * S as u64, S as u64 / 2]);
-    assert_eq!(scratch, zeroed(WIDE, scratch_len, SCRATCH_SIZE));
+    for test in [areas::root, areas::tight_root] {
+        scratch.fill(WIDE);
+        let (mut out, mut numbers) = (vec![MARK; MODEL_SIZE + 1], [LONG; NUMBERS_SIZE + 1]);
+        let (f, h, w) =
+            (Model::constant(2 * S), Candidate::constant(2 * S), Candidate::constant(S / 4));
+        assert_eq!(test(&f.0, &h.0, &w.0, &mut scratch, &mut out, &mut numbers), Ok(()));
+        assert_eq!(out[..MODEL_SIZE], *h.with_radius(S).numbers());
+        assert_eq!((out[MODEL_SIZE], numbers[NUMBERS_SIZE]), (MARK, LONG));
+        assert_eq!(numbers[..NUMBERS_SIZE], [0, 2 * S as u64, S as u64 / 2]);
+        assert_eq!(scratch, zeroed(WIDE, scratch_len, SCRATCH_SIZE));
+    }
 }
 
 #[test]
@@ -562,4 +649,6 @@ fn texts() {
     assert_eq!(format!("{}", Refusal::BadModel), "refused 2: bad model or candidate");
     let text = format!("{}", check(&[]).unwrap_err());
     assert_eq!(text, "refused 10: the job ends early (command 0)");
+    let text = format!("{}", Refusal::NoRadius);
+    assert_eq!(text, "refused 17: no radius satisfies the tighter root test");
 }

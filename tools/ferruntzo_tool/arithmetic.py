@@ -1,6 +1,7 @@
-"""Exact whole-number arithmetic of the operations and the two tests, as docs/FORMAT.md states it."""
+"""Exact whole-number arithmetic of the operations and the tests, as docs/FORMAT.md states it."""
 
 from collections import namedtuple
+from math import isqrt
 
 from .tables import COEFFICIENTS, DEFAULT_KEPT, LIMIT, MAX_DEGREE, PLACES, S
 
@@ -89,14 +90,13 @@ def multiply(a, b, kept):
     return formed(model(rounded, up(lost, 2 * S)))
 
 
-def _tested(numbers, b_factor):
-    """The common end of the tests: m, N, then b."""
+def _displaced(numbers):
+    """What the tests share behind m, N and M: both are judged, then b is formed."""
     if numbers['m'] >= S:
         raise Refused(5, f'm is {numbers["m"]:,}, and must be below S = {S:,}', **numbers)
     if numbers['N'] > LIMIT:
         raise Refused(6, f'N is {numbers["N"]:,}, and must be at most 2^28 = {LIMIT:,}', **numbers)
     numbers['b'] = up(numbers['M'] * numbers['N'], S)
-    numbers['radius'] = up(b_factor * numbers['b'] * S, S - numbers['m'])
     return numbers
 
 
@@ -110,15 +110,16 @@ def quotient(f, g, h, w):
     for k, c in enumerate(f.coefficients):
         row[k] -= 2 * S * c
     n = up(weight(row) + 2 * S * f.radius + 2 * big_h * g.radius, 2 * S)
-    numbers = _tested({'m': m, 'N': n, 'M': big_m}, 1)
+    numbers = _displaced({'m': m, 'N': n, 'M': big_m})
+    numbers['radius'] = up(numbers['b'] * S, S - m)
     if numbers['radius'] > LIMIT:
         raise Refused(3, f'the radius would be {numbers["radius"]:,}, above 2^28 = {LIMIT:,}',
                       **numbers)
     return numbers
 
 
-def root(f, h, w):
-    """The numbers of the root test for the square root of f."""
+def root_numbers(f, h, w):
+    """M, m, N and b for the square root of f, which both root tests share."""
     total, big_m = sum(w.coefficients), weight(w.coefficients)
     row = products(w.coefficients, h.coefficients)
     row[0] -= S * S
@@ -131,12 +132,60 @@ def root(f, h, w):
     if total <= 0:
         raise Refused(7, f'the sum of the coefficients of w is {total:,}, and must be above 0',
                       **numbers)
-    _tested(numbers, 2)
-    numbers['left'], numbers['right'] = (S - m) ** 2, 8 * numbers['b'] * big_m
-    if numbers['left'] < numbers['right']:
-        raise Refused(8, f'8·b·M is {numbers["right"]:,}, and must be at most (S-m)² = '
-                         f'{numbers["left"]:,}', **numbers)
-    return numbers
+    return _displaced(numbers)
+
+
+def discriminant(numbers):
+    """(S-m)² and 8·b·M; the root test passes if the second is not the larger."""
+    return (S - numbers['m']) ** 2, 8 * numbers['b'] * numbers['M']
+
+
+def by_discriminant(numbers):
+    """The end of the root test (0x21), with its radius."""
+    left, right = discriminant(numbers)
+    if left < right:
+        raise Refused(8, f'8·b·M is {right:,}, and must be at most (S-m)² = {left:,}', **numbers)
+    return {**numbers, 'radius': up(2 * numbers['b'] * S, S - numbers['m'])}
+
+
+def sides(numbers, r):
+    """2·M·r² + b·S² and (S-m)·S·r; r satisfies if the first is not the larger."""
+    return 2 * numbers['M'] * r * r + numbers['b'] * S * S, (S - numbers['m']) * S * r
+
+
+def satisfies(numbers, r):
+    left, right = sides(numbers, r)
+    return left <= right
+
+
+def least_radius(numbers):
+    """The least whole r from 0 to S that satisfies, or None."""
+    # Over the reals those from (c - √d)/(4·M) to (c + √d)/(4·M) satisfy. c - 4·M·r is whole, so it is at most
+    # √d exactly if it is at most isqrt(d).
+    c = (S - numbers['m']) * S
+    d = c * c - 8 * numbers['M'] * numbers['b'] * S * S
+    if d < 0:
+        return None
+    r = up(c - isqrt(d), 4 * numbers['M'])
+    return r if r <= S and satisfies(numbers, r) else None
+
+
+def by_least_radius(numbers):
+    """The end of the tighter root test (0x22), with its radius."""
+    r = least_radius(numbers)
+    if r is None:
+        raise Refused(17, f'no whole r from 0 to S = {S:,} has 2·M·r² + b·S² <= (S-m)·S·r', **numbers)
+    return {**numbers, 'radius': r}
+
+
+def root(f, h, w):
+    """The numbers of the root test for the square root of f."""
+    return by_discriminant(root_numbers(f, h, w))
+
+
+def tight_root(f, h, w):
+    """The numbers of the tighter root test for the square root of f."""
+    return by_least_radius(root_numbers(f, h, w))
 
 
 def value(coefficients, x):

@@ -107,6 +107,8 @@ def parser():
 
     made = command('solve', 'make jobs for the path of a bur beside a margin',
                    epilog='CURVE is a JSON file, or lines of x y in mm; docs/FORMAT.md has its form.\n\n'
+                   'The column root says which command a root is: 0x22 (the tighter root test) where its radius\n'
+                   'is the smaller, else 0x21 (the root test).\n\n'
                    'exit status: 0 all jobs within the limit, 1 some are not, 2 nothing made')
     made.add_argument('curve', metavar='CURVE')
     made.add_argument('-o', '--output', metavar='FOLDER', help='where the jobs go, in place of those '
@@ -119,6 +121,8 @@ def parser():
                       '(default: the best for each stretch)')
     made.add_argument('--scale', type=int, metavar='K', help='the normal is multiplied by 2^K '
                       '(default: as large as fits)')
+    made.add_argument('--only-0x21', action='store_true', help='no root is 0x22: for mills whose jobcheck is older '
+                      'than version 3.2.0')
     made.add_argument('--limit-um', metavar='X', default=DEFAULT_LIMIT)
     made.add_argument('--verify', type=count(1, 100000), metavar='K', default=0,
                       help='compare with the margin itself at K + 1 points of each stretch, exactly')

@@ -5,9 +5,10 @@ from itertools import zip_longest
 
 from . import arithmetic as ar
 from . import covered, misfit, misread, program
+from .arithmetic import Refused
 from .program import NotChecked
 from .reading import Checked, blocks_of
-from .tables import DEFAULT_KEPT, LIMIT, REFUSAL, S, in_micrometres, is_load, is_root
+from .tables import DEFAULT_KEPT, LIMIT, REFUSAL, S, in_micrometres, is_load, is_root, is_tight
 
 
 def share(n, d):
@@ -33,23 +34,63 @@ def block_line(name, m):
             f'(values up to {plain(ar.weight(m.coefficients))})')
 
 
+def passes(good):
+    return 'passes' if good else 'FAILS'
+
+
+def discriminant_line(n):
+    """The last condition of the root test."""
+    left, right = ar.discriminant(n)
+    return (f'(S-m)² = {left:,}, must be at least 8·b·M = {right:,}: {passes(left >= right)} '
+            f'({share(right, left) if left else "none"} used)')
+
+
+def radius_lines(n):
+    """The last condition of the tighter root test: at the least r and below it, or that there is none."""
+    def at(r):
+        left, right = ar.sides(n, r)
+        return f'r = {r:,}: 2·M·r² + b·S² = {left:,}, (S-m)·S·r = {right:,}'
+    r = ar.least_radius(n)
+    if r is None:
+        # The difference of the two sides is least at one of the two whole numbers about (S-m)·S/(4·M).
+        v = (S - n['m']) * S // (4 * n['M'])
+        yield f'2·M·r² + b·S² must be at most (S-m)·S·r for a whole r from 0 to S: {passes(False)}; it comes nearest at'
+        yield from ('  ' + at(r) for r in sorted({min(v, S), min(v + 1, S)}))
+        return
+    yield 'the radius is the least whole r from 0 to S with 2·M·r² + b·S² at most (S-m)·S·r:'
+    yield f'  {at(r)}: {passes(True)}'
+    if r:
+        yield f'  {at(r - 1)}: does not pass, nor does any r below it'
+
+
+def other_line(n, tight):
+    """What the other root test says of the same candidates."""
+    name, end = (('the root test (0x21)', ar.by_discriminant) if tight else
+                 ('the tighter root test (0x22)', ar.by_least_radius))
+    try:
+        radius = end(n)['radius']
+    except Refused as refused:
+        return f'{name} refuses the same candidates, with {refused.number}'
+    return f'{name} accepts the same candidates, with radius {radius:,} ({in_micrometres(radius)})'
+
+
 def test_lines(outcome):
     """The numbers of a test against their limits."""
     n, root = outcome.numbers, is_root(outcome.step)
     if not n:
         return
-    def passes(good):
-        return 'passes' if good else 'FAILS'
     inverse = '|1 - 2·w·h|' if root else '|1 - w·g|'
     yield (f'm = {n["m"]:,}, must be below S = {S:,}: {passes(n["m"] < S)} ({inverse} is at most '
            f'{share(n["m"], S)})')
     yield (f'N = {n["N"]:,}, must be at most {LIMIT:,}: {passes(n["N"] <= LIMIT)} '
            f'({"|h² - f|" if root else "|g·h - f|"} is at most {plain(n["N"])})')
-    if 'b' in n:
-        yield f'b = {n["b"]:,} (M, the weight of w, is {n["M"]:,})'
-    if 'right' in n:
-        yield (f'(S-m)² = {n["left"]:,}, must be at least 8·b·M = {n["right"]:,}: '
-               f'{passes(n["left"] >= n["right"])} ({share(n["right"], n["left"]) if n["left"] else "none"} used)')
+    if 'b' not in n:
+        return
+    yield f'b = {n["b"]:,} (M, the weight of w, is {n["M"]:,})'
+    if root:
+        tight = is_tight(outcome.step)
+        yield from radius_lines(n) if tight else [discriminant_line(n)]
+        yield other_line(n, tight)
 
 
 def outcome_lines(outcome):

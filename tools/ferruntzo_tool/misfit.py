@@ -223,7 +223,7 @@ def causes(job, checked):
              'units: it may be in millimetres, and must be in units of 2^-20 mm'
              for outcome in checked.outcomes if is_load(outcome.step) and outcome.model
              and outcome.model.degree and ar.weight(outcome.model.coefficients) < TINY]
-    if checked.refusal in (2, 3, 5, 6, 7, 8) and checked.outcomes:
+    if checked.refusal in (2, 3, 5, 6, 7, 8, 17) and checked.outcomes:
         step = checked.outcomes[-1].step
         lines += tried(job, checked, step.number, lambda radius: True)
         if checked.refusal != 2 and is_test(step):

@@ -43,12 +43,16 @@ def walk(job, block_bytes, radius_bytes, chosen):
 
 
 def other_layouts(job, at):
-    """Layouts with which the job ends well: everywhere, else at the refused command or the one before."""
+    """Layouts with which the job ends well: everywhere, else, if it does not end well as it is, at the refused command or
+    the one before."""
     for name, block_bytes, radius_bytes in LAYOUTS:
         number, ended = walk(job, block_bytes, radius_bytes, lambda number, name: True)
         if ended and number > 1:
             yield f'read so, the job ends well: {name}'
             return
+    # A job that ends well as it is has no block of another length.
+    if walk(job, None, None, lambda number, name: False)[1]:
+        return
     for place in (at, at - 1):
         for block in ('radius', 'h', 'w', 'model'):
             for name, block_bytes, radius_bytes in LAYOUTS:
@@ -107,7 +111,7 @@ def causes(job, checked):
         found.append('the end is missing: a job ends with the byte 00')
     if checked.refusal in (2, 9, 10, 11, 12, 13) or checked.command < 3:
         found += other_layouts(job, checked.command)
-    if checked.refusal in (3, 5, 6, 8, 12):
+    if checked.refusal in (3, 5, 6, 8, 12, 17):
         lowered = counted_from_one(job)
         other = Checked(lowered) if lowered is not None else checked
         if other.accepted or (checked.refusal == 12 and other.command > checked.command):

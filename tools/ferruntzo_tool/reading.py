@@ -129,6 +129,7 @@ RULES = {
     'multiply': lambda v, r: (ar.multiply(r[v['a']], r[v['b']], v['kept']), {}),
     'quotient': lambda v, r: _tested(v, ar.quotient(r[v['f']], r[v['g']], v['h'], v['w'])),
     'root': lambda v, r: _tested(v, ar.root(r[v['f']], v['h'], v['w'])),
+    'tight_root': lambda v, r: _tested(v, ar.tight_root(r[v['f']], v['h'], v['w'])),
 }
 
 

@@ -20,6 +20,7 @@ from .tables import BY_NAME, LIMIT, MAX_DEGREE, S, in_micrometres
 
 SHORTEST = 1 << 8               # parameters; a stretch is not cut below twice that
 PRECISION = 1 << 120            # of lengths in verify
+ROOTS = tuple(candidates.ROOT_ENDS)     # the commands for a root
 
 Stretch = namedtuple('Stretch', 'low high parts')       # parts: (low, high, x, y) in their own -1..1
 Solved = namedtuple('Solved', 'stretch job results loads scale bur sign')
@@ -115,10 +116,11 @@ def largest_scale(stretch, degree):
 # ---- The job of a stretch ----
 
 class Job:
-    """Commands with the models that they give."""
+    """Commands with the models that they give; `roots` are the commands that a root may be."""
 
-    def __init__(self):
+    def __init__(self, roots=ROOTS):
         self.bytes, self.results = bytearray(write_step(BY_NAME['edition'], {'edition': 1})), []
+        self.roots, self.used = roots, []
 
     def _made(self, name, values, result):
         self.bytes += write_step(BY_NAME[name], values)
@@ -144,8 +146,9 @@ class Job:
         return self._made('quotient', {'f': f, 'g': g, 'h': h, 'w': w}, h._replace(radius=numbers['radius']))
 
     def root(self, f):
-        h, w, numbers = candidates.root(self.results[f])
-        return self._made('root', {'f': f, 'h': h, 'w': w}, h._replace(radius=numbers['radius']))
+        h, w, numbers = candidates.root(self.results[f], self.roots)
+        self.used.append(numbers['command'])
+        return self._made(numbers['command'], {'f': f, 'h': h, 'w': w}, h._replace(radius=numbers['radius']))
 
     def ended(self):
         return bytes(self.bytes) + write_step(BY_NAME['end'], {})
@@ -186,8 +189,8 @@ def add_stretch(job, bur, stretch, side, degree=None, scale=None, kept=MAX_DEGRE
     return add_loads(job, bur, loads, kept), loads, scale
 
 
-def solve_stretch(stretch, bur, side, degree=None, scale=None, kept=MAX_DEGREE):
-    job = Job()
+def solve_stretch(stretch, bur, side, degree=None, scale=None, kept=MAX_DEGREE, roots=ROOTS):
+    job = Job(roots)
     at = job.load(bur_load(bur))
     _, loads, scale = add_stretch(job, at, stretch, side, degree, scale, kept)
     return Solved(stretch, job, job.results, loads, scale, bur, 1 if side == 'left' else -1)
@@ -258,8 +261,10 @@ def uniform(run, count):
 
 
 def solve(curve, bur, side, options):
+    roots = ('root',) if options.only_0x21 else ROOTS
+
     def make(stretch):
-        return solve_stretch(stretch, bur, side, options.degree, options.scale)
+        return solve_stretch(stretch, bur, side, options.degree, options.scale, roots=roots)
     for run in curve.runs:
         if options.stretches is None:
             yield from refine(run, run[0].low, run[-1].high, make, options.limit_um)
@@ -269,16 +274,17 @@ def solve(curve, bur, side, options):
                 yield from refine(run, low, high, make, None)
 
 
-HEAD = 'stretch  degrees      scale  load radii: x, y, normal   radius, units           µm'
+HEAD = 'stretch  degrees      scale  load radii: x, y, normal  root   radius, units           µm'
 
 
 def row(i, solved, error):
     loads, worst = solved.loads, final(solved)
     degrees = ' '.join(str(m.degree) for m in loads)
     radii = f'{loads[0].radius}, {loads[1].radius}, {max(m.radius for m in loads[2:])}'
+    root, = (f'0x{BY_NAME[name].byte:02x}' for name in solved.job.used)
     told = '' if error is None else f'   largest error against the margin {error:.3f} units'
-    return (f'{i:>7}  {degrees:<12} {solved.scale:>5}  {radii:<24} {worst:>15,} {in_micrometres(worst)[:-3]:>12}'
-            + told)
+    return (f'{i:>7}  {degrees:<12} {solved.scale:>5}  {radii:<24}  {root} {worst:>15,} '
+            f'{in_micrometres(worst)[:-3]:>12}' + told)
 
 
 def write_jobs(folder, stem, jobs):
@@ -310,7 +316,7 @@ def main(options):
             answer = program.run(checker, job, name)
             if answer.text != solved.job.text():
                 raise NotChecked(f'{name}: jobcheck does not print what was solved for; is it the '
-                                 'program of this version?')
+                                 'program of this version? (--only-0x21 makes jobs for those older than 3.2.0)')
             error = verified(solved, options.verify) if options.verify else None
             if error is not None and error > final(solved):
                 raise NotChecked(f'{name}: the error against the margin, {error:.3f} units, is above '

@@ -33,6 +33,8 @@ COMMANDS = [
             'quotient: result {f} over result {g}'),
     Command(0x21, 'root', (('result', 'f'), ('block', 'h'), ('block', 'w')), True,
             'square root of result {f}'),
+    Command(0x22, 'tight_root', (('result', 'f'), ('block', 'h'), ('block', 'w')), True,
+            'square root of result {f} (tighter root test)'),
 ]
 BY_BYTE = {command.byte: command for command in COMMANDS}
 BY_NAME = {command.name: command for command in COMMANDS}
@@ -49,6 +51,10 @@ def is_test(step):
 
 def is_root(step):
     return is_test(step) and 'g' not in step.values
+
+
+def is_tight(step):
+    return step.command.name == 'tight_root'
 
 
 def width(command):
@@ -77,8 +83,8 @@ REFUSALS = [
     Refusal(7, 'HELPER_NOT_POSITIVE', 'the helper of a root is not positive (sum of w_k <= 0)',
             'take the positive root, and w = 1/(2h)'),
     Refusal(8, 'NEGATIVE_DISCRIMINANT', 'the proposed root fits too badly ((S-m)^2 < 8bM)',
-            'bring h nearer to the root; keep the number under the root, and its radius, away '
-            'from zero'),
+            'bring h nearer to the root and w nearer to 1/(2h); make the radius of f smaller; keep f, with its '
+            'radius, away from zero: take a shorter stretch. The tighter root test (0x22) refuses it too'),
     Refusal(9, 'BAD_VALUE', 'an unknown command, edition or kept degree, or an edition that is '
             'missing or comes again',
             'look for a command written with a wrong width, so that an operand is read as a command'),
@@ -97,6 +103,11 @@ REFUSALS = [
     Refusal(16, 'LARGE_PROPOSAL', 'the weight of a made proposal, in units, is above 2^28',
             'rescale, or take a shorter stretch, on which the divisor keeps away from zero; a job never '
             'causes it'),
+    Refusal(17, 'NO_RADIUS', 'the proposed root fits too badly for the tighter root test (no whole r from 0 '
+            'to S satisfies it)',
+            'bring h nearer to the root and w nearer to 1/(2h); make the radius of f smaller; keep f, with its '
+            'radius, away from zero: take a shorter stretch. Or take the root test (0x21) where it accepts the same '
+            'candidates: the lines about this command in `ferruntzo explain` say so'),
 ]
 REFUSAL = {refusal.number: refusal for refusal in REFUSALS}
 

@@ -11,6 +11,7 @@ pub mod QuotientConditions
 pub mod QuotientSound
 pub mod QuotientTheorem
 pub mod QuotientIntegral
+pub mod LeastAlgebra
 pub mod RootAlgebra
 pub mod RootConditions
 pub mod RootRadius
@@ -20,5 +21,7 @@ pub mod NumbersStages
 pub mod RootStages
 pub mod Discriminant
 pub mod RootEnd
+pub mod TightTheorem
 pub mod Examples
+pub mod TightExamples
 pub mod GroupExamples

@@ -1,4 +1,4 @@
-// The quotient test and the root test: a posteriori validation of proposed candidates over a lent scratch.
+// The quotient test and the root tests: a posteriori validation of proposed candidates over a lent scratch.
 mod numbers;
 pub mod quotient;
 mod residual;

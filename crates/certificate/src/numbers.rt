@@ -1,4 +1,4 @@
-// Document 01's numbers of the two tests, m, N and b, and the radii, over a part of the scratch of any length from 1.
+// Document 01's numbers of the tests, m, N and b, and the radii, over a part of the scratch of any length from 1.
 ghost use mathlib.Core.Path.{_≡_};
 ghost use mathlib.Core.Bool.{true};
 ghost use Prim.Native.Nat.{suc, _+_, _*_, _-_, _≤_, _<_, _^_};

@@ -1,4 +1,4 @@
-// The root test: is h a square root of f, with w as a helper?
+// The root tests: is h a square root of f, with w as a helper?
 ghost use mathlib.Core.Path.{_≡_};
 ghost use Prim.Native.Nat.{_<_};
 ghost use lib.ListN.{length};
@@ -14,6 +14,7 @@ use crate::numbers::root_radius;
 use crate::numbers::root_residual;
 use crate::scratch::clear_scratch;
 use crate::types::RootNumbers;
+use crate::types::RootRule;
 use crate::types::SCRATCH_SIZE;
 use crate::types::TestOutcome;
 use model::measure::measure;
@@ -22,6 +23,8 @@ use model::types::COEFFICIENTS;
 use model::types::Candidate;
 use model::types::Model;
 use model::types::Refusal;
+use radius::least_radius::least_radius;
+use radius::types::FoundRadius;
 
 // Σ w_k
 fn total(coefficients: &[i32; COEFFICIENTS]) -> i64
@@ -99,10 +102,10 @@ pub(crate) fn root_numbers(f: Model, h: Candidate, w: Candidate, scratch: &mut [
     numbers
 }
 
-// Discriminant and radius. 8·b·M may pass 64 bits, so b is compared with (S-m)² / (8·M). The result is never too large.
-fn root_result(h: Candidate, weight: u64, m: u64, n: u64, b: u64) -> TestOutcome
+// Command 0x21's discriminant and radius, never too large. 8·b·M may pass 64 bits, so b is compared with (S-m)² / (8·M).
+fn by_discriminant(h: Candidate, weight: u64, m: u64, n: u64, b: u64) -> TestOutcome
     requires { ⌜ RootLast (candidateModel h) weight m b ⌝ }
-    ensures { λ (r : TestOutcome). ⌜ testOf r ≡ rootEnd (candidateModel h) weight m n b ⌝ }
+    ensures { λ (r : TestOutcome). ⌜ testOf r ≡ rootEnd RootRule.ByDiscriminant (candidateModel h) weight m n b ⌝ }
 {
     let gap = SCALE - m;
     if b <= gap * gap / (8 * weight) {
@@ -113,8 +116,37 @@ fn root_result(h: Candidate, weight: u64, m: u64, n: u64, b: u64) -> TestOutcome
     }
 }
 
-pub fn root(f: Model, h: Candidate, w: Candidate, scratch: &mut [i64]) -> TestOutcome
-    ensures { λ (r : TestOutcome). ⌜ testOf r ≡ rootTest (length (now (scratch .entry))) f h w ⌝ }
+// Command 0x22's least radius. It is at most S, so the result is never too large.
+fn by_least_radius(h: Candidate, weight: u64, m: u64, n: u64, b: u64) -> TestOutcome
+    requires { ⌜ RootLast (candidateModel h) weight m b ⌝ }
+    ensures { λ (r : TestOutcome). ⌜ testOf r ≡ rootEnd RootRule.ByLeastRadius (candidateModel h) weight m n b ⌝ }
+{
+    let least = least_radius(weight, m, b);
+    match least {
+        FoundRadius::Found(radius) => TestOutcome::accepted(h, radius as u32, m, n, b),
+        FoundRadius::Missing => TestOutcome::refused(Refusal::NoRadius),
+    }
+}
+
+// The places behind N and b.
+fn root_result(rule: RootRule, h: Candidate, weight: u64, m: u64, n: u64, b: u64) -> TestOutcome
+    requires { ⌜ RootLast (candidateModel h) weight m b ⌝ }
+    ensures { λ (r : TestOutcome). ⌜ testOf r ≡ rootEnd rule (candidateModel h) weight m n b ⌝ }
+{
+    match rule {
+        RootRule::ByDiscriminant => by_discriminant(h, weight, m, n, b),
+        RootRule::ByLeastRadius => by_least_radius(h, weight, m, n, b),
+    }
+}
+
+pub fn root(
+    rule: RootRule,
+    f: Model,
+    h: Candidate,
+    w: Candidate,
+    scratch: &mut [i64],
+) -> TestOutcome
+    ensures { λ (r : TestOutcome). ⌜ testOf r ≡ rootTest rule (length (now (scratch .entry))) f h w ⌝ }
     ensures { λ _. ⌜ now (scratch .exit) ≡ scratchAfter (now (scratch .entry)) ⌝ }
 {
     let numbers = root_numbers(f, h, w, scratch);
@@ -125,6 +157,6 @@ pub fn root(f: Model, h: Candidate, w: Candidate, scratch: &mut [i64]) -> TestOu
             contraction: m,
             residual: n,
             displacement: b,
-        } => root_result(h, weight, m, n, b),
+        } => root_result(rule, h, weight, m, n, b),
     }
 }

@@ -1,4 +1,4 @@
-// What a test answers.
+// What a test answers, and the rules of the root tests.
 ghost use mathlib.Core.Path.{_≡_};
 ghost use mathlib.Core.Bool.{true};
 ghost use Rattle.model.specs.definitions.Models.{good, candidateModel};
@@ -74,7 +74,13 @@ impl TestOutcome {
     }
 }
 
-// The root test up to N and b: refused, or M, m, N and b.
+// What is asked of a root behind N and b, and its radius: command 0x21's discriminant and radius, or command 0x22's least radius.
+pub enum RootRule {
+    ByDiscriminant,
+    ByLeastRadius,
+}
+
+// A root test up to N and b: refused, or M, m, N and b.
 pub(crate) enum RootNumbers {
     Refused(Refusal),
     Reached {

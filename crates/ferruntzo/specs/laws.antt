@@ -1,2 +1,3 @@
 pub mod ScratchLaws
+pub mod TightLaws
 pub mod Examples

@@ -1,4 +1,4 @@
-// The quotient test and the root test over lent areas; if an area is too short, refusal 1 and zeros.
+// The quotient test and the root tests over lent areas; if an area is too short, refusal 1 and zeros.
 ghost use mathlib.Core.Path.{_≡_};
 ghost use mathlib.Core.List.{List};
 ghost use lib.IntN.{ℤ};
@@ -12,6 +12,7 @@ use crate::areas::store_numbers;
 use certificate::quotient::quotient;
 use certificate::root::root;
 use certificate::scratch::clear_scratch;
+use certificate::types::RootRule;
 use certificate::types::SCRATCH_SIZE;
 use certificate::types::TestOutcome;
 use model::area::CANDIDATE_SIZE;
@@ -86,6 +87,34 @@ pub extern "C" fn ferruntzo_quotient(
     }
 }
 
+// A root test by its rule.
+fn root_in(
+    rule: RootRule,
+    f: &[i32],
+    h: &[i32],
+    w: &[i32],
+    scratch: &mut [i64],
+    out: &mut [i32],
+    numbers: &mut [u64],
+) -> u32
+    ensures { λ r. ⌜ testAnswer r (now (scratch .exit)) (now (out .exit)) (now (numbers .exit))
+        ≡ rootAnswer rule (now (f .entry)) (now (h .entry)) (now (w .entry))
+        (now (scratch .entry)) (now (out .entry)) (now (numbers .entry)) ⌝ }
+{
+    if (MODEL_SIZE <= f.len())
+        & (CANDIDATE_SIZE <= h.len())
+        & (CANDIDATE_SIZE <= w.len())
+        & (SCRATCH_SIZE <= scratch.len())
+        & (MODEL_SIZE <= out.len())
+        & (NUMBERS_SIZE <= numbers.len())
+    {
+        let test = root(rule, model_in(f), candidate_in(h), candidate_in(w), scratch);
+        answer_test(test, out, numbers)
+    } else {
+        refuse_test(scratch, out, numbers)
+    }
+}
+
 // Is h a square root of f, with w as a helper?
 #[no_mangle]
 pub extern "C" fn ferruntzo_root(
@@ -97,19 +126,25 @@ pub extern "C" fn ferruntzo_root(
     numbers: &mut [u64],
 ) -> u32
     ensures { λ r. ⌜ testAnswer r (now (scratch .exit)) (now (out .exit)) (now (numbers .exit))
-        ≡ rootAnswer (now (f .entry)) (now (h .entry)) (now (w .entry))
+        ≡ rootAnswer RootRule.ByDiscriminant (now (f .entry)) (now (h .entry)) (now (w .entry))
         (now (scratch .entry)) (now (out .entry)) (now (numbers .entry)) ⌝ }
 {
-    if (MODEL_SIZE <= f.len())
-        & (CANDIDATE_SIZE <= h.len())
-        & (CANDIDATE_SIZE <= w.len())
-        & (SCRATCH_SIZE <= scratch.len())
-        & (MODEL_SIZE <= out.len())
-        & (NUMBERS_SIZE <= numbers.len())
-    {
-        let test = root(model_in(f), candidate_in(h), candidate_in(w), scratch);
-        answer_test(test, out, numbers)
-    } else {
-        refuse_test(scratch, out, numbers)
-    }
+    root_in(RootRule::ByDiscriminant, f, h, w, scratch, out, numbers)
+}
+
+// The same, with the least radius.
+#[no_mangle]
+pub extern "C" fn ferruntzo_tight_root(
+    f: &[i32],
+    h: &[i32],
+    w: &[i32],
+    scratch: &mut [i64],
+    out: &mut [i32],
+    numbers: &mut [u64],
+) -> u32
+    ensures { λ r. ⌜ testAnswer r (now (scratch .exit)) (now (out .exit)) (now (numbers .exit))
+        ≡ rootAnswer RootRule.ByLeastRadius (now (f .entry)) (now (h .entry)) (now (w .entry))
+        (now (scratch .entry)) (now (out .entry)) (now (numbers .entry)) ⌝ }
+{
+    root_in(RootRule::ByLeastRadius, f, h, w, scratch, out, numbers)
 }

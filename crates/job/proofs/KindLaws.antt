@@ -48,7 +48,7 @@ operation-agrees Add = record { names-inside = omega arith; values-inside = omeg
 operation-agrees Subtract = record { names-inside = omega arith; values-inside = omega arith; named = λ job at count. refl }
 operation-agrees Multiply = record { names-inside = omega arith; values-inside = omega arith; named = λ job at count. refl }
 operation-agrees Quotient = record { names-inside = omega arith; values-inside = omega arith; named = λ job at count. refl }
-operation-agrees Root = record { names-inside = omega arith; values-inside = omega arith; named = λ job at count. refl }
+operation-agrees (Root rule) = record { names-inside = omega arith; values-inside = omega arith; named = λ job at count. refl }
 
 pub agrees : (kind : Kind) → Agrees kind
 agrees End = record { names-inside = omega arith; values-inside = omega arith; named = λ job at count. refl }

@@ -1,11 +1,12 @@
 // The command byte decides a command's shape: its kind, the width of its operands, and what reading asks of them.
 ghost use mathlib.Core.Path.{_≡_};
-ghost use Rattle.job.specs.definitions.Decode.{shapeOf};
+ghost use Rattle.job.specs.definitions.Decode.{shapeWith, shapeOf};
 use crate::types::Kind;
 use crate::types::Names;
 use crate::types::OperandValues;
 use crate::types::Operation;
 use crate::types::Shape;
+use certificate::types::RootRule;
 
 const UNKNOWN: Shape = Shape {
     kind: Kind::Unknown,
@@ -13,6 +14,18 @@ const UNKNOWN: Shape = Shape {
     names: Names::Nothing,
     values: OperandValues::Any,
 };
+
+// The two root commands have the same operands.
+fn root_shape(rule: RootRule) -> Shape
+    ensures { λ (r : Shape). ⌜ r ≡ shapeWith (Kind.Result (Operation.Root rule)) ⌝ }
+{
+    Shape {
+        kind: Kind::Result(Operation::Root(rule)),
+        width: 267,
+        names: Names::One,
+        values: OperandValues::Any,
+    }
+}
 
 pub(crate) fn shape_of(b: u8) -> Shape
     ensures { λ (r : Shape). ⌜ r ≡ shapeOf b ⌝ }
@@ -62,12 +75,8 @@ pub(crate) fn shape_of(b: u8) -> Shape
             names: Names::Two,
             values: OperandValues::Any,
         },
-        0x21 => Shape {
-            kind: Kind::Result(Operation::Root),
-            width: 267,
-            names: Names::One,
-            values: OperandValues::Any,
-        },
-        0x22..=0xff => UNKNOWN,
+        0x21 => root_shape(RootRule::ByDiscriminant),
+        0x22 => root_shape(RootRule::ByLeastRadius),
+        0x23..=0xff => UNKNOWN,
     }
 }

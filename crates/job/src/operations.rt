@@ -15,6 +15,7 @@ use crate::bytes::read_model;
 use crate::bytes::read_unsigned;
 use crate::types::Operation;
 use crate::work::stored_result;
+use certificate::types::RootRule;
 use certificate::types::TestOutcome;
 use model::types::Model;
 use model::types::ModelOutcome;
@@ -116,15 +117,16 @@ fn quotient(job: &[u8], at: usize, work: &[i32], scratch: &mut [i64]) -> TestOut
     certificate::quotient::quotient(o.first, o.second, h, w, scratch)
 }
 
-fn root(job: &[u8], at: usize, work: &[i32], scratch: &mut [i64]) -> TestOutcome
-    requires { ⌜ Operable Operation.Root (now job) at (now work) × Clear (now scratch) ⌝ }
-    ensures { λ (r : TestOutcome). ⌜ Performs (makerAt Operation.Root (now (job .entry)) at) (now (work .entry)) (testOf r) ⌝ }
+fn root(rule: RootRule, job: &[u8], at: usize, work: &[i32], scratch: &mut [i64]) -> TestOutcome
+    requires { ⌜ Operable (Operation.Root rule) (now job) at (now work) × Clear (now scratch) ⌝ }
+    ensures { λ (r : TestOutcome).
+        ⌜ Performs (makerAt (Operation.Root rule) (now (job .entry)) at) (now (work .entry)) (testOf r) ⌝ }
     ensures { λ _. ⌜ now (scratch .exit) ≡ now (scratch .entry) ⌝ }
 {
     let f = named(job, at + 1, work);
     let h = read_candidate(job, at + 2);
     let w = read_candidate(job, at + 135);
-    certificate::root::root(f, h, w, scratch)
+    certificate::root::root(rule, f, h, w, scratch)
 }
 
 // The operation of a command that makes a result.
@@ -145,6 +147,6 @@ pub(crate) fn operate(
         Operation::Subtract => subtract(job, at, work),
         Operation::Multiply => multiply(job, at, work),
         Operation::Quotient => quotient(job, at, work, scratch),
-        Operation::Root => root(job, at, work, scratch),
+        Operation::Root(rule) => root(rule, job, at, work, scratch),
     }
 }

@@ -1,4 +1,5 @@
 // The kinds of commands, and what the check of a job answers.
+use certificate::types::RootRule;
 use model::types::Refusal;
 
 // The operations of the commands that make a result.
@@ -8,7 +9,7 @@ pub enum Operation {
     Subtract,
     Multiply,
     Quotient,
-    Root,
+    Root(RootRule),
 }
 
 // A command is the end, the edition or one that makes a result.

@@ -39,6 +39,7 @@ pub enum Refusal {
     BadSeries,
     NotFinite,
     LargeProposal,
+    NoRadius,
 }
 
 // How an operation ends.
@@ -80,6 +81,7 @@ pub fn number_of(refusal: Refusal) -> u32
         Refusal::BadSeries => 14,
         Refusal::NotFinite => 15,
         Refusal::LargeProposal => 16,
+        Refusal::NoRadius => 17,
     }
 }
 

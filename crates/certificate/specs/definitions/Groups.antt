@@ -1,4 +1,4 @@
--- Document 02, S-17: "Let quotient and root tests do with a scratch of 16, forming the list C in groups." The tests of 01 once
+-- Document 02, S-17: "Let quotient and root tests do with a scratch of 16, forming the list C in groups." The tests once
 -- more, for any group length.
 use mathlib.Core.List.{List, [], _∷_, _++_}
 use Prim.Native.Nat.{ℕ, zero, suc, _+_, _*_, _-_, min, max}
@@ -13,7 +13,8 @@ use Rattle.model.specs.definitions.Outcomes.{Outcome, outcome}
 use Rattle.model.specs.declared.types.Model.{Model}
 use Rattle.certificate.specs.definitions.Tests.{scratchPlace, Certificate, zeroCertificate}
 use Rattle.certificate.specs.definitions.Quotient.{quotientPlacesFor, quotientCertificateFor}
-use Rattle.certificate.specs.definitions.Root.{RootRule, rootPlacesFor, rootRulePlaces, rootCertificateFor}
+use Rattle.certificate.specs.definitions.Root.{rootPlacesFor, rootRulePlaces, rootCertificateFor}
+use Rattle.certificate.specs.declared.types.RootRule.{RootRule}
 
 -- ---- groups
 
@@ -71,7 +72,7 @@ unfoldable pub quotientInGroups : ℕ → ℕ → ℕ → Model → Model → Mo
 quotientInGroups size need len f g h w =
     quotientFor need len (quotientContractionIn size g w) (quotientResidualIn size f g h) f g h w
 
--- ---- the root test
+-- ---- the root tests
 
 abbrev pub rootFor : RootRule → ℕ → ℕ → ℕ → ℕ → Model → Model → Model → Outcome Certificate
 rootFor rule need len m n f h w =

@@ -15,6 +15,7 @@ use Rattle.model.specs.declared.types.Candidate.{Candidate}
 use Rattle.certificate.specs.definitions.Tests.{Certificate, makeCertificate, zeroCertificate, withRadius, displacement}
 use Rattle.certificate.specs.definitions.Groups.{group}
 use Rattle.certificate.specs.definitions.Root.{rootPlaces, rootLastPlaces, rootModel, rootContraction, rootResidual}
+use Rattle.certificate.specs.declared.types.RootRule.{RootRule}
 use Rattle.certificate.specs.declared.types.RootNumbers.{RootNumbers}
 use Rattle.certificate.specs.declared.types.RootNumbers.the-variants.{Refused, Reached}
 
@@ -90,10 +91,10 @@ abbrev pub formedTest : Model → ℕ → ℕ → ℕ → ℕ → Outcome Certif
 formedTest h e m n b = tested (largePlace (withRadius h e) ∷ []) (withRadius h e) m n b
 
 -- of a root test after N and b, where M is the weight of w
-abbrev pub rootEnd : Model → ℕ → ℕ → ℕ → ℕ → Outcome Certificate
-rootEnd h M m n b = tested (rootLastPlaces h M m b) (rootModel h m b) m n b
+abbrev pub rootEnd : RootRule → Model → ℕ → ℕ → ℕ → ℕ → Outcome Certificate
+rootEnd rule h M m n b = tested (rootLastPlaces rule h M m b) (rootModel rule h M m b) m n b
 
--- ---- the root test up to N and b: refused with a number, or M, m, N and b
+-- ---- a root test up to N and b: refused with a number, or M, m, N and b
 
 pub record Reach : Type 0 where
   pub M : ℕ

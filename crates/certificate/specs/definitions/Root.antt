@@ -1,5 +1,6 @@
--- Document 01, "The two tests", in its whole numbers: the root test. "Candidates are h (the answer) and w (a helper); M and H
--- are the weights of w and h." C( , ) is the whole list, nothing dropped; "inside weight( ) a bare number stands at place 0".
+-- Document 01, "The two tests", in its whole numbers: the root test; and that of document 02, S-22. "Candidates are h (the
+-- answer) and w (a helper); M and H are the weights of w and h." C( , ) is the whole list, nothing dropped; "inside weight( ) a
+-- bare number stands at place 0".
 use mathlib.Core.Bool.{Bool}
 use mathlib.Core.List.{List, [], _∷_, _++_}
 use Prim.Native.Nat.{ℕ, _+_, _*_, _-_}
@@ -12,10 +13,13 @@ use Rattle.chebyshev.specs.definitions.Coefficients.{weight, subtractLists, sca
 use Rattle.model.specs.definitions.Models.{scale, candidateModel, badPlace, largePlace}
 use Rattle.model.specs.definitions.Outcomes.{Outcome, outcome}
 use Rattle.model.specs.definitions.Multiply.{productList}
+use Rattle.radius.specs.definitions.LeastRadius.{leastRadius, isMissing, radiusOf}
 use Rattle.model.specs.declared.types.Model.{Model}
 use Rattle.model.specs.declared.types.Candidate.{Candidate}
 use Rattle.certificate.specs.definitions.Tests.{scratchSize, scratchPlace, withRadius, displacement}
 use Rattle.certificate.specs.definitions.Tests.{Certificate, makeCertificate, zeroCertificate, testPlaces}
+use Rattle.certificate.specs.declared.types.RootRule.{RootRule}
+use Rattle.certificate.specs.declared.types.RootRule.the-variants.{ByDiscriminant, ByLeastRadius}
 
 -- "m = up(weight(S² − C(w,h))/S)"
 unfoldable pub rootContraction : Model → Model → ℕ
@@ -29,36 +33,43 @@ rootResidual f h =
     + 2 * scale * f .radius)
     (2 * scale)
 
--- "Result h with radius up(2·b·S/(S−m))"
-unfoldable pub rootModel : Model → ℕ → ℕ → Model
-rootModel h m b = withRadius h (upℕ (2 * b * scale) (scale - m))
-
 -- Root of f, for m and N, behind the place of the scratch and through N: the places that every root command shares; "root:
 -- helper", 7, "Σ w_k ≤ 0"
 abbrev pub rootPlacesFor : ℕ → ℕ → Model → Model → Model → List (Bool × ℕ)
 rootPlacesFor m n f h w =
     badPlace f ∷ badPlace h ∷ badPlace w ∷ (leZ (coefficientSum (w .coefficients)) (pos 0), 7) ∷ testPlaces m n
 
--- behind them 8, "(S−m)² < 8·b·M", and the result; M is the weight of w
-abbrev pub negativeDiscriminant : ℕ → ℕ → ℕ → Bool
-negativeDiscriminant m b M = ltb ((scale - m) * (scale - m)) (8 * b * M)
+-- ---- behind N and b: what command 0x21 asks, in 01, and command 0x22, in 02, S-22; M is the weight of w
 
-abbrev pub rootLastPlaces : Model → ℕ → ℕ → ℕ → List (Bool × ℕ)
-rootLastPlaces h M m b = (negativeDiscriminant m b M, 8) ∷ largePlace (rootModel h m b) ∷ []
+-- 0x21: 8, "(S−m)² < 8·b·M". 0x22: "Once the sign of w, m and N have passed, it is refused exactly if no such r exists."
+-- "(Number 17: no such r, in place of 8 for this command.)"
+abbrev pub rulePlace : RootRule → ℕ → ℕ → ℕ → Bool × ℕ
+rulePlace ByDiscriminant M m b = (ltb ((scale - m) * (scale - m)) (8 * b * M), 8)
+rulePlace ByLeastRadius M m b = (isMissing (leastRadius M m b), 17)
 
--- by which rule a root is accepted behind N, and with which radius
-pub data RootRule : Type 0 where
-  byDiscriminant : RootRule
+-- 0x21: "radius up(2·b·S/(S−m))". 0x22: "Its radius is the least whole r from 0 to S with 2·M·r² + b·S² ≤ (S−m)·S·r."
+abbrev pub ruleRadius : RootRule → ℕ → ℕ → ℕ → ℕ
+ruleRadius ByDiscriminant M m b = upℕ (2 * b * scale) (scale - m)
+ruleRadius ByLeastRadius M m b = radiusOf (leastRadius M m b)
 
--- "The test: Σ w_k > 0, m < S, N ≤ 2^28, (S−m)² ≥ 8·b·M."
+-- "Result h with radius"
+unfoldable pub rootModel : RootRule → Model → ℕ → ℕ → ℕ → Model
+rootModel rule h M m b = withRadius h (ruleRadius rule M m b)
+
+abbrev pub rootLastPlaces : RootRule → Model → ℕ → ℕ → ℕ → List (Bool × ℕ)
+rootLastPlaces rule h M m b = rulePlace rule M m b ∷ largePlace (rootModel rule h M m b) ∷ []
+
 abbrev pub rootRulePlaces : RootRule → ℕ → ℕ → Model → Model → List (Bool × ℕ)
-rootRulePlaces byDiscriminant m n h w = rootLastPlaces h (weight (w .coefficients)) m (displacement w n)
+rootRulePlaces rule m n h w = rootLastPlaces rule h (weight (w .coefficients)) m (displacement w n)
 
 -- what is given behind them
 abbrev pub rootCertificateFor : RootRule → ℕ → ℕ → Model → Model → Certificate
-rootCertificateFor byDiscriminant m n h w = let b = displacement w n in makeCertificate (rootModel h m b) m n b
+rootCertificateFor rule m n h w =
+    let b = displacement w n in makeCertificate (rootModel rule h (weight (w .coefficients)) m b) m n b
 
--- the same for the m and N above
+-- ---- the tests
+
+-- places and certificate, for the m and N above
 abbrev pub rootPlacesBehind : RootRule → Model → Model → Model → List (Bool × ℕ)
 rootPlacesBehind rule f h w =
     let m = rootContraction h w in
@@ -84,5 +95,5 @@ unfoldable pub rootPlaces : ℕ → Model → Model → Model → List (Bool × 
 rootPlaces len f h w = scratchPlace scratchSize len ∷ rootPlacesFor (rootContraction h w) (rootResidual f h) f h w
 
 -- the entry's definition. "A candidate is a model without a radius (taken as 0)."
-abbrev pub rootTest : ℕ → Model → Candidate → Candidate → Outcome Certificate
-rootTest len f h w = rootOutcome byDiscriminant len f (candidateModel h) (candidateModel w)
+abbrev pub rootTest : RootRule → ℕ → Model → Candidate → Candidate → Outcome Certificate
+rootTest rule len f h w = rootOutcome rule len f (candidateModel h) (candidateModel w)

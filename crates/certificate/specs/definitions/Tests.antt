@@ -1,5 +1,5 @@
--- Document 01, "The two tests", in its whole numbers: what both share. "Candidates are h (the answer) and w (a helper); M and H
--- are the weights of w and h."
+-- Document 01, "The two tests", in its whole numbers: what the tests share. "Candidates are h (the answer) and w (a helper); M
+-- and H are the weights of w and h."
 use mathlib.Core.Bool.{Bool, cond}
 use mathlib.Core.List.{List, [], _∷_, _++_}
 use Prim.Native.Nat.{ℕ, _*_}

@@ -1,4 +1,4 @@
--- Document 01, "The two tests", once more, with the list C( , ) formed by its two sums, place by place.
+-- Document 01, "The two tests", and document 02, S-22, once more, with the list C( , ) formed by its two sums, place by place.
 use mathlib.Core.List.{List, [], _∷_}
 use Prim.Native.Nat.{ℕ, _+_, _*_, _-_, _^_, _≤_, _<_}
 use lib.IntN.{ℤ, pos}
@@ -7,8 +7,10 @@ use Rattle.integer.specs.definitions.Integer.{ℤ-ring}
 use Rattle.integer.specs.definitions.Rounding.{upℕ}
 use Rattle.chebyshev.specs.definitions.Coefficients.{weight, subtractLists, scaleList, coefficientSum}
 use Rattle.chebyshev.specs.definitions.TwoSums.{tabulate, twoSums}
-use Rattle.model.specs.definitions.Models.{scale, productSize}
+use Rattle.model.specs.definitions.Models.{scale, productSize, makeModel}
+use Rattle.radius.specs.definitions.LeastRadius.{RadiusSatisfies, IsLeast}
 use Rattle.model.specs.declared.types.Model.{Model}
+use Rattle.certificate.specs.definitions.Tests.{Certificate, makeCertificate}
 
 -- C_0, …, C_64: "C_k = Σ a_i·b_j over i+j = k, plus Σ a_i·b_j over |i−j| = k; a pair that meets both conditions counts twice."
 unfoldable pub twoSumsList : List ℤ → List ℤ → List ℤ
@@ -70,8 +72,26 @@ root-b f h w = upℕ (weight (w .coefficients) * root-N f h) scale
 unfoldable pub rootRadius : Model → Model → Model → ℕ
 rootRadius f h w = upℕ (2 * root-b f h w * scale) (scale - root-m h w)
 
+-- the sign of w, m and N have passed
+abbrev pub RootNumbersHold : Model → Model → Model → Type 0
+RootNumbersHold f h w = (pos 0 <ℤ coefficientSum (w .coefficients)) × (root-m h w < scale) × (root-N f h ≤ 2 ^ 28)
+
 -- "The test: Σ w_k > 0, m < S, N ≤ 2^28, (S−m)² ≥ 8·b·M."
 abbrev pub RootHolds : Model → Model → Model → Type 0
 RootHolds f h w =
-    (pos 0 <ℤ coefficientSum (w .coefficients)) × (root-m h w < scale) × (root-N f h ≤ 2 ^ 28)
+    RootNumbersHold f h w
     × (8 * root-b f h w * weight (w .coefficients) ≤ (scale - root-m h w) * (scale - root-m h w))
+
+-- "Result h with radius", and m, N and b
+abbrev pub rootGiven : Model → Model → Model → ℕ → Certificate
+rootGiven f h w r = makeCertificate (makeModel (h .degree) (h .coefficients) r) (root-m h w) (root-N f h) (root-b f h w)
+
+-- ---- the tighter root test
+
+-- 02, S-22: "2·M·r² + b·S² ≤ (S−m)·S·r"
+abbrev pub TightSatisfies : Model → Model → Model → ℕ → Type 0
+TightSatisfies f h w r = RadiusSatisfies (weight (w .coefficients)) (root-m h w) (root-b f h w) r
+
+-- "Its radius is the least whole r from 0 to S" with that
+abbrev pub TightHolds : Model → Model → Model → ℕ → Type 0
+TightHolds f h w r = RootNumbersHold f h w × IsLeast (weight (w .coefficients)) (root-m h w) (root-b f h w) r

@@ -20,7 +20,8 @@ use Rattle.chebyshev.specs.definitions.Product.{product, addAtBy, addPairBy, ad
 use Rattle.model.specs.definitions.Models.{scale, good, tooLarge, makeModel, constantModel, zeroModel}
 use Rattle.model.specs.definitions.Multiply.{productList}
 use Rattle.model.specs.definitions.Outcomes.{number, passing}
-use Rattle.certificate.specs.definitions.Root.{byDiscriminant, rootOutcome, rootNeeding, rootPlaces, rootContraction, rootResidual, rootModel}
+use Rattle.certificate.specs.definitions.Root.{rootOutcome, rootNeeding, rootPlaces, rootContraction, rootResidual, rootModel}
+use Rattle.certificate.specs.declared.types.RootRule.the-variants.{ByDiscriminant}
 use Rattle.certificate.specs.definitions.Tests.{displacement}
 
 pub discriminant-quotient : (b M m : ℕ) → 0 < M → (8 * b * M ≤ (scale - m) * (scale - m)) ↔ (b ≤ (scale - m) * (scale - m) / (8 * M))
@@ -61,7 +62,7 @@ numbers e =
     let n = rootResidual f h in
     let b = displacement w n in
     let d = 8 * b * weight (w .coefficients) in
-    m ∷ n ∷ b ∷ d ∷ (d % 2 ^ 64) ∷ ((scale - m) * (scale - m)) ∷ number (rootOutcome byDiscriminant 16 f h w) ∷ []
+    m ∷ n ∷ b ∷ d ∷ (d % 2 ^ 64) ∷ ((scale - m) * (scale - m)) ∷ number (rootOutcome ByDiscriminant 16 f h w) ∷ []
 
 pub wrapped-discriminant : (numbers 0 ∷ numbers 4 ∷ [])
     ≡ (0 ∷ (2 ^ 28 - 4) ∷ (2 ^ 36 - 2 ^ 10) ∷ (2 ^ 67 - 2 ^ 41) ∷ (2 ^ 64 - 2 ^ 41) ∷ 2 ^ 40 ∷ 8 ∷ [])

@@ -11,7 +11,8 @@ use Rattle.model.specs.definitions.Outcomes.{accepted, refused, passing}
 use Rattle.model.specs.declared.types.Model.{Model}
 use Rattle.model.specs.definitions.Multiply.{productList}
 use Rattle.certificate.specs.definitions.Tests.{makeCertificate, zeroCertificate, displacement}
-use Rattle.certificate.specs.definitions.Root.{byDiscriminant, rootOutcome, rootNeeding, rootPlaces, rootContraction, rootResidual, rootModel}
+use Rattle.certificate.specs.definitions.Root.{rootOutcome, rootNeeding, rootPlaces, rootContraction, rootResidual, rootModel}
+use Rattle.certificate.specs.declared.types.RootRule.the-variants.{ByDiscriminant}
 use Rattle.certificate.specs.definitions.Quotient.{quotientOutcome, quotientNeeding, quotientContraction, quotientResidual, quotientModel}
 
 abbrev h : Model
@@ -25,10 +26,10 @@ abbrev pub Benchmarks : Type 0
 Benchmarks =
     (quotientOutcome 16 (constantModel (pos 1048576)) (constantModel (pos 3145728)) (constantModel (pos 349525)) (constantModel (pos 349525))
     ≡ accepted (makeCertificate (makeModel 0 (pos 349525 ∷ replicate 32 (pos 0)) 2) 1 1 1))
-    × (rootOutcome byDiscriminant 16 (constantModel (pos 2097152)) h w
+    × (rootOutcome ByDiscriminant 16 (constantModel (pos 2097152)) h w
     ≡ accepted (makeCertificate (makeModel 0 (pos 2097152 ∷ replicate 32 (pos 0)) 1048576) 0 2097152 524288))
-    × (rootOutcome byDiscriminant 16 (constantModel (pos 2097151)) h w ≡ refused 8 zeroCertificate)
-    × (rootOutcome byDiscriminant 16 (constantModel (pos 1048576)) h w ≡ refused 8 zeroCertificate)
+    × (rootOutcome ByDiscriminant 16 (constantModel (pos 2097151)) h w ≡ refused 8 zeroCertificate)
+    × (rootOutcome ByDiscriminant 16 (constantModel (pos 1048576)) h w ≡ refused 8 zeroCertificate)
 
 pub benchmarks : Benchmarks
 unfolding quotientNeeding rootNeeding rootPlaces quotientContraction quotientResidual quotientModel rootContraction rootResidual rootModel displacement coefficientSum productList passing good tooLarge constantModel zeroModel weight addLists subtractLists scaleList addAtBy addPairBy addTermBy addTermsBy product upℕ

@@ -12,7 +12,8 @@ use Rattle.model.specs.definitions.Outcomes.{Outcome, accepted, refused, passin
 use Rattle.model.specs.declared.types.Model.{Model}
 use Rattle.certificate.specs.definitions.Tests.{Certificate, makeCertificate, zeroCertificate, displacement}
 use Rattle.certificate.specs.definitions.Quotient.{quotientNeeding, quotientModel}
-use Rattle.certificate.specs.definitions.Root.{byDiscriminant, rootNeeding, rootModel}
+use Rattle.certificate.specs.definitions.Root.{rootNeeding, rootModel}
+use Rattle.certificate.specs.declared.types.RootRule.the-variants.{ByDiscriminant}
 use Rattle.certificate.specs.definitions.Groups.{productGroup, weightInGroups, groupCount, constantInGroups, differenceInGroups, quotientInGroups, rootInGroups}
 
 -- (1 + 2·T_1)·(3 + 4·T_1), twice, is 14 + 20·T_1 + 8·T_2; the last group of 16 has one place, and five reach it
@@ -40,7 +41,7 @@ in-groups = (refl, refl, refl)
 
 -- the root of 2 with h = 2 and w = 1/4, whose discriminant is 0, in groups
 abbrev rootBy : ℕ → Outcome Certificate
-rootBy size = rootInGroups byDiscriminant size 16 16 (constantModel (pos 2097152)) (constantModel (pos 2097152)) (constantModel (pos 262144))
+rootBy size = rootInGroups ByDiscriminant size 16 16 (constantModel (pos 2097152)) (constantModel (pos 2097152)) (constantModel (pos 262144))
 
 abbrev rootGives : Outcome Certificate
 rootGives = accepted (makeCertificate (makeModel 0 (pos 2097152 ∷ replicate 32 (pos 0)) 1048576) 0 2097152 524288)
@@ -56,7 +57,7 @@ bad = constantModel (pos 268435457)
 pub needed :
     (quotientNeeding 65 64 bad bad bad bad ≡ refused 1 zeroCertificate)
     × (quotientNeeding 65 65 bad bad bad bad ≡ refused 2 zeroCertificate)
-    × (rootNeeding byDiscriminant 65 64 bad bad bad ≡ refused 1 zeroCertificate)
-    × (rootNeeding byDiscriminant 65 65 bad bad bad ≡ refused 2 zeroCertificate)
+    × (rootNeeding ByDiscriminant 65 64 bad bad bad ≡ refused 1 zeroCertificate)
+    × (rootNeeding ByDiscriminant 65 65 bad bad bad ≡ refused 2 zeroCertificate)
 unfolding quotientNeeding rootNeeding passing good constantModel weight
 needed = (refl, refl, refl, refl)

@@ -13,7 +13,8 @@ use Rattle.model.specs.definitions.Multiply.{productList}
 use Rattle.model.specs.declared.types.Model.{Model}
 use Rattle.certificate.specs.definitions.Tests.{scratchSize}
 use Rattle.certificate.specs.definitions.Quotient.{quotientContraction, quotientResidual, quotientNeeding, quotientOutcome}
-use Rattle.certificate.specs.definitions.Root.{RootRule, rootContraction, rootResidual, rootNeeding, rootOutcome}
+use Rattle.certificate.specs.definitions.Root.{rootContraction, rootResidual, rootNeeding, rootOutcome}
+use Rattle.certificate.specs.declared.types.RootRule.{RootRule}
 use Rattle.certificate.specs.definitions.Groups.{quotientFor, quotientInGroups, rootFor, rootInGroups}
 use Rattle.certificate.specs.definitions.InnerContracts.{refusedTest}
 use Rattle.certificate.specs.laws.Stages.{quotient-needs, root-needs}
@@ -44,7 +45,7 @@ module _ (f g h w : Model) where
     pub quotient-groups-as-65 : (size : ℕ) → 0 < size → quotientInGroups size scratchSize len f g h w ≡ quotientNeeding productSize former f g h w
     quotient-groups-as-65 size some = quotient-groups size some scratchSize len ∙ quotient-as-65
 
--- ---- the root test
+-- ---- the root tests
 
 module _ (rule : RootRule) (f h w : Model) where
   pub root-below-16 : (len : ℕ) → len < scratchSize → rootOutcome rule len f h w ≡ refusedTest 1

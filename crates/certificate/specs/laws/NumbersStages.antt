@@ -1,4 +1,4 @@
--- The root test up to N and b, place by place. `len` is the length of the scratch.
+-- A root test up to N and b, place by place. `len` is the length of the scratch.
 use mathlib.Core.Path.{_≡_}
 use mathlib.Core.Bool.{true, false, _&&_}
 use mathlib.Core.List.{List}

@@ -1,4 +1,4 @@
--- The lists whose weights the two tests take: elements, weights, and a group of places and the rest.
+-- The lists whose weights the tests take: elements, weights, and a group of places and the rest.
 use mathlib.Core.Path.{_≡_, ap, ap₂, _∙_}
 use mathlib.Core.List.{List, [], _∷_, _++_}
 use Prim.Native.Nat.{ℕ, suc, _+_, _*_, _≤_, max}

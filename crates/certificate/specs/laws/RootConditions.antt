@@ -1,5 +1,5 @@
--- The places of the root test as facts, and the result of a test that passes.
-use mathlib.Core.Path.{_≡_, refl}
+-- The places of the root tests as facts, and the result of a test that passes.
+use mathlib.Core.Path.{_≡_, refl, ap}
 use mathlib.Core.Logic.{_↔_}
 use mathlib.Core.Bool.{Bool, true, false}
 use Prim.Native.Nat.{ℕ, _*_, _-_, _≤_, _<_}
@@ -14,16 +14,20 @@ use Rattle.chebyshev.specs.definitions.Coefficients.{weight, coefficientSum}
 use Rattle.model.specs.definitions.Models.{scale, maxRadius, good, tooLarge}
 use Rattle.model.specs.definitions.Outcomes.{accepted, Passed}
 use Rattle.model.specs.laws.PlaceLaws.{outcome-passed, outcome-accepted, not-of-true, passed-append}
+use Rattle.radius.specs.definitions.LeastRadius.{leastRadius, isMissing, IsLeast}
+use Rattle.radius.specs.laws.LeastLaws.{found-is, least-found, least-is}
 use Rattle.model.specs.declared.types.Model.{Model}
 use Rattle.certificate.specs.definitions.Tests.{scratchSize, displacement, Certificate, zeroCertificate}
-use Rattle.certificate.specs.definitions.Root.{rootPlaces, rootLastPlaces, rootModel, rootContraction, rootResidual, byDiscriminant, rootTestPlaces, rootCertificate, rootOutcome, rootNeeding}
+use Rattle.certificate.specs.definitions.Root.{rootPlaces, rulePlace, ruleRadius, rootLastPlaces, rootModel, rootContraction, rootResidual, rootTestPlaces, rootCertificate, rootOutcome, rootNeeding}
+use Rattle.certificate.specs.declared.types.RootRule.{RootRule}
+use Rattle.certificate.specs.declared.types.RootRule.the-variants.{ByDiscriminant, ByLeastRadius}
 
 -- b and the result of the test
 abbrev pub rootDisplacement : Model → Model → Model → ℕ
 rootDisplacement f h w = displacement w (rootResidual f h)
 
-abbrev pub rootResult : Model → Model → Model → Model
-rootResult f h w = rootModel h (rootContraction h w) (rootDisplacement f h w)
+abbrev pub rootResult : RootRule → Model → Model → Model → Model
+rootResult rule f h w = rootModel rule h (weight (w .coefficients)) (rootContraction h w) (rootDisplacement f h w)
 
 -- refusals 1, 2 three times, 7, 5 and 6 are not due
 pub record NumbersConditions (len : ℕ) (f h w : Model) : Type 0 where
@@ -35,10 +39,19 @@ pub record NumbersConditions (len : ℕ) (f h w : Model) : Type 0 where
   pub contraction : rootContraction h w < scale
   pub residual : rootResidual f h ≤ maxRadius
 
--- nor is 8
-pub record RootConditions (len : ℕ) (f h w : Model) : Type 0 where
+-- what a rule asks behind N and b: that 8, or 17, is not due
+abbrev pub RuleHolds : RootRule → ℕ → ℕ → ℕ → Type 0
+RuleHolds ByDiscriminant M m b = 8 * b * M ≤ (scale - m) * (scale - m)
+RuleHolds ByLeastRadius M m b = IsLeast M m b (ruleRadius ByLeastRadius M m b)
+
+pub rule-holds : (rule : RootRule) (M m b : ℕ) → (rulePlace rule M m b .0 ≡ false) ↔ RuleHolds rule M m b
+rule-holds ByDiscriminant M m b = (λ e. ltb-false _ _ e, λ d. le-ltb _ _ d)
+rule-holds ByLeastRadius M m b =
+    (λ e. least-found M m b _ (found-is (leastRadius M m b) e), λ l. ap isMissing (least-is M m b _ l))
+
+pub record RootConditions (rule : RootRule) (len : ℕ) (f h w : Model) : Type 0 where
   pub numbers : NumbersConditions len f h w
-  pub discriminant : 8 * rootDisplacement f h w * weight (w .coefficients) ≤ (scale - rootContraction h w) * (scale - rootContraction h w)
+  pub holds : RuleHolds rule (weight (w .coefficients)) (rootContraction h w) (rootDisplacement f h w)
 
 positive-above : (z : ℤ) → pos 0 <ℤ z → leZ z (pos 0) ≡ false
 positive-above z h = pick (leZ z (pos 0)) refl
@@ -63,27 +76,33 @@ module _ (len : ℕ) (f h w : Model) where
     λ c. search (le-ltb, lt-leb, not-of-true, positive-above) depth 20,
   )
 
+module _ (rule : RootRule) (len : ℕ) (f h w : Model) where
   -- the test passes exactly where these hold and the result is not too large
-  pub root-conditions : Passed (rootTestPlaces byDiscriminant scratchSize len f h w) ↔ (RootConditions len f h w × (tooLarge (rootResult f h w) ≡ false))
+  pub root-conditions : Passed (rootTestPlaces rule scratchSize len f h w) ↔ (RootConditions rule len f h w × (tooLarge (rootResult rule f h w) ≡ false))
   unfolding rootPlaces
   root-conditions =
-      let parts = passed-append (rootPlaces len f h w) (rootLastPlaces h (weight (w .coefficients)) (rootContraction h w) (rootDisplacement f h w)) in (
-        λ p. let q = parts .0 p in (record { numbers = numbers-conditions .0 (q .0); discriminant = ltb-false _ _ (q .1 .0) }, q .1 .1 .0),
-        λ c. parts .1 (numbers-conditions .1 (c .0 .numbers), (le-ltb _ _ (c .0 .discriminant), (c .1, tt))),
+      let M = weight (w .coefficients) in
+      let m = rootContraction h w in
+      let b = rootDisplacement f h w in
+      let parts = passed-append (rootPlaces len f h w) (rootLastPlaces rule h M m b) in
+      let numbers = numbers-conditions len f h w in
+      let place = rule-holds rule M m b in (
+        λ p. let q = parts .0 p in (record { numbers = numbers .0 (q .0); holds = place .0 (q .1 .0) }, q .1 .1 .0),
+        λ c. parts .1 (numbers .1 (c .0 .numbers), (place .1 (c .0 .holds), (c .1, tt))),
       )
 
   -- accepted exactly where these hold, with model, m, N and b of the test
-  pub root-passes : {c : Certificate} → rootOutcome byDiscriminant len f h w ≡ accepted c
-      → RootConditions len f h w × (tooLarge (rootResult f h w) ≡ false) × (c ≡ rootCertificate byDiscriminant f h w)
+  pub root-passes : {c : Certificate} → rootOutcome rule len f h w ≡ accepted c
+      → RootConditions rule len f h w × (tooLarge (rootResult rule f h w) ≡ false) × (c ≡ rootCertificate rule f h w)
   unfolding rootNeeding rootPlaces
   root-passes e =
-      let (passed, same) = outcome-accepted (rootTestPlaces byDiscriminant scratchSize len f h w) (rootCertificate byDiscriminant f h w) zeroCertificate e in
+      let (passed, same) = outcome-accepted (rootTestPlaces rule scratchSize len f h w) (rootCertificate rule f h w) zeroCertificate e in
       let (conditions, small) = root-conditions .0 passed in
       (conditions, small, same)
 
-  pub root-result : RootConditions len f h w → tooLarge (rootResult f h w) ≡ false
-      → rootOutcome byDiscriminant len f h w ≡ accepted (rootCertificate byDiscriminant f h w)
+  pub root-result : RootConditions rule len f h w → tooLarge (rootResult rule f h w) ≡ false
+      → rootOutcome rule len f h w ≡ accepted (rootCertificate rule f h w)
   unfolding rootNeeding rootPlaces
   root-result c small =
-      outcome-passed (rootTestPlaces byDiscriminant scratchSize len f h w) (rootCertificate byDiscriminant f h w) zeroCertificate
+      outcome-passed (rootTestPlaces rule scratchSize len f h w) (rootCertificate rule f h w) zeroCertificate
       (root-conditions .1 (c, small))

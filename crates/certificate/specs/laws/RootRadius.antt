@@ -1,4 +1,5 @@
--- 01, of the root's radius: "which these limits keep at or below 2^27". So the place of the result never refuses a root.
+-- 01, of the root's radius: "which these limits keep at or below 2^27"; the least radius is at most S. So the place of the result
+-- never refuses a root.
 use mathlib.Core.Path.{_≡_, _∙_, ap}
 use mathlib.Core.Logic.{_≢_}
 use mathlib.Core.Bool.{Bool, false}
@@ -8,7 +9,7 @@ use native.Mathlib.Omega.{arith}
 use native.Mathlib.Nat.{mul-le-mul, mul-le-mul-left, le-of-mul-le-mul-left}
 use lib.IntN.{pos, natAbs, _-ℤ_}
 use lib.ListN.{getD}
-use borrow.Author.Tests.{ltb-false, le-ltb}
+use borrow.Author.Tests.{le-ltb}
 use Rattle.integer.specs.laws.Parts.{abs, difference}
 use Rattle.integer.specs.definitions.Integer.{ℤ-ring}
 use Rattle.integer.specs.laws.RoundingLaws.{le-upℕ, upℕ-least}
@@ -20,11 +21,13 @@ use Rattle.model.specs.definitions.Models.{scale, maxRadius, productSize, terms
 use Rattle.model.specs.laws.ModelLaws.{good-is}
 use Rattle.model.specs.definitions.Multiply.{productList}
 use Rattle.model.specs.declared.types.Model.{Model}
-use Rattle.certificate.specs.definitions.Root.{byDiscriminant, rootOutcome, rootNeeding, rootPlaces, negativeDiscriminant, rootModel, rootContraction}
+use Rattle.certificate.specs.definitions.Root.{rootOutcome, rootNeeding, rootPlaces, rulePlace, rootModel, rootContraction}
+use Rattle.certificate.specs.declared.types.RootRule.{RootRule}
+use Rattle.certificate.specs.declared.types.RootRule.the-variants.{ByDiscriminant, ByLeastRadius}
 use Rattle.model.specs.definitions.Outcomes.{number}
-use Rattle.model.specs.laws.PlaceLaws.{passed-append, last-unused}
+use Rattle.model.specs.laws.PlaceLaws.{passed-append, Without, last-unused}
 use Rattle.certificate.specs.laws.Stages.{large-radius}
-use Rattle.certificate.specs.laws.RootConditions.{NumbersConditions, RootConditions, rootDisplacement, rootResult, numbers-conditions}
+use Rattle.certificate.specs.laws.RootConditions.{NumbersConditions, RootConditions, rootDisplacement, rootResult, numbers-conditions, rule-holds}
 
 -- S² ≤ m·S + 2·M·H: the place 0 of S² − C(w,h)
 pub square-bound : (h w : Model) → scale * scale ≤ rootContraction h w * scale + 2 * weight (w .coefficients) * weight (h .coefficients)
@@ -57,27 +60,38 @@ module _ (len : ℕ) (f h w : Model) where
   gap-bound c =
       omega (arith, square-bound h w, mul-le-mul-left (2 * weight (w .coefficients)) (good-is h (c .good-h) .weight-fits), c .contraction)
 
-  pub root-radius-bound : RootConditions len f h w → (rootResult f h w) .radius ≤ 2 ^ 27
+  -- "which these limits keep at or below 2^27"; the least radius is at most S
+  pub root-radius-bound : (rule : RootRule) → RootConditions rule len f h w → (rootResult rule f h w) .radius ≤ 2 ^ 27
   unfolding rootModel
-  root-radius-bound c =
+  root-radius-bound ByDiscriminant c =
       let p = scale - rootContraction h w in
       let positive : 0 < p = omega (arith, c .numbers .contraction) in
       upℕ-least (2 * rootDisplacement f h w * scale) p (2 ^ 27) positive
-      (numerator-bound p (rootDisplacement f h w) (weight (w .coefficients)) positive (gap-bound (c .numbers)) (c .discriminant))
+      (numerator-bound p (rootDisplacement f h w) (weight (w .coefficients)) positive (gap-bound (c .numbers)) (c .holds))
+  root-radius-bound ByLeastRadius c = omega (arith, c .holds .within)
 
-  -- the result of a test whose other places pass is not too large
-  pub root-fits : RootConditions len f h w → tooLarge (rootResult f h w) ≡ false
-  unfolding rootModel
-  root-fits c =
-      let radius = (rootResult f h w) .radius in
-      large-radius h radius (c .numbers .good-h) ∙ le-ltb maxRadius radius (omega (arith, root-radius-bound c))
+  module _ (rule : RootRule) where
+    -- the result of a test whose other places pass is not too large
+    pub root-fits : RootConditions rule len f h w → tooLarge (rootResult rule f h w) ≡ false
+    unfolding rootModel
+    root-fits c =
+        let radius = (rootResult rule f h w) .radius in
+        large-radius h radius (c .numbers .good-h) ∙ le-ltb maxRadius radius (omega (arith, root-radius-bound rule c))
+
+    -- the place that is the rule's own
+    abbrev own : List (Bool × ℕ)
+    own = rulePlace rule (weight (w .coefficients)) (rootContraction h w) (rootDisplacement f h w) ∷ []
+
+    never-large : Without 3 (rootPlaces len f h w ++ own) → number (rootOutcome rule len f h w) ≢ 3
+    unfolding rootNeeding rootPlaces
+    never-large others =
+        last-unused (rootPlaces len f h w ++ own) (tooLarge (rootResult rule f h w)) 3 _ _ others (omega arith)
+        (λ p.
+        let q = passed-append (rootPlaces len f h w) own .0 p in
+        root-fits (record { numbers = numbers-conditions len f h w .0 (q .0); holds = rule-holds rule _ _ _ .0 (q .1 .0) }))
 
   -- refusal 3 is never answered
-  pub root-never-large : number (rootOutcome byDiscriminant len f h w) ≢ 3
-  unfolding rootNeeding rootPlaces
-  root-never-large =
-      let eighth : List (Bool × ℕ) = (negativeDiscriminant (rootContraction h w) (rootDisplacement f h w) (weight (w .coefficients)), 8) ∷ [] in
-      last-unused (rootPlaces len f h w ++ eighth) (tooLarge (rootResult f h w)) 3 _ _ (omega arith) (omega arith)
-      (λ p.
-      let q = passed-append (rootPlaces len f h w) eighth .0 p in
-      root-fits (record { numbers = numbers-conditions len f h w .0 (q .0); discriminant = ltb-false _ _ (q .1 .0) }))
+  pub root-never-large : (rule : RootRule) → number (rootOutcome rule len f h w) ≢ 3
+  unfolding rootPlaces
+  root-never-large ByDiscriminant = never-large ByDiscriminant (omega arith)
+  root-never-large ByLeastRadius = never-large ByLeastRadius (omega arith)

@@ -1,5 +1,5 @@
--- The root test is sound: where it passes, every value v that f allows at a fraction x of [−1, 1] is above 0, and its root
--- lies between y − ρ and y + ρ, where y is h(x) and ρ the radius. No square root is taken: squares are compared.
+-- The root tests are sound, by either rule: where one passes, every value v that f allows at a fraction x of [−1, 1] is above 0,
+-- and its root lies between y − ρ and y + ρ, where y is h(x) and ρ the radius. No square root is taken: squares are compared.
 use mathlib.Core.Path.{_≡_, sym, _∙_, ap}
 use mathlib.Core.Logic.{_⊎_, inl, inr}
 use mathlib.Core.List.{List, [], _∷_}
@@ -31,10 +31,13 @@ use Rattle.model.specs.definitions.Multiply.{productList}
 use Rattle.model.specs.declared.types.Model.{Model}
 use Rattle.model.specs.definitions.Outcomes.{accepted}
 use Rattle.certificate.specs.definitions.Tests.{Certificate, displacement}
-use Rattle.certificate.specs.definitions.Root.{RootRule, byDiscriminant, rootOutcome, rootModel, rootContraction, rootResidual}
+use Rattle.certificate.specs.definitions.Root.{rootOutcome, rootModel, rootContraction, rootResidual}
+use Rattle.certificate.specs.declared.types.RootRule.{RootRule}
+use Rattle.certificate.specs.declared.types.RootRule.the-variants.{ByDiscriminant, ByLeastRadius}
 use Rattle.certificate.specs.definitions.RootBounds.{RootBounds, ofUnits}
-use Rattle.certificate.specs.laws.RootAlgebra.{helper-bound, residual-bound, root-algebra, root-choice}
-use Rattle.certificate.specs.laws.RootConditions.{RootConditions, rootDisplacement, rootResult, root-passes}
+use Rattle.certificate.specs.laws.RootAlgebra.{helper-bound, residual-bound, RootFacts, root-algebra, least-algebra, root-choice}
+use Rattle.certificate.specs.laws.LeastAlgebra.{from-units}
+use Rattle.certificate.specs.laws.RootConditions.{NumbersConditions, RuleHolds, rootDisplacement, rootResult, root-passes}
 
 -- ---- units
 
@@ -61,7 +64,7 @@ between-allows m cs x r same above below =
 
 -- ---- the two residuals at x
 
-module _ (len : ℕ) (f h w : Model) (c : RootConditions len f h w) where
+module _ (len : ℕ) (f h w : Model) (c : NumbersConditions len f h w) where
   -- weight(S² − C(w,h)) and weight(C(h,h) − 2S·f)
   abbrev contractionWeight : ℕ
   contractionWeight = weight (subtractLists ℤ-ring (pos (scale * scale) ∷ []) (productList w h))
@@ -72,7 +75,7 @@ module _ (len : ℕ) (f h w : Model) (c : RootConditions len f h w) where
   helper-distance : (x : ℚ) → OnInterval x
       → ∣ whole (pos scale) *ℚ whole (pos scale) -ℚ whole (pos 2) *ℚ valueAt x (w .coefficients) *ℚ valueAt x (h .coefficients) ∣ℚ ≤ℚ whole (pos contractionWeight)
   helper-distance x on =
-      rw (← natural-mul scale scale, value-productList w h (c .numbers .good-w) (c .numbers .good-h) x)
+      rw (← natural-mul scale scale, value-productList w h (c .good-w) (c .good-h) x)
       (rw (value-constant ℚ-ring x (whole (pos (scale * scale)))) at (valueAt-difference on (pos (scale * scale) ∷ []) (productList w h)))
 
   -- w(x) > 0
@@ -80,8 +83,8 @@ module _ (len : ℕ) (f h w : Model) (c : RootConditions len f h w) where
   unfolding rootContraction
   helper-value x on =
       helper-positive (whole (pos scale) *ℚ whole (pos scale)) (whole (pos contractionWeight)) (w .coefficients) (h .coefficients)
-      (c .numbers .helper)
-      (λ k. omega (arith, le-pos (scale * scale) contractionWeight (whole-le _ _ .0 (rw (← natural-mul scale scale) at k)), le-upℕ contractionWeight scale (omega arith), c .numbers .contraction))
+      (c .helper)
+      (λ k. omega (arith, le-pos (scale * scale) contractionWeight (whole-le _ _ .0 (rw (← natural-mul scale scale) at k)), le-upℕ contractionWeight scale (omega arith), c .contraction))
       (λ y k. helper-distance y (record { above = abs-lower ℚ-ordered k; below = abs-upper ℚ-ordered k }))
       x (abs-le ℚ-ordered (on .below) (on .above))
 
@@ -104,44 +107,71 @@ module _ (len : ℕ) (f h w : Model) (c : RootConditions len f h w) where
         (rw (natural-add residualWeight (2 * scale * f .radius), natural-mul (2 * scale) (f .radius), natural-mul 2 scale)
         (residual-bound ℚ-ordered (whole (pos scale)) (valueAt x (f .coefficients)) (valueAt x (h .coefficients)) y v (whole (pos residualWeight)) (whole (pos (f .radius)))
         (ι-nonneg ℚ-ordered scale) (units-scale (valueAt x (h .coefficients)))
-        (rw (value-productList h h (c .numbers .good-h) (c .numbers .good-h) x, ← natural-mul 2 scale, ← valueAt-scale x (pos (2 * scale)) (f .coefficients)) (valueAt-difference on (productList h h) (scaleList ℤ-ring (pos (2 * scale)) (f .coefficients))))
+        (rw (value-productList h h (c .good-h) (c .good-h) x, ← natural-mul 2 scale, ← valueAt-scale x (pos (2 * scale)) (f .coefficients)) (valueAt-difference on (productList h h) (scaleList ℤ-ring (pos (2 * scale)) (f .coefficients))))
         allowed))
 
-    bounds : RootBounds y (ofUnits (whole (pos ((rootResult f h w) .radius)))) v
-    unfolding rootModel displacement
-    bounds =
-        let m = rootContraction h w in
-        let n = rootResidual f h in
-        let b = rootDisplacement f h w in
-        let k = scale - m in
-        let r = (rootResult f h w) .radius in
-        let M = weight (w .coefficients) in
-        let facts =
-        root-algebra ℚ-ordered (whole (pos scale)) (whole (pos m)) (whole (pos n)) (whole (pos b)) (whole (pos k)) (whole (pos M))
+    abbrev m : ℕ
+    m = rootContraction h w
+
+    abbrev n : ℕ
+    n = rootResidual f h
+
+    abbrev b : ℕ
+    b = rootDisplacement f h w
+
+    abbrev k : ℕ
+    k = scale - m
+
+    abbrev M : ℕ
+    M = weight (w .coefficients)
+
+    -- what the algebra asks, for any radius
+    facts-of : (r : ℕ) → RootFacts ℚ-ordered (whole (pos scale)) (whole (pos m)) (whole (pos n)) (whole (pos b)) (whole (pos k)) (whole (pos M))
         (valueAt x (w .coefficients)) y (ofUnits (whole (pos r))) v
-        (natural-positive scale (omega arith))
-        (sym (natural-add k m) ∙ ap (λ (j : ℕ). whole (pos j)) (omega (arith, c .numbers .contraction)))
-        (natural-positive k (omega (arith, c .numbers .contraction)))
-        (units-nonneg r)
-        helper-residual
-        root-residual
-        (helper-value x on)
-        (abs-upper ℚ-ordered (valueAt-weight on (w .coefficients)))
-        (rw (← natural-mul M n, ← natural-mul b scale) (natural-le (le-upℕ (M * n) scale (omega arith))))
-        (rw (units-scale (whole (pos r)), ← natural-mul 2 b, ← natural-mul (2 * b) scale, ← natural-mul r k) (natural-le (le-upℕ (2 * b * scale) k (omega (arith, c .numbers .contraction)))))
-        (rw (← natural-mul 8 b, ← natural-mul (8 * b) M, ← natural-mul k k) (natural-le (c .discriminant))) in
+    unfolding displacement
+    facts-of r = record {
+      scale-positive = natural-positive scale (omega arith);
+      split = sym (natural-add k m) ∙ ap (λ (j : ℕ). whole (pos j)) (omega (arith, c .contraction));
+      contracting = natural-positive k (omega (arith, c .contraction));
+      ρ-nonneg = units-nonneg r;
+      helper-residual = helper-residual;
+      root-residual = root-residual;
+      helper-positive = helper-value x on;
+      helper-weight = abs-upper ℚ-ordered (valueAt-weight on (w .coefficients));
+      displaced = rw (← natural-mul M n, ← natural-mul b scale) (natural-le (le-upℕ (M * n) scale (omega arith)));
+    }
+
+    bounds : (rule : RootRule) → RuleHolds rule M m b → RootBounds y (ofUnits (whole (pos ((rootResult rule f h w) .radius)))) v
+    unfolding rootModel
+    bounds ByDiscriminant discriminant =
+        let r = (rootResult ByDiscriminant f h w) .radius in
+        let facts =
+        root-algebra ℚ-ordered (facts-of r)
+        (rw (units-scale (whole (pos r)), ← natural-mul 2 b, ← natural-mul (2 * b) scale, ← natural-mul r k) (natural-le (le-upℕ (2 * b * scale) k (omega (arith, c .contraction)))))
+        (rw (← natural-mul 8 b, ← natural-mul (8 * b) M, ← natural-mul k k) (natural-le discriminant)) in
         record { positive = facts .3; reaches = facts .0; above = facts .1; below = facts .2 }
+    bounds ByLeastRadius least =
+        let r = (rootResult ByLeastRadius f h w) .radius in
+        let facts =
+        least-algebra ℚ-ordered (facts-of r)
+        (from-units ℚ-ordered (whole (pos scale)) (whole (pos M)) (whole (pos b)) (whole (pos k)) (ofUnits (whole (pos r))) (whole (pos r))
+        (natural-positive scale (omega arith)) (units-scale (whole (pos r)))
+        (rw (← natural-mul 2 M, ← natural-mul r r, ← natural-mul (2 * M) (r * r), ← natural-mul scale scale, ← natural-mul b (scale * scale), ← natural-add (2 * M * (r * r)) (b * (scale * scale)), ← natural-mul k scale, ← natural-mul (k * scale) r)
+        (natural-le (least .satisfies)))) in
+        record { positive = facts .3; reaches = facts .0; above = facts .1; below = inr (facts .2) }
 
--- ---- the test
+-- ---- the tests
 
--- what each rule gives: the bounds of the root, around the first model's values
+-- what a test that passes gives: the bounds of the root, around the first model's values
 root-holds : (rule : RootRule) (len : ℕ) (f h w : Model) {c : Certificate} → rootOutcome rule len f h w ≡ accepted c
     → (x v : ℚ) → OnInterval x → Allows f x v
     → RootBounds (ofUnits (valueAt x (h .coefficients))) (ofUnits (whole (pos (c .model .radius)))) v × (c .model .coefficients ≡ h .coefficients)
 unfolding position rootModel
-root-holds byDiscriminant len f h w passed x v on allowed =
-    let (conditions, small, same) = root-passes len f h w passed in
-    (rw same (bounds len f h w conditions x v on allowed), ap (λ (t : Certificate). t .model .coefficients) same)
+root-holds rule len f h w passed x v on allowed =
+    let (conditions, small, same) = root-passes rule len f h w passed in (
+      rw same (bounds len f h w (conditions .numbers) x v on allowed rule (conditions .holds)),
+      ap (λ (t : Certificate). t .model .coefficients) same,
+    )
 
 module _ (rule : RootRule) (len : ℕ) (f h w : Model) {c : Certificate} (passed : rootOutcome rule len f h w ≡ accepted c)
     (x v : ℚ) (on : OnInterval x) (allowed : Allows f x v) where

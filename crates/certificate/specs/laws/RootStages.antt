@@ -1,4 +1,4 @@
--- What the root test up to N and b says of the whole test.
+-- What a root test up to N and b says of the whole test.
 use mathlib.Core.Path.{_≡_, sym, _∙_, ap}
 use Prim.Native.Nat.{ℕ}
 use native.Mathlib.Omega.{arith}
@@ -7,7 +7,8 @@ use Rattle.model.specs.laws.ModelLaws.{good-is}
 use Rattle.model.specs.definitions.Outcomes.{accepted, refused}
 use Rattle.model.specs.laws.PlaceLaws.{outcome-accepted, outcome-behind, outcome-refused}
 use Rattle.model.specs.declared.types.Model.{Model}
-use Rattle.certificate.specs.definitions.Root.{rootPlaces, rootContraction, rootResidual, byDiscriminant, rootOutcome, rootNeeding}
+use Rattle.certificate.specs.definitions.Root.{rootPlaces, rootContraction, rootResidual, rootOutcome, rootNeeding}
+use Rattle.certificate.specs.declared.types.RootRule.{RootRule}
 use Rattle.certificate.specs.definitions.Tests.{displacement, zeroCertificate}
 use Rattle.certificate.specs.definitions.InnerContracts.{RootLast, Reach, makeReach, zeroReach, rootReach, refusedTest, rootEnd}
 use Rattle.certificate.specs.laws.Stages.{displacement-bound}
@@ -16,28 +17,35 @@ use Rattle.certificate.specs.laws.RootRadius.{gap-bound}
 use Rattle.certificate.specs.laws.Discriminant.{weight-positive}
 
 module _ (len : ℕ) (f h w : Model) where
+  -- where the places through N are passed, the rest decides
+  pub root-behind : (rule : RootRule) → NumbersConditions len f h w → let n = rootResidual f h in
+      rootOutcome rule len f h w ≡ rootEnd rule h (weight (w .coefficients)) (rootContraction h w) n (displacement w n)
+  unfolding rootNeeding rootPlaces
+  root-behind rule c = outcome-behind (rootPlaces len f h w) _ _ zeroCertificate (numbers-conditions len f h w .1 c)
+
   pub record RootReached (M m n b : ℕ) : Type 0 where
     pub conditions : NumbersConditions len f h w
     pub is-M : M ≡ weight (w .coefficients)
     pub is-m : m ≡ rootContraction h w
     pub is-n : n ≡ rootResidual f h
     pub is-b : b ≡ displacement w n
-    pub last : rootOutcome byDiscriminant len f h w ≡ rootEnd h M m n b
+    pub last : (rule : RootRule) → rootOutcome rule len f h w ≡ rootEnd rule h M m n b
 
   pub root-reached-is : (M m n b : ℕ) → rootReach len f h w ≡ accepted (makeReach M m n b) → RootReached M m n b
-  unfolding rootReach rootNeeding rootPlaces
+  unfolding rootReach
   root-reached-is M m n b e =
       let (passed, same) = outcome-accepted (rootPlaces len f h w) _ zeroReach e in
       let eM : M ≡ weight (w .coefficients) = ap (λ (r : Reach). r .M) same in
       let em : m ≡ rootContraction h w = ap (λ (r : Reach). r .m) same in
       let en : n ≡ rootResidual f h = ap (λ (r : Reach). r .N) same in
-      let eb : b ≡ displacement w n = ap (λ (r : Reach). r .b) same ∙ ap (displacement w) (sym en) in record {
-        conditions = numbers-conditions len f h w .0 passed;
+      let eb : b ≡ displacement w n = ap (λ (r : Reach). r .b) same ∙ ap (displacement w) (sym en) in
+      let conditions = numbers-conditions len f h w .0 passed in record {
+        conditions = conditions;
         is-M = eM;
         is-m = em;
         is-n = en;
         is-b = eb;
-        last = rw (eb, en, em, eM) (outcome-behind (rootPlaces len f h w) _ _ zeroCertificate passed);
+        last = λ rule. rw (eb, en, em, eM) (root-behind rule conditions);
       }
 
   -- what the last places are given
@@ -54,6 +62,6 @@ module _ (len : ℕ) (f h w : Model) where
         square = rw (r .is-m, r .is-M) (gap-bound len f h w c);
       }
 
-  pub root-refused-is : (k : ℕ) → rootReach len f h w ≡ refused k zeroReach → rootOutcome byDiscriminant len f h w ≡ refusedTest k
+  pub root-refused-is : (rule : RootRule) (k : ℕ) → rootReach len f h w ≡ refused k zeroReach → rootOutcome rule len f h w ≡ refusedTest k
   unfolding rootReach rootNeeding rootPlaces
-  root-refused-is k e = outcome-refused (rootPlaces len f h w) _ _ zeroReach _ zeroCertificate e
+  root-refused-is rule k e = outcome-refused (rootPlaces len f h w) _ _ zeroReach _ zeroCertificate e

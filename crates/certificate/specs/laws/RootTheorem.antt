@@ -1,21 +1,24 @@
--- The root test in 01's whole numbers, with C( , ) formed by its two sums: for good models, good candidates and enough scratch,
--- a candidate is accepted exactly where the test holds and the stated radius is within 2^28, with exactly that radius. It is
--- within 2^27 wherever the test holds.
+-- The root tests in 01's whole numbers, with C( , ) formed by its two sums: for good models, good candidates and enough scratch,
+-- a candidate is accepted exactly where the test holds and the stated radius is within 2^28, with exactly that radius. 0x21's is
+-- within 2^27 wherever its test holds. TightTheorem.antt has what is 0x22's own.
 use mathlib.Core.Path.{_≡_, _∙_, ap}
 use mathlib.Core.Logic.{_↔_}
 use mathlib.Core.Bool.{true}
 use Prim.Native.Nat.{ℕ, _^_, _≤_}
-use Rattle.model.specs.definitions.Models.{good, makeModel}
+use Rattle.chebyshev.specs.definitions.Coefficients.{weight}
+use Rattle.model.specs.definitions.Models.{good}
 use Rattle.model.specs.definitions.Outcomes.{accepted}
 use Rattle.model.specs.declared.types.Model.{Model}
-use Rattle.certificate.specs.definitions.Tests.{scratchSize, displacement, Certificate, makeCertificate}
-use Rattle.certificate.specs.definitions.Root.{rootModel, rootContraction, rootResidual, byDiscriminant, rootCertificate, rootOutcome}
-use Rattle.certificate.specs.definitions.TwoSums.{root-m, root-N, root-b, rootRadius, RootHolds}
+use Rattle.certificate.specs.definitions.Tests.{scratchSize, displacement, Certificate}
+use Rattle.certificate.specs.definitions.Root.{ruleRadius, rootModel, rootContraction, rootResidual, rootCertificate, rootOutcome}
+use Rattle.certificate.specs.declared.types.RootRule.{RootRule}
+use Rattle.certificate.specs.declared.types.RootRule.the-variants.{ByDiscriminant}
+use Rattle.certificate.specs.definitions.TwoSums.{root-m, root-N, root-b, rootRadius, RootNumbersHold, RootHolds, rootGiven}
 use Rattle.certificate.specs.laws.TwoSumsLaws.{productList-good}
-use Rattle.certificate.specs.laws.RootConditions.{RootConditions, root-passes, root-result}
+use Rattle.certificate.specs.laws.RootConditions.{NumbersConditions, RootConditions, RuleHolds, rootDisplacement, root-passes, root-result}
 use Rattle.certificate.specs.laws.RootRadius.{root-radius-bound, root-fits}
 
-contraction-is : (h w : Model) → good h ≡ true → good w ≡ true → rootContraction h w ≡ root-m h w
+pub contraction-is : (h w : Model) → good h ≡ true → good w ≡ true → rootContraction h w ≡ root-m h w
 unfolding root-m rootContraction
 contraction-is h w gh gw = rw (productList-good w h gw gh)
 
@@ -24,37 +27,55 @@ unfolding root-N rootResidual
 residual-is f h gh = rw (productList-good h h gh gh)
 
 module _ (len : ℕ) (f h w : Model) (enough : scratchSize ≤ len) (gf : good f ≡ true) (gh : good h ≡ true) (gw : good w ≡ true) where
-  conditions-holds : RootConditions len f h w ↔ RootHolds f h w
-  unfolding root-b displacement
-  conditions-holds =
+  pub numbers-hold : NumbersConditions len f h w ↔ RootNumbersHold f h w
+  numbers-hold =
       rw (← contraction-is h w gh gw, ← residual-is f h gh) (
-        λ c. (c .numbers .helper, c .numbers .contraction, c .numbers .residual, c .discriminant),
-        λ t. record {
-          numbers = record { scratch = enough; good-f = gf; good-h = gh; good-w = gw; helper = t .0; contraction = t .1; residual = t .2 };
-          discriminant = t .3;
-        },
+        λ c. (c .helper, c .contraction, c .residual),
+        λ t. record { scratch = enough; good-f = gf; good-h = gh; good-w = gw; helper = t .0; contraction = t .1; residual = t .2 },
       )
+
+  abbrev M : ℕ
+  M = weight (w .coefficients)
+
+  pub displacement-is : rootDisplacement f h w ≡ root-b f h w
+  unfolding root-b displacement
+  displacement-is = rw (residual-is f h gh)
+
+  -- by either rule, in these numbers
+  module _ (rule : RootRule) where
+    conditions-hold : RootConditions rule len f h w ↔ (RootNumbersHold f h w × RuleHolds rule M (root-m h w) (root-b f h w))
+    conditions-hold = (
+      λ c. (numbers-hold .0 (c .numbers), rw (← contraction-is h w gh gw, ← displacement-is) (c .holds)),
+      λ t. record { numbers = numbers-hold .1 (t .0); holds = rw (contraction-is h w gh gw, displacement-is) (t .1) },
+    )
+
+    abbrev radius : ℕ
+    radius = ruleRadius rule M (root-m h w) (root-b f h w)
+
+    given-is : rootCertificate rule f h w ≡ rootGiven f h w radius
+    unfolding rootModel
+    given-is = rw (displacement-is, contraction-is h w gh gw, residual-is f h gh)
+
+    pub rule-accepted : RootNumbersHold f h w × RuleHolds rule M (root-m h w) (root-b f h w) → rootOutcome rule len f h w ≡ accepted (rootGiven f h w radius)
+    rule-accepted t =
+        let c = conditions-hold .1 t in root-result rule len f h w c (root-fits len f h w rule c) ∙ ap accepted given-is
+
+    pub rule-accepted-only : {c : Certificate} → rootOutcome rule len f h w ≡ accepted c
+        → (RootNumbersHold f h w × RuleHolds rule M (root-m h w) (root-b f h w)) × (c ≡ rootGiven f h w radius)
+    rule-accepted-only e =
+        let (conditions, small, same) = root-passes rule len f h w e in (conditions-hold .0 conditions, same ∙ given-is)
 
   -- "which these limits keep at or below 2^27"
   pub root-holds-radius : RootHolds f h w → rootRadius f h w ≤ 2 ^ 27
-  unfolding rootRadius root-b displacement rootModel
-  root-holds-radius t = rw (← contraction-is h w gh gw, ← residual-is f h gh) (root-radius-bound len f h w (conditions-holds .1 t))
+  unfolding rootRadius rootModel
+  root-holds-radius t = rw (← contraction-is h w gh gw, ← displacement-is) (root-radius-bound len f h w ByDiscriminant (conditions-hold ByDiscriminant .1 t))
 
-  -- "Result h with radius up(2·b·S/(S−m))", and 01's m, N and b
-  abbrev pub rootGiven : Certificate
-  rootGiven =
-      makeCertificate (makeModel (h .degree) (h .coefficients) (rootRadius f h w)) (root-m h w) (root-N f h) (root-b f h w)
-
-  given-is : rootCertificate byDiscriminant f h w ≡ rootGiven
-  unfolding rootRadius root-b displacement rootModel
-  given-is = rw (← contraction-is h w gh gw, ← residual-is f h gh)
-
-  -- accepted where the test holds
-  pub root-accepted : RootHolds f h w → rootOutcome byDiscriminant len f h w ≡ accepted rootGiven
-  root-accepted t =
-      let c = conditions-holds .1 t in root-result len f h w c (root-fits len f h w c) ∙ ap accepted given-is
+  -- accepted where the test holds, with "radius up(2·b·S/(S−m))"
+  pub root-accepted : RootHolds f h w → rootOutcome ByDiscriminant len f h w ≡ accepted (rootGiven f h w (rootRadius f h w))
+  unfolding rootRadius
+  root-accepted t = rule-accepted ByDiscriminant t
 
   -- and only there
-  pub root-accepted-only : {c : Certificate} → rootOutcome byDiscriminant len f h w ≡ accepted c → RootHolds f h w × (c ≡ rootGiven)
-  root-accepted-only e =
-      let (conditions, small, same) = root-passes len f h w e in (conditions-holds .0 conditions, same ∙ given-is)
+  pub root-accepted-only : {c : Certificate} → rootOutcome ByDiscriminant len f h w ≡ accepted c → RootHolds f h w × (c ≡ rootGiven f h w (rootRadius f h w))
+  unfolding rootRadius
+  root-accepted-only e = rule-accepted-only ByDiscriminant e

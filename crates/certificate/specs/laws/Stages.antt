@@ -1,4 +1,4 @@
--- The answers of the two tests by their parts, and what their places share: the scratch, models and candidates, the result.
+-- The answers of the tests by their parts, and what their places share: the scratch, models and candidates, the result.
 use mathlib.Core.Path.{_≡_, refl, sym, _∙_, ap}
 use mathlib.Core.Bool.{Bool, true, false, true≢false, not, _&&_, cond, or-false}
 use mathlib.Core.List.{List, _++_}
@@ -20,7 +20,8 @@ use Rattle.model.specs.laws.ModelLaws.{good-is}
 use Rattle.model.specs.declared.types.Model.{Model}
 use Rattle.certificate.specs.definitions.Tests.{withRadius, scratchSize, scratchAfter}
 use Rattle.certificate.specs.definitions.Quotient.{quotientNeeding, quotientOutcome}
-use Rattle.certificate.specs.definitions.Root.{RootRule, byDiscriminant, rootNeeding, rootOutcome}
+use Rattle.certificate.specs.definitions.Root.{rootNeeding, rootOutcome}
+use Rattle.certificate.specs.declared.types.RootRule.{RootRule}
 
 -- ---- the place of the result
 
@@ -93,8 +94,8 @@ module _ {need len need′ len′ : ℕ} (room : need ≤ len) (room′ : need�
 pub quotient-room : (len : ℕ) (f g h w : Model) → scratchSize ≤ len → quotientOutcome len f g h w ≡ quotientOutcome scratchSize f g h w
 quotient-room len f g h w room = quotient-needs room (le-refl scratchSize) f g h w
 
-pub root-room : (len : ℕ) (f h w : Model) → scratchSize ≤ len → rootOutcome byDiscriminant len f h w ≡ rootOutcome byDiscriminant scratchSize f h w
-root-room len f h w room = root-needs room (le-refl scratchSize) byDiscriminant f h w
+pub root-room : (rule : RootRule) (len : ℕ) (f h w : Model) → scratchSize ≤ len → rootOutcome rule len f h w ≡ rootOutcome rule scratchSize f h w
+root-room rule len f h w room = root-needs room (le-refl scratchSize) rule f h w
 
 -- ---- models and candidates
 

@@ -12,7 +12,8 @@ use Rattle.model.specs.laws.GoodResults.{good-small}
 use Rattle.model.specs.declared.types.Model.{Model}
 use Rattle.certificate.specs.definitions.Tests.{scratchSize, Certificate, zeroCertificate}
 use Rattle.certificate.specs.definitions.Quotient.{quotientPlaces, quotientOutcome, quotientNeeding, quotientModel}
-use Rattle.certificate.specs.definitions.Root.{byDiscriminant, rootTestPlaces, rootOutcome, rootNeeding, rootPlaces, rootModel}
+use Rattle.certificate.specs.definitions.Root.{rootTestPlaces, rootOutcome, rootNeeding, rootPlaces, rootModel}
+use Rattle.certificate.specs.declared.types.RootRule.{RootRule}
 use Rattle.certificate.specs.laws.QuotientConditions.{quotient-conditions, quotient-passes}
 use Rattle.certificate.specs.laws.RootConditions.{root-conditions, root-passes}
 
@@ -25,11 +26,11 @@ quotient-storable len f g h w =
     outcome-payload Fits (quotientPlaces scratchSize len f g h w) _ zeroCertificate
     (λ p. small-storable _ (quotient-conditions len f g h w .0 p .result)) zero-storable
 
-pub root-storable : (len : ℕ) (f h w : Model) → Storable (payload (rootOutcome byDiscriminant len f h w) .model)
+pub root-storable : (rule : RootRule) (len : ℕ) (f h w : Model) → Storable (payload (rootOutcome rule len f h w) .model)
 unfolding rootNeeding rootPlaces
-root-storable len f h w =
-    outcome-payload Fits (rootTestPlaces byDiscriminant scratchSize len f h w) _ zeroCertificate
-    (λ p. small-storable _ (root-conditions len f h w .0 p .1)) zero-storable
+root-storable rule len f h w =
+    outcome-payload Fits (rootTestPlaces rule scratchSize len f h w) _ zeroCertificate
+    (λ p. small-storable _ (root-conditions rule len f h w .0 p .1)) zero-storable
 
 pub quotient-good : (len : ℕ) (f g h w : Model) {c : Certificate} → quotientOutcome len f g h w ≡ accepted c → good (c .model) ≡ true
 unfolding quotientModel
@@ -37,8 +38,8 @@ quotient-good len f g h w e =
     let (conditions, same) = quotient-passes len f g h w e in
     rw same (good-small _ (conditions .result) (good-is h (conditions .good-h) .beyond-zero))
 
-pub root-good : (len : ℕ) (f h w : Model) {c : Certificate} → rootOutcome byDiscriminant len f h w ≡ accepted c → good (c .model) ≡ true
+pub root-good : (rule : RootRule) (len : ℕ) (f h w : Model) {c : Certificate} → rootOutcome rule len f h w ≡ accepted c → good (c .model) ≡ true
 unfolding rootModel
-root-good len f h w e =
-    let (conditions, small, same) = root-passes len f h w e in
+root-good rule len f h w e =
+    let (conditions, small, same) = root-passes rule len f h w e in
     rw same (good-small _ small (good-is h (conditions .numbers .good-h) .beyond-zero))

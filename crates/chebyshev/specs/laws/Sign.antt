@@ -1,4 +1,4 @@
--- The sign of the root test's helper w: from Σ w_k > 0, which is w(1) > 0, and |κ − 2·w(x)·h(x)| ≤ μ < κ at every fraction
+-- The sign of the root tests' helper w: from Σ w_k > 0, which is w(1) > 0, and |κ − 2·w(x)·h(x)| ≤ μ < κ at every fraction
 -- x of [−1, 1] follows w(x) > 0 at every such x. No limits: |w| has a lower bound above 0 and w is Lipschitz, so it keeps its
 -- sign on every interval that is short enough, and halving the interval from 1 to x often enough makes it short.
 use mathlib.Core.Path.{_≡_, refl, sym, _∙_, ap, ap₂}
@@ -82,7 +82,7 @@ module _ (g : ℚ → ℚ) (l m c : ℚ) (above : whole (pos 0) <ℚ c) (nonneg 
   same-sign x y hx hy p =
       ∥∥₁-elim (archimedean-power (m *ℚ (l *ℚ ∣ x -ℚ y ∣ℚ)) c above) ¬-prop (λ t. halving (t .0) x y hx hy (t .1) p)
 
--- with w(x) and h(x) the values of lists of whole numbers; the root test has κ = S²
+-- with w(x) and h(x) the values of lists of whole numbers; the root tests have κ = S²
 pub helper-positive : (κ μ : ℚ) (w h : List ℤ) → pos 0 <ℤ coefficientSum w → μ <ℚ κ
     → ((x : ℚ) → ∣ x ∣ℚ ≤ℚ whole (pos 1) → ∣ κ -ℚ whole (pos 2) *ℚ value ℚ-ring x (map whole w) *ℚ value ℚ-ring x (map whole h) ∣ℚ ≤ℚ μ)
     → (x : ℚ) → ∣ x ∣ℚ ≤ℚ whole (pos 1) → whole (pos 0) <ℚ value ℚ-ring x (map whole w)

@@ -9,7 +9,8 @@ use Rattle.model.specs.definitions.Models.{candidateModel}
 use Rattle.model.specs.definitions.Area.{modelSize, candidateSize, words, areaModel, areaCandidate, fits, areaOut}
 use Rattle.certificate.specs.definitions.Tests.{scratchSize, scratchAfter, Certificate, zeroCertificate}
 use Rattle.certificate.specs.definitions.Quotient.{quotientNeeding}
-use Rattle.certificate.specs.definitions.Root.{byDiscriminant, rootNeeding}
+use Rattle.certificate.specs.definitions.Root.{rootNeeding}
+use Rattle.certificate.specs.declared.types.RootRule.{RootRule}
 use Rattle.ferruntzo.specs.definitions.Areas.{numbersSize}
 
 -- refusal 1, whichever area is too short: "Any other number an entry answers … is zero on refusal too"
@@ -50,10 +51,10 @@ quotientCall need f g h w scratch out numbers =
     (candidateModel (areaCandidate w)))
     shortTest
 
-abbrev pub rootCall : ℕ → List ℤ → List ℤ → List ℤ → List ℤ → List ℤ → List ℕ → Outcome Certificate
-rootCall need f h w scratch out numbers =
+abbrev pub rootCall : RootRule → ℕ → List ℤ → List ℤ → List ℤ → List ℤ → List ℤ → List ℕ → Outcome Certificate
+rootCall rule need f h w scratch out numbers =
     cond (testFits need (fits modelSize f) h w scratch out numbers)
-    (rootNeeding byDiscriminant need (length scratch) (areaModel f)
+    (rootNeeding rule need (length scratch) (areaModel f)
     (candidateModel (areaCandidate h)) (candidateModel (areaCandidate w)))
     shortTest
 
@@ -61,5 +62,5 @@ abbrev pub quotientAnswer : List ℤ → List ℤ → List ℤ → List ℤ → 
 quotientAnswer f g h w scratch out numbers =
     testIn (quotientCall scratchSize f g h w scratch out numbers) scratch out numbers
 
-abbrev pub rootAnswer : List ℤ → List ℤ → List ℤ → List ℤ → List ℤ → List ℕ → TestAnswer
-rootAnswer f h w scratch out numbers = testIn (rootCall scratchSize f h w scratch out numbers) scratch out numbers
+abbrev pub rootAnswer : RootRule → List ℤ → List ℤ → List ℤ → List ℤ → List ℤ → List ℕ → TestAnswer
+rootAnswer rule f h w scratch out numbers = testIn (rootCall rule scratchSize f h w scratch out numbers) scratch out numbers

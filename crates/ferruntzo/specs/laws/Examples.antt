@@ -20,6 +20,8 @@ use Rattle.model.specs.definitions.Round.{rounded, roundingLoss}
 use Rattle.model.specs.definitions.Evaluate.{pointTerm, pointSum, pointError, lowBound, highBound, evaluation}
 use Rattle.certificate.specs.definitions.Tests.{scratchAfter, displacement}
 use Rattle.certificate.specs.definitions.Root.{rootNeeding, rootPlaces, rootContraction, rootResidual, rootModel}
+use Rattle.certificate.specs.declared.types.RootRule.the-variants.{ByDiscriminant, ByLeastRadius}
+use Rattle.radius.specs.definitions.LeastRadius.{leastRadius, firstOf}
 use Rattle.certificate.specs.definitions.Quotient.{quotientNeeding, quotientContraction, quotientResidual, quotientModel}
 use Rattle.selection.specs.definitions.Proposal.{proposalNeeding}
 use Rattle.selection.specs.definitions.Select.{tighter}
@@ -78,7 +80,7 @@ unfolding outcomeIn areaOut conversion goodSeries seriesModel expandedFrom expan
 conversions = (refl, refl, refl, refl)
 
 -- the root whose discriminant is 0: m, N and b; the root of 1 with the same candidates, refused with 8; an area of 34 numbers for the
--- result; a scratch of 15; one of 64, where 65 were needed
+-- result; a scratch of 15; the root of 4 + 4 units, with radius 4, by its least radius; a scratch of 64, where 65 were needed
 abbrev h : List ℤ
 h = area 0 (pos 2097152 ∷ []) 34
 
@@ -86,16 +88,18 @@ abbrev w : List ℤ
 w = area 0 (pos 262144 ∷ []) 34
 
 pub tests :
-    (rootAnswer (area 0 (pos 2097152 ∷ []) 35) h w (nines 66) (nines 36) (9 ∷ 9 ∷ 9 ∷ 9 ∷ [])
+    (rootAnswer ByDiscriminant (area 0 (pos 2097152 ∷ []) 35) h w (nines 66) (nines 36) (9 ∷ 9 ∷ 9 ∷ 9 ∷ [])
     ≡ testAnswer 0 (zeros 16 ++ nines 50) (pos 0 ∷ pos 2097152 ∷ (zeros 32 ++ (pos 1048576 ∷ nines 1))) (0 ∷ 2097152 ∷ 524288 ∷ 9 ∷ []))
-    × (rootAnswer one h w (nines 17) (nines 36) (9 ∷ 9 ∷ 9 ∷ 9 ∷ []) ≡ testAnswer 8 (zeros 16 ++ nines 1) (zeros 35 ++ nines 1) (0 ∷ 0 ∷ 0 ∷ 9 ∷ []))
-    × (rootAnswer (area 0 (pos 2097152 ∷ []) 35) h w (nines 17) (nines 34) (9 ∷ 9 ∷ 9 ∷ 9 ∷ [])
+    × (rootAnswer ByDiscriminant one h w (nines 17) (nines 36) (9 ∷ 9 ∷ 9 ∷ 9 ∷ []) ≡ testAnswer 8 (zeros 16 ++ nines 1) (zeros 35 ++ nines 1) (0 ∷ 0 ∷ 0 ∷ 9 ∷ []))
+    × (rootAnswer ByDiscriminant (area 0 (pos 2097152 ∷ []) 35) h w (nines 17) (nines 34) (9 ∷ 9 ∷ 9 ∷ 9 ∷ [])
     ≡ testAnswer 1 (zeros 16 ++ nines 1) (nines 34) (0 ∷ 0 ∷ 0 ∷ 9 ∷ []))
-    × (rootAnswer (area 0 (pos 2097152 ∷ []) 35) h w (nines 15) (nines 36) (9 ∷ 9 ∷ 9 ∷ 9 ∷ [])
+    × (rootAnswer ByDiscriminant (area 0 (pos 2097152 ∷ []) 35) h w (nines 15) (nines 36) (9 ∷ 9 ∷ 9 ∷ 9 ∷ [])
     ≡ testAnswer 1 (nines 15) (zeros 35 ++ nines 1) (0 ∷ 0 ∷ 0 ∷ 9 ∷ []))
+    × (rootAnswer ByLeastRadius (area 0 (pos 4194308 ∷ []) 34 ++ (pos 4 ∷ [])) h w (nines 17) (nines 36) (9 ∷ 9 ∷ 9 ∷ 9 ∷ [])
+    ≡ testAnswer 0 (zeros 16 ++ nines 1) (pos 0 ∷ pos 2097152 ∷ (zeros 32 ++ (pos 3 ∷ nines 1))) (0 ∷ 8 ∷ 2 ∷ 9 ∷ []))
     × (testFits 65 true h w (nines 64) (nines 35) (9 ∷ 9 ∷ 9 ∷ []) ≡ false)
-unfolding testIn areaOut scratchAfter rootNeeding rootPlaces rootContraction rootResidual rootModel displacement coefficientSum productList passing good tooLarge zeroModel weight addLists subtractLists scaleList addAtBy addPairBy addTermBy addTermsBy product upℕ zeros
-tests = (refl, refl, refl, refl, refl)
+unfolding testIn areaOut scratchAfter rootNeeding rootPlaces rootContraction rootResidual rootModel leastRadius firstOf displacement coefficientSum productList passing good tooLarge zeroModel weight addLists subtractLists scaleList addAtBy addPairBy addTermBy addTermsBy product upℕ zeros
+tests = (refl, refl, refl, refl, refl, refl)
 
 -- two proposals for 1/3 with the helper 1/3: the first has 67 numbers, the second is chosen with radius 2; neither passes; a model area of
 -- 34 numbers; a scratch of 15 and short proposals; an answer of 1

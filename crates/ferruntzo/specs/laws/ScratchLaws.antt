@@ -10,7 +10,7 @@ use borrow.Author.Tests.{le-leb}
 use Rattle.model.specs.definitions.Models.{productSize, candidateModel}
 use Rattle.model.specs.definitions.Area.{modelSize, candidateSize, areaModel, areaCandidate, fits, areaOut}
 use Rattle.certificate.specs.definitions.Tests.{scratchSize}
-use Rattle.certificate.specs.definitions.Root.{byDiscriminant}
+use Rattle.certificate.specs.declared.types.RootRule.{RootRule}
 use Rattle.certificate.specs.laws.GroupTheorem.{quotient-as-65, root-as-65}
 use Rattle.job.specs.definitions.Outcomes.{JobOutcome, counted, refusalNumber, refusedCommand, resultCount}
 use Rattle.job.specs.definitions.Work.{checkNeeding, workNeeding}
@@ -35,10 +35,10 @@ module _ (scratch former : List ℤ) (room : scratchSize ≤ length scratch) (ro
         ap₂ (λ t o. cond t o shortTest) (same-fits (fits modelSize f && fits modelSize g))
         (quotient-as-65 (areaModel f) (areaModel g) (candidateModel (areaCandidate h)) (candidateModel (areaCandidate w)) room room′)
 
-    pub root-call-as-65 : (f : List ℤ) → rootCall scratchSize f h w scratch out numbers ≡ rootCall productSize f h w former out numbers
-    root-call-as-65 f =
+    pub root-call-as-65 : (rule : RootRule) (f : List ℤ) → rootCall rule scratchSize f h w scratch out numbers ≡ rootCall rule productSize f h w former out numbers
+    root-call-as-65 rule f =
         ap₂ (λ t o. cond t o shortTest) (same-fits (fits modelSize f))
-        (root-as-65 byDiscriminant (areaModel f) (candidateModel (areaCandidate h)) (candidateModel (areaCandidate w)) room room′)
+        (root-as-65 rule (areaModel f) (candidateModel (areaCandidate h)) (candidateModel (areaCandidate w)) room room′)
 
   pub selection-call-as-65 : (f g first second : List ℤ) (answer : List ℕ)
       → selectionCall scratchSize f g first second scratch answer ≡ selectionCall productSize f g first second former answer

@@ -4,7 +4,7 @@ use mathlib.Core.List.{List, [], _∷_}
 use Prim.Native.Nat.{ℕ, _+_}
 use lib.Dec.{eqb}
 use Rattle.model.specs.definitions.Models.{maxDegree}
-use Rattle.certificate.specs.definitions.Root.{byDiscriminant}
+use Rattle.certificate.specs.declared.types.RootRule.the-variants.{ByDiscriminant, ByLeastRadius}
 use Rattle.job.specs.definitions.Bytes.{byteAt, unsignedAt, blockAt}
 use Rattle.job.specs.definitions.Operations.{Maker, load, add, subtract, multiply, quotient, root, makingFor, namesIn}
 use Rattle.job.specs.declared.types.Operation.{Operation}
@@ -17,7 +17,7 @@ use Rattle.job.specs.declared.types.OperandValues.{OperandValues}
 use Rattle.job.specs.declared.types.OperandValues.the-variants.{Any, EditionOne, KeptDegree}
 use Rattle.job.specs.declared.types.Shape.{Shape}
 
--- 01's table of commands: the byte of each
+-- 01's table of commands: the byte of each; 02, S-22: "Add command 0x22, with the operands of 0x21."
 abbrev pub commandBytes : List (ℕ × Kind)
 commandBytes =
     (0x00, End)
@@ -27,7 +27,8 @@ commandBytes =
     ∷ (0x12, Result Subtract)
     ∷ (0x13, Result Multiply)
     ∷ (0x20, Result Quotient)
-    ∷ (0x21, Result Root)
+    ∷ (0x21, Result (Root ByDiscriminant))
+    ∷ (0x22, Result (Root ByLeastRadius))
     ∷ []
 
 -- every other byte is unknown
@@ -69,10 +70,10 @@ operationRow Quotient = record {
   values = Any;
   maker = λ job at. quotient (byteAt job (at + 1)) (byteAt job (at + 2)) (blockAt job (at + 3) 0) (blockAt job (at + 136) 0);
 }
-operationRow Root = record {
+operationRow (Root rule) = record {
   width = 267;
   values = Any;
-  maker = λ job at. root byDiscriminant (byteAt job (at + 1)) (blockAt job (at + 2) 0) (blockAt job (at + 135) 0);
+  maker = λ job at. root rule (byteAt job (at + 1)) (blockAt job (at + 2) 0) (blockAt job (at + 135) 0);
 }
 
 -- how many results a command names does not depend on the job's bytes, so the maker on the empty job tells it

@@ -7,7 +7,7 @@ use Prim.Native.Nat.{ℕ, _<_}
 use lib.IntN.{pos}
 use Rattle.integer.specs.definitions.Fraction.{ℚ, whole, _+ℚ_, _-ℚ_, _*ℚ_, _≤ℚ_, ∣_∣ℚ, _/ℚ_}
 use Rattle.model.specs.definitions.Allowed.{Allows}
-use Rattle.certificate.specs.definitions.Root.{RootRule}
+use Rattle.certificate.specs.declared.types.RootRule.{RootRule}
 use Rattle.model.specs.declared.types.Model.{Model}
 use Rattle.job.specs.definitions.Operations.{Maker, load, add, subtract, multiply, quotient, root, Making}
 use Rattle.job.specs.definitions.Operations.{of-none, of-one, of-two, makingFor}

@@ -13,7 +13,8 @@ use Rattle.model.specs.definitions.Add.{sumModel, additionPlaces, differenceMod
 use Rattle.model.specs.definitions.Multiply.{productModel, multiplicationPlaces}
 use Rattle.certificate.specs.definitions.Tests.{Certificate, makeCertificate, zeroCertificate}
 use Rattle.certificate.specs.definitions.Quotient.{quotientPlacesBehind, quotientCertificate}
-use Rattle.certificate.specs.definitions.Root.{RootRule, rootPlacesBehind, rootCertificate}
+use Rattle.certificate.specs.definitions.Root.{rootPlacesBehind, rootCertificate}
+use Rattle.certificate.specs.declared.types.RootRule.{RootRule}
 use Rattle.model.specs.declared.types.Model.{Model}
 use Rattle.job.specs.declared.types.Names.{Names}
 use Rattle.job.specs.declared.types.Names.the-variants.{Nothing, One, Two}

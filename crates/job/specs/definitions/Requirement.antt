@@ -2,7 +2,8 @@
 -- else a reader believes, besides the library's numbers and lists:
 --   the commands in the bytes, signed numbers among them: Bytes, Decode, Reading, Reader; the types of src/types.rt
 --   what each command gives: Operations; model's Models, src/types.rt, Load, Add, Multiply; certificate's Tests, Quotient,
---     Root; chebyshev's Coefficients, Product; integer's Rounding, Ring, Integer
+--     Root, src/types.rt; radius's LeastRadius, src/types.rt; chebyshev's Coefficients, Product; integer's Rounding, Ring,
+--     Integer
 --   what refusals there are, and their order: `Meets` of Order, `areaPlaces` of Work; model's Outcomes
 --   what the code's answer means: `jobOutcomeOf` of Outcomes; for C, `answerIn`, `exportedPlaces` of ferruntzo's Jobs
 --   where the models stand in the work area: `storedResult`, `modelsIn` of Work; model's Area
@@ -19,7 +20,7 @@ use Rattle.integer.specs.definitions.Fraction.{ℚ, whole, _+ℚ_, _-ℚ_, _*�
 use Rattle.model.specs.definitions.Allowed.{Allows, OnInterval}
 use Rattle.model.specs.definitions.Outcomes.{Outcome}
 use Rattle.certificate.specs.definitions.Tests.{Certificate}
-use Rattle.certificate.specs.definitions.Root.{RootRule}
+use Rattle.certificate.specs.declared.types.RootRule.{RootRule}
 use Rattle.model.specs.declared.types.Model.{Model}
 use Rattle.job.specs.definitions.Operations.{Maker, load, add, subtract, multiply, quotient, root, namesBad, operation}
 use Rattle.job.specs.definitions.Decode.{Command, result}
@@ -79,7 +80,8 @@ pub data Permitted (cs : List Command) (x : ℚ) (box : ℕ → Box) : ℕ → T
       → ¬ Lies (whole (pos 0)) (box k)
       → ContainsFour _/ℚ_ (box j) (box k) (box i)
       → Permitted cs x box i
-  -- "Root: low = 0 or low > 0 with low² ≤ the old low, and high ≥ 0 with high² ≥ the old high."
+  -- "Root: low = 0 or low > 0 with low² ≤ the old low, and high ≥ 0 with high² ≥ the old high." For 0x21 and 0x22; 02, S-22: "A
+  -- job using it is as certain as any other."
   root-box : (i j : ℕ) (rule : RootRule) (h w : Model) → commandFor cs i ≡ result (root rule j h w) → Permitted cs x box j
       → (box i .low ≡ whole (pos 0)) ⊎ ((whole (pos 0) <ℚ box i .low) × ((box i .low *ℚ box i .low) ≤ℚ box j .low))
       → whole (pos 0) ≤ℚ box i .high → box j .high ≤ℚ (box i .high *ℚ box i .high)

@@ -12,7 +12,8 @@ use Rattle.model.specs.definitions.Outcomes.{Outcome, accepted}
 use Rattle.model.specs.laws.OperationsSound.{addition-sound, subtraction-sound, multiplication-sound}
 use Rattle.certificate.specs.definitions.Tests.{scratchSize}
 use Rattle.certificate.specs.definitions.Quotient.{quotientOutcome}
-use Rattle.certificate.specs.definitions.Root.{RootRule, rootOutcome}
+use Rattle.certificate.specs.definitions.Root.{rootOutcome}
+use Rattle.certificate.specs.declared.types.RootRule.{RootRule}
 use Rattle.certificate.specs.laws.QuotientSound.{quotient-sound, quotient-nonzero}
 use Rattle.certificate.specs.laws.RootSound.{root-sound, root-overlap}
 use Rattle.model.specs.declared.types.Model.{Model}

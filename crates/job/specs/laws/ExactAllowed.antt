@@ -10,7 +10,7 @@ use Rattle.integer.specs.laws.OrderedRingLaws.{le-refl, le-of-eq}
 use Rattle.integer.specs.definitions.Fraction.{ℚ, whole, _*ℚ_, _≤ℚ_, _<ℚ_}
 use Rattle.integer.specs.laws.FractionOrder.{ℚ-ordered, ≤ℚ-antisym, ≤ℚ-decide}
 use Rattle.model.specs.definitions.Allowed.{Allows, OnInterval}
-use Rattle.certificate.specs.definitions.Root.{RootRule}
+use Rattle.certificate.specs.declared.types.RootRule.{RootRule}
 use Rattle.model.specs.declared.types.Model.{Model}
 use Rattle.job.specs.definitions.Operations.{quotient, root}
 use Rattle.job.specs.definitions.Decode.{Command, result}

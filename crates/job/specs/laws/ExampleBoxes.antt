@@ -15,13 +15,13 @@ use Rattle.integer.specs.laws.PairLaws.{den-is, den-mul}
 use Rattle.integer.specs.laws.FractionOrder.{ℚ-ordered, fraction-le, fraction-neg}
 use Rattle.job.specs.definitions.Requirement.{Box, Lies, Permitted, load-box, add-box, subtract-box, multiply-box, quotient-box, root-box}
 use Rattle.job.specs.laws.ExampleJob.{exampleCommands}
-use Rattle.job.specs.laws.ExampleValues.{third, allows-a, allows-b, divided, nonzero, upto-at}
+use Rattle.job.specs.laws.ExampleValues.{third, allows-a, allows-b, allows-c, divided, nonzero, upto-at}
 
 -- a box by its ends, in order
 abbrev ends : (l : ℤ) (a : ℕ) (h : ℤ) (b : ℕ) → (l /1+ a) ≤ℚ (h /1+ b) → Box
 ends l a h b o = record { low = l /1+ a; high = h /1+ b; ordered = o }
 
--- a; b; around a·a, a, a + b, b, (a + b)·(a + b), that over a, a + b, (a + b) + a, (a + b)·a
+-- a; b; around a·a, a, a + b, b, (a + b)·(a + b), that over a, a + b, (a + b) + a, (a + b)·a; c; its root
 abbrev boxes : List Box
 boxes =
     ends (pos 257) 127 (pos 257) 127 (le-refl ℚ-ordered _)
@@ -35,6 +35,8 @@ boxes =
     ∷ ends (pos 0) 0 (pos 4) 0 (simp (fraction-le, den-is) (leZ-yes tt))
     ∷ ends (pos 1) 0 (pos 7) 0 (simp (fraction-le, den-is) (leZ-yes tt))
     ∷ ends (pos 0) 0 (pos 12) 0 (simp (fraction-le, den-is) (leZ-yes tt))
+    ∷ ends (pos 4) 0 (pos 4) 0 (le-refl ℚ-ordered _)
+    ∷ ends (pos 1) 0 (pos 3) 0 (simp (fraction-le, den-is) (leZ-yes tt))
     ∷ []
 
 abbrev pub exampleBox : ℕ → Box
@@ -122,7 +124,17 @@ fits-10 =
       high-high = between (pos 0) 0 (pos 12) 0 _ (pos 12) 0 (simp fraction-mul (fraction-eq _ _ _ _ (simp (den-mul, den-is)))) (leZ-yes tt) (leZ-yes tt);
     })
 
+fits-11 : Fits 11
+fits-11 = load-box 11 _ _ refl allows-c refl refl
+
+-- the root of command 0x22, with the boxes of a root of 0x21
+fits-12 : Fits 12
+fits-12 =
+    root-box 12 11 _ _ _ refl fits-11 (inr (positive, simp (fraction-mul, fraction-le, den-mul, den-is) (leZ-yes tt)))
+    (simp (whole-is, fraction-le, den-is) (leZ-yes tt)) (simp (fraction-mul, fraction-le, den-mul, den-is) (leZ-yes tt))
+
 -- every box of the example is permitted
-pub example-permitted : (i : ℕ) → i < 11 → Fits i
+pub example-permitted : (i : ℕ) → i < 13 → Fits i
 example-permitted =
-    upto-at Fits 11 (((((((((((tt, fits-0), fits-1), fits-2), fits-3), fits-4), fits-5), fits-6), fits-7), fits-8), fits-9), fits-10)
+    upto-at Fits 13
+    (((((((((((((tt, fits-0), fits-1), fits-2), fits-3), fits-4), fits-5), fits-6), fits-7), fits-8), fits-9), fits-10), fits-11), fits-12)

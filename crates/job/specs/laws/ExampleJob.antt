@@ -11,7 +11,9 @@ use Rattle.model.specs.definitions.Add.{sumModel, differenceModel}
 use Rattle.model.specs.definitions.Multiply.{productModel, productList, productLoss}
 use Rattle.model.specs.definitions.Round.{rounded, roundingLoss}
 use Rattle.model.specs.declared.types.Model.{Model}
-use Rattle.certificate.specs.definitions.Root.{byDiscriminant, rootPlaces, rootContraction, rootResidual, rootModel}
+use Rattle.certificate.specs.definitions.Root.{rootPlaces, rootContraction, rootResidual, rootModel}
+use Rattle.radius.specs.definitions.LeastRadius.{leastRadius, firstOf}
+use Rattle.certificate.specs.declared.types.RootRule.the-variants.{ByDiscriminant, ByLeastRadius}
 use Rattle.certificate.specs.definitions.Quotient.{quotientContraction, quotientResidual, quotientModel}
 use Rattle.certificate.specs.definitions.Tests.{displacement}
 use Rattle.job.specs.definitions.Bytes.{signedsAt}
@@ -39,22 +41,27 @@ exampleJob =
     ++ ((0x21 ∷ 6 ∷ block 1 (2097152 ∷ 1048576 ∷ [])) ++ block 0 (262144 ∷ [])
     ++ ((0x11 ∷ 8 ∷ 3 ∷ [])
     ++ ((0x13 ∷ 8 ∷ 3 ∷ 0xFF ∷ [])
-    ++ (0x00 ∷ []))))))))))))
+    ++ ((0x10 ∷ block 0 (4194308 ∷ [])) ++ wordsFor (4 ∷ [])
+    ++ ((0x22 ∷ 11 ∷ block 0 (2097152 ∷ [])) ++ block 0 (262144 ∷ [])
+    ++ (0x00 ∷ []))))))))))))))
 
--- a, about 2; b, about T_1; a·a; its root, a; a + b; b; (a + b)·(a + b); that over a; its root, a + b; (a + b) + a; (a + b)·a
+-- a, about 2; b, about T_1; a·a; its root, a; a + b; b; (a + b)·(a + b); that over a; its root, a + b; (a + b) + a; (a + b)·a; c,
+-- about 4; its root by 0x22, with radius 3 where 0x21 gives 4
 abbrev pub exampleCommands : List Command
 exampleCommands =
     result (load (modelBy 0 (2097152 ∷ []) 16384))
     ∷ result (load (modelBy 1 (0 ∷ 1048576 ∷ []) 16384))
     ∷ result (multiply 0 0 0)
-    ∷ result (root byDiscriminant 2 (modelBy 0 (2097152 ∷ []) 0) (modelBy 0 (262144 ∷ []) 0))
+    ∷ result (root ByDiscriminant 2 (modelBy 0 (2097152 ∷ []) 0) (modelBy 0 (262144 ∷ []) 0))
     ∷ result (add 3 1)
     ∷ result (subtract 4 3)
     ∷ result (multiply 4 4 32)
     ∷ result (quotient 6 3 (modelBy 2 (2359296 ∷ 2097152 ∷ 262144 ∷ []) 0) (modelBy 0 (524288 ∷ []) 0))
-    ∷ result (root byDiscriminant 6 (modelBy 1 (2097152 ∷ 1048576 ∷ []) 0) (modelBy 0 (262144 ∷ []) 0))
+    ∷ result (root ByDiscriminant 6 (modelBy 1 (2097152 ∷ 1048576 ∷ []) 0) (modelBy 0 (262144 ∷ []) 0))
     ∷ result (add 8 3)
     ∷ result (multiply 8 3 32)
+    ∷ result (load (modelBy 0 (4194308 ∷ []) 4))
+    ∷ result (root ByLeastRadius 11 (modelBy 0 (2097152 ∷ []) 0) (modelBy 0 (262144 ∷ []) 0))
     ∷ []
 
 abbrev pub exampleResults : List Model
@@ -70,6 +77,8 @@ exampleResults =
     ∷ modelBy 1 (2097152 ∷ 1048576 ∷ []) 298000
     ∷ modelBy 1 (4194304 ∷ 1048576 ∷ []) 330896
     ∷ modelBy 1 (4194304 ∷ 2097152 ∷ []) 704037
+    ∷ modelBy 0 (4194308 ∷ []) 4
+    ∷ modelBy 0 (2097152 ∷ []) 3
     ∷ []
 
 pub example-read : jobReading exampleJob ≡ well exampleCommands
@@ -77,5 +86,5 @@ unfolding jobReading readFrom readingPlaces makerAt signedsAt passing
 example-read = refl
 
 pub example-run : jobOutcome exampleJob ≡ accepted exampleResults
-unfolding jobOutcome run command operation makerPlaces readingPlaces makerAt signedsAt rootPlaces quotientContraction quotientResidual quotientModel rootContraction rootResidual rootModel displacement coefficientSum sumModel differenceModel productModel productList productLoss rounded roundingLoss good tooLarge zeroModel weight addLists subtractLists scaleList addAtBy addPairBy addTermBy addTermsBy product upℕ near floor passing
+unfolding jobOutcome run command operation makerPlaces readingPlaces makerAt signedsAt rootPlaces quotientContraction quotientResidual quotientModel rootContraction rootResidual rootModel leastRadius firstOf displacement coefficientSum sumModel differenceModel productModel productList productLoss rounded roundingLoss good tooLarge zeroModel weight addLists subtractLists scaleList addAtBy addPairBy addTermBy addTermsBy product upℕ near floor passing
 example-run = refl

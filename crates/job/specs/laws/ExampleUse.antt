@@ -1,5 +1,5 @@
 -- Requirement 3 put to use on the job of ExampleJob.antt, from its definition alone and over areas that are long enough: the job is
--- accepted with its eleven results, each is the model that 01 gives for it, and allows its exact value at 1/3.
+-- accepted with its thirteen results, each is the model that 01 gives for it, and allows its exact value at 1/3.
 use mathlib.Core.Path.{_≡_, ap, sym, _∙_, subst, subst⁻¹}
 use mathlib.Core.Bool.{Bool}
 use mathlib.Core.List.{List}
@@ -61,24 +61,24 @@ module _ {areas : List (Bool × ℕ)} {answer : JobOutcome ℕ} {work : List ℤ
   models-are : modelsIn work (answered .0) ≡ exampleResults
   models-are = made-unique (subst (λ l. Made l (modelsIn work (answered .0))) commands-are (results .made)) made
 
-  count-is : answered .0 ≡ 11
+  count-is : answered .0 ≡ 13
   count-is = sym (length-modelsIn work (answered .0)) ∙ ap length models-are
 
-  -- it is accepted with eleven results, and these are its models
-  pub example-answer : answer ≡ accepted 11
+  -- it is accepted with thirteen results, and these are its models
+  pub example-answer : answer ≡ accepted 13
   example-answer = answered .1 ∙ ap accepted count-is
 
-  pub example-models : modelsIn work 11 ≡ exampleResults
+  pub example-models : modelsIn work 13 ≡ exampleResults
   example-models = ap (modelsIn work) (sym count-is) ∙ models-are
 
   -- its exact values at 1/3 are allowed by the models in the work area
-  pub example-allowed : (i : ℕ) → i < 11 → Allows (storedResult work i) third (exampleValue i)
+  pub example-allowed : (i : ℕ) → i < 13 → Allows (storedResult work i) third (exampleValue i)
   example-allowed i h =
       exact-allowed claim (answered .1) third inside (omega (arith, count-is))
       (subst⁻¹ (λ l. Exact l third exampleValue i) commands-are (example-exact i h))
 
   -- and its boxes overlap them
-  pub example-overlaps : (i : ℕ) → i < 11 → Overlaps (exampleBox i) (storedResult work i) third
+  pub example-overlaps : (i : ℕ) → i < 13 → Overlaps (exampleBox i) (storedResult work i) third
   example-overlaps i h =
       results .vouched i (omega (arith, count-is)) third inside .overlaps exampleBox
       (subst⁻¹ (λ l. Permitted l third exampleBox i) commands-are (example-permitted i h))

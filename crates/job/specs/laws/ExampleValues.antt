@@ -1,4 +1,4 @@
--- Exact values of the job of ExampleJob.antt at x = 1/3: both loads have a radius above 0, and their values stand off the centre.
+-- Exact values of the job of ExampleJob.antt at x = 1/3: each load has a radius above 0, and its value stands off the centre.
 use mathlib.Core.Path.{_≡_, refl, sym, _∙_, ap, subst⁻¹}
 use mathlib.Core.Bool.{Bool, true, false}
 use mathlib.Core.List.{List, [], _∷_}
@@ -33,7 +33,8 @@ use Rattle.job.specs.definitions.ExactValues.{Exact, load-value, add-val
 abbrev pub third : ℚ
 third = pos 1 /1+ 2
 
--- a = 2 + 1/128; b = 1/3 + 1/96; a·a; a; a + b; b; (a + b)·(a + b); that over a; a + b; (a + b) + a; (a + b)·a
+-- a = 2 + 1/128; b = 1/3 + 1/96; a·a; a; a + b; b; (a + b)·(a + b); that over a; a + b; (a + b) + a; (a + b)·a; c = 4;
+-- its root
 abbrev exampleValues : List ℚ
 exampleValues =
     (pos 257 /1+ 127)
@@ -47,6 +48,8 @@ exampleValues =
     ∷ (pos 301 /1+ 127)
     ∷ (pos 279 /1+ 63)
     ∷ (pos 77357 /1+ 16383)
+    ∷ (pos 4 /1+ 0)
+    ∷ (pos 2 /1+ 0)
     ∷ []
 
 abbrev pub exampleValue : ℕ → ℚ
@@ -72,10 +75,15 @@ near-centre : (m : Model) (x v c : ℚ) → valueAt x (m .coefficients) ≡ c �
 unfolding position AllowsAt allows
 near-centre m x v c e h = rw e h
 
+-- a load of degree 0
+near-constant : (n e : ℕ) (v : ℚ) → ∣ v *ℚ whole (pos scale) -ℚ whole (pos n) ∣ℚ ≤ℚ whole (pos e) → Allows (modelBy 0 (n ∷ []) e) third v
+near-constant n e v =
+    near-centre (modelBy 0 (n ∷ []) e) third v (whole (pos n))
+    (valueAt-append-zeros third (pos n ∷ []) 32 ∙ value-constant ℚ-ring third (whole (pos n)))
+
 pub allows-a : Allows (modelBy 0 (2097152 ∷ []) 16384) third (exampleValue 0)
 allows-a =
-    near-centre (modelBy 0 (2097152 ∷ []) 16384) third (exampleValue 0) (whole (pos 2097152))
-    (valueAt-append-zeros third (pos 2097152 ∷ []) 32 ∙ value-constant ℚ-ring third (whole (pos 2097152)))
+    near-constant 2097152 16384 (exampleValue 0)
     (simp (whole-is, fraction-mul, fraction-neg, fraction-add, fraction-abs, ∣∣-is, fraction-le, den-mul, den-is) (leZ-yes tt))
 
 pub allows-b : Allows (modelBy 1 (0 ∷ 1048576 ∷ []) 16384) third (exampleValue 1)
@@ -83,6 +91,11 @@ unfolding value valueFrom firstKind
 allows-b =
     near-centre (modelBy 1 (0 ∷ 1048576 ∷ []) 16384) third (exampleValue 1) (third *ℚ whole (pos 1048576))
     (valueAt-append-zeros third (pos 0 ∷ pos 1048576 ∷ []) 31 ∙ solveℚ (third ∷ []) (search reifyℚ depth 12) (search reifyℚ depth 12) tt)
+    (simp (whole-is, fraction-mul, fraction-neg, fraction-add, fraction-abs, ∣∣-is, fraction-le, den-mul, den-is) (leZ-yes tt))
+
+pub allows-c : Allows (modelBy 0 (4194308 ∷ []) 4) third (exampleValue 11)
+allows-c =
+    near-constant 4194308 4 (exampleValue 11)
     (simp (whole-is, fraction-mul, fraction-neg, fraction-add, fraction-abs, ∣∣-is, fraction-le, den-mul, den-is) (leZ-yes tt))
 
 -- ---- the values
@@ -101,46 +114,52 @@ nonzero n b h e = other (simp den-is at (fraction-exact (pos n) b (pos 0) 0 (e �
     other : pos n *ℤ pos 1 ≡ pos 0 *ℤ pos (suc b) → ⊥
     other e = omega (arith, ap _⁺ e)
 
-abbrev pub Found : ℕ → Type 0
-Found i = Exact exampleCommands third exampleValue i
+abbrev pub ExactAt : ℕ → Type 0
+ExactAt i = Exact exampleCommands third exampleValue i
 
-exact-0 : Found 0
+exact-0 : ExactAt 0
 exact-0 = load-value 0 _ refl allows-a
 
-exact-1 : Found 1
+exact-1 : ExactAt 1
 exact-1 = load-value 1 _ refl allows-b
 
-exact-2 : Found 2
+exact-2 : ExactAt 2
 exact-2 = multiply-value 2 0 0 0 refl exact-0 exact-0 (simp fraction-mul (fraction-eq _ _ _ _ (simp (den-mul, den-is))))
 
-exact-3 : Found 3
+exact-3 : ExactAt 3
 exact-3 = root-value 3 2 _ _ _ refl exact-2 (simp (whole-is, fraction-le, den-is) (leZ-yes tt)) (simp fraction-mul (fraction-eq _ _ _ _ (simp (den-mul, den-is))))
 
-exact-4 : Found 4
+exact-4 : ExactAt 4
 exact-4 = add-value 4 3 1 refl exact-3 exact-1 (simp fraction-add (fraction-eq _ _ _ _ (simp (den-mul, den-is))))
 
-exact-5 : Found 5
+exact-5 : ExactAt 5
 exact-5 = subtract-value 5 4 3 refl exact-4 exact-3 (simp (fraction-neg, fraction-add) (fraction-eq _ _ _ _ (simp (den-mul, den-is))))
 
-exact-6 : Found 6
+exact-6 : ExactAt 6
 exact-6 = multiply-value 6 4 4 32 refl exact-4 exact-4 (simp fraction-mul (fraction-eq _ _ _ _ (simp (den-mul, den-is))))
 
-exact-7 : Found 7
+exact-7 : ExactAt 7
 exact-7 =
     let n = nonzero 257 127 (omega arith) in
     quotient-value 7 6 3 _ _ refl exact-6 exact-3 n (divided _ _ _ n (simp fraction-mul (fraction-eq _ _ _ _ (simp (den-mul, den-is)))))
 
-exact-8 : Found 8
+exact-8 : ExactAt 8
 exact-8 = root-value 8 6 _ _ _ refl exact-6 (simp (whole-is, fraction-le, den-is) (leZ-yes tt)) (simp fraction-mul (fraction-eq _ _ _ _ (simp (den-mul, den-is))))
 
-exact-9 : Found 9
+exact-9 : ExactAt 9
 exact-9 = add-value 9 8 3 refl exact-8 exact-3 (simp fraction-add (fraction-eq _ _ _ _ (simp (den-mul, den-is))))
 
-exact-10 : Found 10
+exact-10 : ExactAt 10
 exact-10 = multiply-value 10 8 3 32 refl exact-8 exact-3 (simp fraction-mul (fraction-eq _ _ _ _ (simp (den-mul, den-is))))
 
+exact-11 : ExactAt 11
+exact-11 = load-value 11 _ refl allows-c
+
+exact-12 : ExactAt 12
+exact-12 = root-value 12 11 _ _ _ refl exact-11 (simp (whole-is, fraction-le, den-is) (leZ-yes tt)) (simp fraction-mul (fraction-eq _ _ _ _ (simp (den-mul, den-is))))
+
 -- every value of the example is exact
-pub example-exact : (i : ℕ) → i < 11 → Found i
+pub example-exact : (i : ℕ) → i < 13 → ExactAt i
 example-exact =
-    upto-at Found 11
-    (((((((((((tt, exact-0), exact-1), exact-2), exact-3), exact-4), exact-5), exact-6), exact-7), exact-8), exact-9), exact-10)
+    upto-at ExactAt 13
+    (((((((((((((tt, exact-0), exact-1), exact-2), exact-3), exact-4), exact-5), exact-6), exact-7), exact-8), exact-9), exact-10), exact-11), exact-12)

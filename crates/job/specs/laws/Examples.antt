@@ -22,6 +22,6 @@ abbrev Answer : List (List ℕ × JobOutcome ℕ) → Type 0
 Answer l = map (λ c. counted (jobOutcome (c .0))) l ≡ map (λ c. c .1) l
 
 -- each refusal by its number and command, beside jobs at the limits; operands by their bytes, with the models they give
-pub format : Answer refusals.readings × Answer refusals.operations
+pub format : Answer refusals.readings × Answer refusals.operations × (counted (jobOutcome refusals.withoutRadius) ≡ refused 17 2)
     × (map (λ c. jobOutcome (c .0)) results.operands ≡ map (λ c. c .1) results.operands)
-format = (refusals.readings-are, refusals.operations-are, results.operands-are)
+format = (refusals.readings-are, refusals.operations-are, refusals.without-radius, results.operands-are)

@@ -1,5 +1,5 @@
 -- What each maker gives is what the library's operation or test gives for the results that it names; of a test it is what 65 gave.
-use mathlib.Core.Path.{_≡_, refl, _∙_, ap}
+use mathlib.Core.Path.{_≡_, refl, sym, _∙_, ap}
 use mathlib.Core.Bool.{Bool, true, false, cond}
 use mathlib.Core.List.{List, [], _∷_}
 use Prim.Native.Nat.{ℕ, _≤_}
@@ -12,8 +12,11 @@ use Rattle.model.specs.definitions.Add.{addition, subtraction}
 use Rattle.model.specs.definitions.Multiply.{multiplication}
 use Rattle.certificate.specs.definitions.Tests.{scratchSize, Certificate, zeroCertificate}
 use Rattle.certificate.specs.definitions.Quotient.{quotientOutcome, quotientNeeding}
-use Rattle.certificate.specs.definitions.Root.{RootRule, rootPlaces, rootOutcome, rootNeeding}
+use Rattle.certificate.specs.definitions.Root.{rootPlaces, rootOutcome, rootNeeding}
+use Rattle.certificate.specs.declared.types.RootRule.{RootRule}
 use Rattle.certificate.specs.laws.GroupTheorem.{quotient-as-65, root-as-65}
+use Rattle.certificate.specs.laws.TightTheorem.{tight-implies-root, tight-not-larger}
+use Rattle.certificate.specs.declared.types.RootRule.the-variants.{ByDiscriminant, ByLeastRadius}
 use Rattle.model.specs.declared.types.Model.{Model}
 use Rattle.job.specs.definitions.InnerContracts.{untestedOutcome}
 use Rattle.job.specs.definitions.Operations.{load, add, subtract, multiply, quotient, root, untested, resultAt, makerPlaces, operation}
@@ -74,3 +77,12 @@ quotient-operation-as-65 i j h w rs room =
 pub root-operation-as-65 : (rule : RootRule) (i : ℕ) (h w : Model) (rs : List Model) {former : ℕ} → productSize ≤ former
     → operation (root rule i h w) rs ≡ rootNeeding rule productSize former (resultAt rs i) h w
 root-operation-as-65 rule i h w rs room = root-operation rule i h w rs ∙ root-as-65 rule (resultAt rs i) h w (le-refl scratchSize) room
+
+-- 02, S-22, in a job: where 0x22 accepts, 0x21 would accept the same candidates, and its radius would not be the smaller
+pub tight-operation : (i : ℕ) (h w : Model) (rs : List Model) {c : Certificate} → operation (root ByLeastRadius i h w) rs ≡ accepted c
+    → (d : Certificate) × (operation (root ByDiscriminant i h w) rs ≡ accepted d) × (c .model .radius ≤ d .model .radius)
+tight-operation i h w rs e =
+    let passed = sym (root-operation ByLeastRadius i h w rs) ∙ e in
+    let f = resultAt rs i in
+    let other = tight-implies-root scratchSize f h w passed in
+    (_, root-operation ByDiscriminant i h w rs ∙ other, tight-not-larger scratchSize f h w passed scratchSize other)

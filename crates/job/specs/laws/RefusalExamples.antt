@@ -1,27 +1,32 @@
 -- Closed examples of the format, computed from the definitions: the shortest jobs with their answers, for each refusal that a job
 -- can meet.
-use mathlib.Core.Path.{_≡_, refl}
+use mathlib.Core.Path.{_≡_, refl, ap}
 use mathlib.Core.List.{List, [], _∷_, _++_, map}
-use Prim.Native.Nat.{ℕ}
+use Prim.Native.Nat.{ℕ, _-_}
+use native.Mathlib.Omega.{arith}
+use lib.ListN.{length}
 use Rattle.integer.specs.definitions.Rounding.{upℕ, near, floor}
 use Rattle.chebyshev.specs.definitions.Coefficients.{weight, addLists, subtractLists, scaleList, coefficientSum}
 use Rattle.chebyshev.specs.definitions.Product.{product, addAtBy, addPairBy, addTermBy, addTermsBy}
-use Rattle.model.specs.definitions.Models.{good, tooLarge, zeroModel}
-use Rattle.model.specs.definitions.Outcomes.{passing}
+use Rattle.model.specs.definitions.Models.{good, tooLarge, zeroModel, largePlace}
+use Rattle.model.specs.definitions.Outcomes.{passing, outcome}
 use Rattle.model.specs.definitions.Add.{sumModel, differenceModel}
 use Rattle.model.specs.definitions.Multiply.{productModel, productList, productLoss}
-use Rattle.certificate.specs.definitions.Root.{rootPlaces, rootContraction, rootResidual, rootModel}
+use Rattle.certificate.specs.definitions.Root.{rootPlaces, rootPlacesFor, rootContraction, rootResidual, rootModel}
+use Rattle.radius.specs.definitions.LeastRadius.{isMissing, radiusOf}
+use Rattle.radius.specs.laws.SearchLaws.{scale-missing}
+use Rattle.radius.specs.declared.types.FoundRadius.{FoundRadius}
 use Rattle.certificate.specs.definitions.Quotient.{quotientContraction, quotientResidual, quotientModel}
-use Rattle.certificate.specs.definitions.Tests.{displacement}
+use Rattle.certificate.specs.definitions.Tests.{withRadius, makeCertificate, zeroCertificate, displacement}
 use Rattle.model.specs.definitions.Round.{rounded, roundingLoss}
 use Rattle.job.specs.definitions.Bytes.{signedsAt}
 use Rattle.job.specs.definitions.Operations.{makerPlaces, operation}
 use Rattle.job.specs.definitions.Decode.{makerAt}
 use Rattle.job.specs.definitions.Reading.{readingPlaces}
 use Rattle.job.specs.definitions.Outcomes.{JobOutcome, accepted, refused, counted}
-use Rattle.job.specs.definitions.Step.{command}
-use Rattle.job.specs.definitions.Run.{run, jobOutcome}
-use Rattle.job.specs.laws.ExampleBytes.{block, job, loadBytes, one, lowest, repeated}
+use Rattle.job.specs.definitions.Step.{resulting, command}
+use Rattle.job.specs.definitions.Run.{onward, run, jobOutcome}
+use Rattle.job.specs.laws.ExampleBytes.{block, modelBy, job, loadBytes, one, lowest, repeated}
 
 -- ---- refusals of reading, 9 to 13
 
@@ -82,3 +87,25 @@ operations =
 pub operations-are : map (λ c. counted (jobOutcome (c .0))) operations ≡ map (λ c. c .1) operations
 unfolding jobOutcome run command operation makerPlaces readingPlaces makerAt signedsAt rootPlaces quotientContraction quotientResidual quotientModel rootContraction rootResidual rootModel displacement coefficientSum sumModel differenceModel productModel productList productLoss rounded roundingLoss good tooLarge zeroModel weight addLists subtractLists scaleList addAtBy addPairBy addTermBy addTermsBy product upℕ near floor passing
 operations-are = refl
+
+-- ---- refusal 17: by 0x22, the root of 1 with P10's candidates. Laws of radius give the least radius, so that the definition's
+-- search is not computed.
+
+abbrev pub withoutRadius : List ℕ
+withoutRadius = job (one ++ ((0x22 ∷ 0 ∷ block 0 (2097152 ∷ [])) ++ block 0 (262144 ∷ [])))
+
+-- the job where the search answers e, from its last command but one on
+abbrev answering : FoundRadius → JobOutcome ℕ
+answering e =
+    let f = modelBy 0 (1048576 ∷ []) 0 in
+    let h = modelBy 0 (2097152 ∷ []) 0 in
+    let w = modelBy 0 (262144 ∷ []) 0 in
+    let m = rootContraction h w in
+    let n = rootResidual f h in
+    let r = withRadius h (radiusOf e) in
+    let test = outcome (rootPlacesFor m n f h w ++ ((isMissing e, 17) ∷ largePlace r ∷ [])) (makeCertificate r m n (displacement w n)) zeroCertificate in
+    counted (onward (run (length withoutRadius - 2) withoutRadius) 2 (f ∷ []) (resulting (f ∷ []) 408 test))
+
+pub without-radius : counted (jobOutcome withoutRadius) ≡ refused 17 2
+unfolding jobOutcome run command operation makerPlaces readingPlaces makerAt signedsAt rootPlaces quotientContraction quotientResidual quotientModel rootContraction rootResidual rootModel displacement coefficientSum sumModel differenceModel productModel productList productLoss rounded roundingLoss good tooLarge zeroModel weight addLists subtractLists scaleList addAtBy addPairBy addTermBy addTermsBy product upℕ near floor passing
+without-radius = ap answering (scale-missing 262144 0 786432 (omega arith) (λ f. absurd (omega arith)))

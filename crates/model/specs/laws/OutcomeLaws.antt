@@ -9,7 +9,7 @@ use Rattle.model.specs.definitions.Evaluate.{boundsOf}
 use Rattle.model.specs.declared.types.ModelOutcome.{ModelOutcome}
 use Rattle.model.specs.declared.types.BoundsOutcome.{BoundsOutcome}
 use Rattle.model.specs.declared.types.Refusal.{Refusal}
-use Rattle.model.specs.declared.types.Refusal.the-variants.{ShortArea, BadModel, LargeResult, PointOutside, NotContracting, LargeResidual, HelperNotPositive, NegativeDiscriminant, BadValue, JobEnds, BytesAfterEnd, NotAResult, TooManyResults, BadSeries, NotFinite, LargeProposal}
+use Rattle.model.specs.declared.types.Refusal.the-variants.{ShortArea, BadModel, LargeResult, PointOutside, NotContracting, LargeResidual, HelperNotPositive, NegativeDiscriminant, BadValue, JobEnds, BytesAfterEnd, NotAResult, TooManyResults, BadSeries, NotFinite, LargeProposal, NoRadius}
 use Rattle.model.specs.declared.types.Verdict.{Verdict}
 use Rattle.model.specs.declared.types.Verdict.the-variants.{Accepted, Refused}
 
@@ -30,7 +30,8 @@ named n =
     (cond (eqb n 12) NotAResult
     (cond (eqb n 13) TooManyResults
     (cond (eqb n 14) BadSeries
-    (cond (eqb n 15) NotFinite LargeProposal))))))))))))))
+    (cond (eqb n 15) NotFinite
+    (cond (eqb n 16) LargeProposal NoRadius)))))))))))))))
 
 named-number : (r : Refusal) → named (numberOf r) ≡ r
 named-number ShortArea = refl
@@ -49,6 +50,7 @@ named-number TooManyResults = refl
 named-number BadSeries = refl
 named-number NotFinite = refl
 named-number LargeProposal = refl
+named-number NoRadius = refl
 
 -- no refusal has the number of an acceptance
 pub numberOf-positive : (r : Refusal) → 0 < numberOf r
@@ -68,6 +70,7 @@ numberOf-positive TooManyResults = omega arith
 numberOf-positive BadSeries = omega arith
 numberOf-positive NotFinite = omega arith
 numberOf-positive LargeProposal = omega arith
+numberOf-positive NoRadius = omega arith
 
 pub numberOf-injective : (r s : Refusal) → numberOf r ≡ numberOf s → r ≡ s
 numberOf-injective r s e = sym (named-number r) ∙ ap named e ∙ named-number s

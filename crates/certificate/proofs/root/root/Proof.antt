@@ -42,14 +42,14 @@ returns c =
     let r = d .before .before .before .root-numbers in
     let a = d .before .before .before .before .before .args in (
       c .refused .ensures
-          ∙ sym (root-refused-is (length (a .scratch .now)) (a .f) (candidateModel (a .h)) (candidateModel (a .w)) (numberOf (d .numbers .given .0 .0))
+          ∙ sym (root-refused-is (length (a .scratch .now)) (a .f) (candidateModel (a .h)) (candidateModel (a .w)) (a .rule) (numberOf (d .numbers .given .0 .0))
           (sym (r .ensures .0) ∙ ap reachOf (d .numbers .given .1))),
       r .ensures .1,
     )
 
 returns-2 : tie.Need-returns-2
 returns-2 c =
-    (c .root-result .ensures ∙ sym (is-reached (c .before) .last), c .before .before .before .before .before .root-numbers .ensures .1)
+    (c .root-result .ensures ∙ sym (is-reached (c .before) .last (s (c .before) .args .rule)), c .before .before .before .before .before .root-numbers .ensures .1)
 
 pub root-spec : {M : Type 1} → statement M
 root-spec =

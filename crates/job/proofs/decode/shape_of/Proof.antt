@@ -1,6 +1,7 @@
 -- `decode::shape_of` meets its contract: in an arm of one number that is the byte, in an arm of a range the byte is none of
 -- the known ones.
-use mathlib.Core.Path.{_≡_, ap}
+use borrow.Author.Needs.{needs}
+use mathlib.Core.Path.{_≡_, _∙_, ap}
 use Rattle.job.specs.definitions.Decode.{commandBytes, shapeWith, shapeOf}
 use Rattle.job.specs.declared.types.Kind.the-variants.{Unknown}
 use Rattle.job.proofs.KindLaws.{kind-unknown}
@@ -14,6 +15,7 @@ unknown c = ap shapeWith (kind-unknown commandBytes (c .before .args .b) _ (c .m
 pub shape-of-spec : {M : Type 1} → statement M
 shape-of-spec =
     tie.close (tie.spec
+    (λ c κs. search needs) (λ c κs. search needs)
     (λ c. rw (c .match .keys1))
     (λ c. rw (c .match .keys2))
     (λ c. rw (c .match .keys3))
@@ -21,5 +23,6 @@ shape-of-spec =
     (λ c. rw (c .match .keys5))
     (λ c. rw (c .match .keys6))
     (λ c. rw (c .match .keys7))
-    (λ c. rw (c .match .keys8))
+    (λ c. c .root-shape .ensures ∙ rw (c .before .match .keys8))
+    (λ c. c .root-shape2 .ensures ∙ rw (c .before .match .keys9))
     (λ c. unknown (c .before)) (λ c. unknown (c .before .before)) (λ c. unknown (c .before .before)))

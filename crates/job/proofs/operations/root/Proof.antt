@@ -6,7 +6,7 @@ use borrow.Author.Tests.{leb-false}
 use lib.ListN.{length}
 use denote.Ref.{now}
 use Rattle.certificate.specs.definitions.Tests.{scratchSize}
-use Rattle.certificate.specs.definitions.Root.{byDiscriminant, rootOutcome}
+use Rattle.certificate.specs.definitions.Root.{rootOutcome}
 use Rattle.certificate.specs.laws.Stages.{root-room}
 use Rattle.certificate.specs.laws.TestFits.{root-storable}
 use Rattle.job.specs.definitions.Bytes.{byteAt, blockAt}
@@ -36,6 +36,7 @@ returns c =
     let d = q .before .before in
     let e = d .before .before in
     let s = e .before .before in
+    let rule = s .args .rule in
     let job = now (s .args .job) in
     let at = s .args .at in
     let len = length (now (s .args .scratch)) in
@@ -44,12 +45,12 @@ returns c =
     let w = blockAt job (at + 135) 0 in (
       performs
           (q .root .ensures .0
-          ∙ ap₂ (rootOutcome byDiscriminant len f) (d .before .read-candidate .ensures) (d .read-candidate2 .ensures)
-          ∙ root-room len f h w (s .pre .1 .long))
-          (root-storable scratchSize f h w)
+          ∙ ap₂ (rootOutcome rule len f) (d .before .read-candidate .ensures) (d .read-candidate2 .ensures)
+          ∙ root-room rule len f h w (s .pre .1 .long))
+          (root-storable rule scratchSize f h w)
           (λ count rs t z n.
-          held-one z (λ f. rootOutcome byDiscriminant scratchSize f h w) f (byteAt job (at + 1)) (e .named .ensures) n
-          ∙ sym (root-operation byDiscriminant _ h w rs)),
+          held-one z (λ f. rootOutcome rule scratchSize f h w) f (byteAt job (at + 1)) (e .named .ensures) n
+          ∙ sym (root-operation rule _ h w rs)),
       q .root .ensures .1 ∙ s .pre .1 .clear,
     )
 

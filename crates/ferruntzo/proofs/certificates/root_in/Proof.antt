@@ -1,4 +1,4 @@
--- `ferruntzo_root` meets its contract.
+-- `certificates::root_in` meets its contract.
 use borrow.Author.Needs.{needs}
 use borrow.Author.Tests.{leb-true}
 use mathlib.Core.Path.{_∙_}
@@ -9,8 +9,8 @@ use Rattle.model.specs.definitions.Area.{modelSize, candidateSize, fits}
 use Rattle.certificate.specs.definitions.Root.{rootTest}
 use Rattle.certificate.specs.laws.TestFits.{root-storable}
 use Rattle.ferruntzo.proofs.Answering.{test-fits, test-given, test-storable}
-use Rattle.ferruntzo.proofs.certificates.ferruntzo_root.Statement.{statement}
-use Rattle.ferruntzo.proofs.certificates.ferruntzo_root.Tie as tie
+use Rattle.ferruntzo.proofs.certificates.root_in.Statement.{statement}
+use Rattle.ferruntzo.proofs.certificates.root_in.Tie as tie
 
 long : (c : tie.Then1) → let a = c .before .before .args in
     (modelSize ≤ length (now (a .f))) × (candidateSize ≤ length (now (a .h))) × (candidateSize ≤ length (now (a .w)))
@@ -20,7 +20,7 @@ long c =
     (leb-true modelSize (length (now (a .f))) (t .0), t .1, t .2)
 
 answer-test-requires : tie.Need-answer-test-requires
-answer-test-requires c κs = let q = c .before .before .before .root in test-storable (q .result) (q .ensures .0) (root-storable _ _ _ _)
+answer-test-requires c κs = let q = c .before .before .before .root in test-storable (q .result) (q .ensures .0) (root-storable _ _ _ _ _)
 
 returns : tie.Need-returns
 returns c =
@@ -32,17 +32,17 @@ returns c =
     rw (d .if1 .taken)
     (test-given _ (now (a .scratch)) (now (a .out)) (now (a .numbers)) (q .root .result) (q .root .ensures .1)
     (c .before .before .before .answer-test .ensures)
-    (_∙_ {b = rootTest (length (now (a .scratch))) (h .before .model-in .result) (h .candidate-in .result) (w .candidate-in2 .result)}
+    (_∙_ {b = rootTest (a .rule) (length (now (a .scratch))) (h .before .model-in .result) (h .candidate-in .result) (w .candidate-in2 .result)}
     (q .root .ensures .0)
-    (λ k. rootTest (length (now (a .scratch))) (h .before .model-in .ensures k) (h .candidate-in .ensures k) (w .candidate-in2 .ensures k))))
+    (λ k. rootTest (a .rule) (length (now (a .scratch))) (h .before .model-in .ensures k) (h .candidate-in .ensures k) (w .candidate-in2 .ensures k))))
 
 returns-2 : tie.Need-returns-2
 returns-2 c =
     let r = c .before .before .before .before in
     rw (r .before .before .before .before .if1 .left) (r .refuse-test .ensures)
 
-pub ferruntzo-root-spec : {M : Type 1} → statement M
-ferruntzo-root-spec =
+pub root-in-spec : {M : Type 1} → statement M
+root-in-spec =
     tie.close (tie.spec
     (λ c κs. long c .0) (λ c κs. long (c .before) .1) (λ c κs. long (c .before .before) .2) (λ c κs. search needs)
     answer-test-requires (λ c κs. search needs) (λ c. search needs) (λ c. search needs) (λ c. search needs) returns
