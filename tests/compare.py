@@ -39,6 +39,7 @@ import selection_cases
 import series_cases
 import soundness
 import tight_root_cases
+import tight_root_jobs
 import unit_cases
 from area_cases import ANSWERS, ANY_LENGTH, AREAS, DOUBLES, MORE, WITNESSES, area_cases, sized, witness
 from examples_of_01 import check_examples
@@ -325,7 +326,7 @@ def check_tight_roots(tests, tight_jobs, sound, entries, total):
         yield (f'tighter roots: {tight_root_cases.counted(tests)}; with the root test of the same candidates behind it: '
                f'{tests["0x21 behind it"]}; checked for soundness: {sound}')
     if 'check' in entries:
-        yield f'tighter roots in jobs: {tight_root_cases.counted_jobs(tight_jobs)}'
+        yield f'tighter roots in jobs: {tight_root_jobs.counted_jobs(tight_jobs)}'
 
 
 def check_scratches(scratches, sound, entries, total):
@@ -449,7 +450,7 @@ def main():
             previous = case
             of_job = []
             if case.entry == 'check' and number != SHORT_AREA:
-                of_job = tight_root_cases.job_kinds(*case.inputs, number, *answered_job(case, areas, expected))
+                of_job = tight_root_jobs.job_kinds(*case.inputs, number, *answered_job(case, areas, expected))
                 tight_jobs.update(of_job)
             batch.append((case, areas, number, expected))
             share = {None: SOUNDNESS_SAMPLE, SCRATCH_SIZE: SAMPLE_OF_16}.get(scratch_of(case, areas), 0)

@@ -5,7 +5,7 @@ from random import Random
 
 import jobs
 import oracle as o
-import tight_root_cases
+import tight_root_jobs
 from candidates import clipped
 from cases import BORDER_MODELS, LOWEST, ODD, Case, random_model, spoiled
 from examples_of_01 import example_job
@@ -164,7 +164,7 @@ def fixed_check():
         pass
     yield case(work.job())
     yield case(work.prefix() + jobs.root(0, TWO, QUARTER) + END)
-    yield from map(case, tight_root_cases.fixed_jobs())
+    yield from map(case, tight_root_jobs.fixed_jobs())
 
 
 # ---- Random cases ---------------------------------------------------------------------
@@ -254,13 +254,13 @@ class RandomJobs:
     def __call__(self, rng):
         kind = rng.random()
         if kind < 0.35 or len(self.kept) < 5:
-            draw, = rng.choices((tied_builder, random_builder, tight_root_cases.tight_builder), (3, 5, 2))
+            draw, = rng.choices((tied_builder, random_builder, tight_root_jobs.tight_builder), (3, 5, 2))
             builder = draw(rng)
             self.kept = (self.kept + [builder])[-40:]
             return case(builder.job())
         builder = rng.choice(self.kept)
         if kind < 0.4:
-            return case(tight_root_cases.random_job(rng))
+            return case(tight_root_jobs.random_job(rng))
         if kind < 0.53:
             return case(mutated(rng, builder.job()))
         if kind < 0.65:
