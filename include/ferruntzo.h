@@ -24,14 +24,17 @@
    S = 2^20.  Coefficients, radii and bounds are whole numbers of units, one
    unit being 1/S.  T_0 = 1, T_1 = x, T_(k+2) = 2 x T_(k+1) - T_k.
 
-   A model area holds 35 numbers: the degree n (0 to 32), 33 coefficients
-   a_0 .. a_32 and the radius e.  Coefficients beyond the degree are zero.  The
-   weight, |a_0| + .. + |a_32|, and the radius are each at most 2^28.  The
-   model allows the value v at x, where -1 <= x <= 1, when
+   A model area holds 37 numbers: the degree n (0 to 32), 33 coefficients
+   a_0 .. a_32, the radius e, and the ends l < u of its interval, in units.
+   Coefficients beyond the degree are zero.  The weight, |a_0| + .. + |a_32|, the
+   radius, |l| and |u| are each at most 2^28.  The model allows the value v at x,
+   where l <= S x <= u, when, with y = (2 S x - l - u) / (u - l),
 
-     | v - (a_0 T_0(x) + .. + a_n T_n(x)) / S |  <=  e / S.
+     | v - (a_0 T_0(y) + .. + a_n T_n(y)) / S |  <=  e / S.
 
-   A candidate area holds 34 numbers: a model without its radius.
+   On -S and S y is x.  A result is on the interval of its operands, which is to be
+   one.  A candidate area holds 34 numbers: a model without its radius, on the
+   interval of f.
 
    A proposal holds 68 numbers: a candidate h for a quotient and, from place
    FERRUNTZO_CANDIDATE_SIZE on, its helper w.
@@ -110,12 +113,13 @@ extern "C" {
 #define FERRUNTZO_MAX_DEGREE 32
 #define FERRUNTZO_MAX_WEIGHT 268435456    /* 2^28 */
 #define FERRUNTZO_MAX_RADIUS 268435456    /* 2^28 */
+#define FERRUNTZO_MAX_END 268435456       /* 2^28, of |l| and |u| */
 #define FERRUNTZO_MAX_RESIDUAL 268435456  /* 2^28, of N in the tests */
 #define FERRUNTZO_MAX_RESULTS 32          /* of a job */
 
 /* ---- Sizes of the areas, in numbers ---- */
 
-#define FERRUNTZO_MODEL_SIZE 35       /* int32_t: degree, coefficients, radius */
+#define FERRUNTZO_MODEL_SIZE 37       /* int32_t: degree, coefficients, radius, l, u */
 #define FERRUNTZO_CANDIDATE_SIZE 34   /* int32_t: degree, coefficients */
 #define FERRUNTZO_PROPOSAL_SIZE 68    /* int32_t: degree, coefficients of h, then of w */
 #define FERRUNTZO_SERIES_SIZE 34      /* int32_t: degree, coefficients of x^0 .. x^32 */
@@ -123,7 +127,7 @@ extern "C" {
 #define FERRUNTZO_SCRATCH_SIZE 16     /* int64_t; 65 before version 3.0.0 */
 #define FERRUNTZO_NUMBERS_SIZE 3      /* uint64_t: m, N, b */
 #define FERRUNTZO_REPORT_SIZE FERRUNTZO_NUMBERS_SIZE  /* its former name */
-#define FERRUNTZO_WORK_SIZE 1120      /* int32_t: 32 models */
+#define FERRUNTZO_WORK_SIZE 1184      /* int32_t: 32 models */
 #define FERRUNTZO_ANSWER_SIZE 2       /* uint32_t: count, command */
 #define FERRUNTZO_SELECTION_SIZE 2    /* uint32_t: chosen, radius */
 #define FERRUNTZO_VALUES_SIZE 33             /* double: values, of T_0 .. T_32 */
@@ -160,13 +164,14 @@ extern "C" {
 #define FERRUNTZO_COMMAND_ADD 0x11
 #define FERRUNTZO_COMMAND_SUBTRACT 0x12
 #define FERRUNTZO_COMMAND_MULTIPLY 0x13
+#define FERRUNTZO_COMMAND_LOAD_ON 0x14
 #define FERRUNTZO_COMMAND_QUOTIENT 0x20
 #define FERRUNTZO_COMMAND_ROOT 0x21
 #define FERRUNTZO_COMMAND_TIGHT_ROOT 0x22
 #define FERRUNTZO_BLOCK_BYTES 133       /* degree byte and 33 coefficients */
 
-/* No longer job is ever accepted: edition, a load, 31 quotients, end. */
-#define FERRUNTZO_MAX_JOB_BYTES 8480
+/* No longer job is ever accepted: edition, a load with its ends, 31 quotients, end. */
+#define FERRUNTZO_MAX_JOB_BYTES 8488
 /* The program jobcheck prints "too long" above this; the library has no limit. */
 #define FERRUNTZO_PROGRAM_JOB_BYTES 65536
 
@@ -177,7 +182,7 @@ enum ferruntzo_refusal {
     FERRUNTZO_SHORT_AREA = 1,             /* an area, or a proposal, is shorter than needed */
     FERRUNTZO_BAD_MODEL = 2,              /* degree, weight, radius, or a nonzero beyond the degree */
     FERRUNTZO_LARGE_RESULT = 3,           /* the result's weight or radius above 2^28, its degree above 32 */
-    FERRUNTZO_POINT_OUTSIDE = 4,          /* p is not from -S to S */
+    FERRUNTZO_POINT_OUTSIDE = 4,          /* p is not from l to u */
     FERRUNTZO_NOT_CONTRACTING = 5,        /* m >= S: the helper w is too far from the inverse */
     FERRUNTZO_LARGE_RESIDUAL = 6,         /* N > 2^28 */
     FERRUNTZO_HELPER_NOT_POSITIVE = 7,    /* both root tests: w_0 + .. + w_32 <= 0 */
@@ -190,17 +195,19 @@ enum ferruntzo_refusal {
     FERRUNTZO_BAD_SERIES = 14,            /* a series' degree, weight, or a nonzero beyond the degree */
     FERRUNTZO_NOT_FINITE = 15,            /* g_0 is zero, or a value is not finite */
     FERRUNTZO_LARGE_PROPOSAL = 16,        /* the weight of a list turned into units is above 2^28 */
-    FERRUNTZO_NO_RADIUS = 17              /* tighter root test: no whole r from 0 to S has 2 M r^2 + b S^2 <= (S - m) S r */
+    FERRUNTZO_NO_RADIUS = 17,             /* tighter root test: no whole r from 0 to S has 2 M r^2 + b S^2 <= (S - m) S r */
+    FERRUNTZO_BAD_ENDS = 18,              /* a model's ends: not l < u, or |l| or |u| above 2^28; after 2 of that model */
+    FERRUNTZO_DIFFERENT_INTERVALS = 19    /* two operands on different intervals; after all models */
 };
 
 /* ---- Plain operations on models ----
 
-   Sizes: a, b and out 35, bounds 2.  Accepted: out holds the result.  Refused:
-   out is zero, if it has its 35 numbers.  A sum, difference or product of values
+   Sizes: a, b and out 37, bounds 2.  Accepted: out holds the result.  Refused:
+   out is zero, if it has its 37 numbers.  A sum, difference or product of values
    that a and b allow at some x is allowed there by out. */
 
 /* a + b and a - b: coefficient by coefficient, the larger degree, radii added.
-   Refusals: 1 (a, b or out), 2 (a or b), 3. */
+   Refusals: 1 (a, b or out), 2 or 18 (a, b), 19, 3. */
 uint32_t ferruntzo_add(const int32_t *a, size_t a_len,
                        const int32_t *b, size_t b_len,
                        int32_t *out, size_t out_len);
@@ -212,29 +219,29 @@ uint32_t ferruntzo_subtract(const int32_t *a, size_t a_len,
 /* a times b.  Coefficients beyond the kept degree are dropped and paid for in
    the radius.  kept is 0 to 32, or FERRUNTZO_DEFAULT_KEPT for 32; the
    result's degree is the smaller of kept and the sum of the degrees.
-   Refusals: 1 (a, b or out), 2 (a or b), 9 (kept), 3. */
+   Refusals: 1 (a, b or out), 2 or 18 (a, b), 19, 9 (kept), 3. */
 uint32_t ferruntzo_multiply(const int32_t *a, size_t a_len,
                             const int32_t *b, size_t b_len,
                             uint32_t kept,
                             int32_t *out, size_t out_len);
 
-/* The integral from -1 to x: degree n + 1, radius 2e + n + 1.  Two things hold of
+/* The integral from l/S to x: degree n + 1, radius e (u - l)/S, rounded up, + n + 1.  Two things hold of
    it.  It bounds the exact primitive of every list of coefficients that differ
    from those of a by at most e units in total.  And for a feed that no list
    describes, such as a certified quotient: whatever value that a allows is taken
-   at each point, cut -1 to x into k equal strips and add left-end value times
+   at each point, cut l/S to x into k equal strips and add left-end value times
    width; the sum differs from the integral's polynomial at x by at most the
-   radius plus 2 L/k units, for every k >= 1, where L is the sum of |a_k| k^2.
+   radius plus L (u - l)/(S k) units, for every k >= 1, where L is the sum of |a_k| k^2.
    docs/ENTRIES.md says which of the two to use when, and
    examples/integrate_quotient.c uses the second.
-   Refusals: 1 (a or out), 2, 3 (degree 32 always). */
+   Refusals: 1 (a or out), 2, 18, 3 (degree 32 always). */
 uint32_t ferruntzo_integrate(const int32_t *a, size_t a_len,
                              int32_t *out, size_t out_len);
 
-/* Bounds, in units, of every value that a allows at x = p/S.  p is from -S to S.
+/* Bounds, in units, of every value that a allows at x = p/S.  p is from l to u.
    bounds (2): bounds[0] <= S v <= bounds[1]; 0 and 0 when refused, if it has its
    2 numbers.
-   Refusals: 1 (a or bounds), 2, 4. */
+   Refusals: 1 (a or bounds), 2, 18, 4. */
 uint32_t ferruntzo_evaluate(const int32_t *a, size_t a_len,
                             int32_t p,
                             int64_t *bounds, size_t bounds_len);
@@ -248,7 +255,7 @@ uint32_t ferruntzo_evaluate(const int32_t *a, size_t a_len,
    -1 to 1 out allows the exact value of the series.  The radius covers this
    rounding only; docs/FORMAT.md says how the model becomes a load of a job.
    About 11.5 kB of stack.
-   Sizes: series 34, out 35.  Refused: out is zero, if it has its 35 numbers.
+   Sizes: series 34, out 37.  Refused: out is zero, if it has its 37 numbers.
    Refusals: 1 (series or out), 14, 3 (a weight near 2^28 can pass it by rounding). */
 uint32_t ferruntzo_from_series(const int32_t *series, size_t series_len,
                                int32_t *out, size_t out_len);
@@ -257,15 +264,15 @@ uint32_t ferruntzo_from_series(const int32_t *series, size_t series_len,
 
    h is the proposed answer, w a helper; docs/FORMAT.md says how to choose them.
    M is the weight of w.
-   Sizes: f and g 35, h and w 34, scratch 16, out 35, numbers 3.
+   Sizes: f and g 37, h and w 34, scratch 16, out 37, numbers 3.
    Accepted: out holds h with the radius that the test gives; numbers holds 01's
    m, N and b.  Refused: out and numbers are zero.  The 16 numbers of scratch are
    zero after every call; a longer one changes no answer.  Each of the three areas is
    left as it was if it is itself too short. */
 
-/* h for f/g, w near 1/g.  Accepted: at every x from -1 to 1 no value that g
+/* h for f/g, w near 1/g.  Accepted: at every x of their interval no value that g
    allows is zero, and each value of f over one of g is allowed by out.
-   Refusals: 1 (any area), 2 (f, g, h or w), 5, 6, 3 (the radius). */
+   Refusals: 1 (any area), 2 or 18 (f, g), 2 (h or w), 19, 5, 6, 3 (the radius). */
 uint32_t ferruntzo_quotient(const int32_t *f, size_t f_len,
                             const int32_t *g, size_t g_len,
                             const int32_t *h, size_t h_len,
@@ -274,10 +281,10 @@ uint32_t ferruntzo_quotient(const int32_t *f, size_t f_len,
                             int32_t *out, size_t out_len,
                             uint64_t *numbers, size_t numbers_len);
 
-/* h for the square root of f, w near 1/(2h).  Accepted: at every x from -1 to 1
+/* h for the square root of f, w near 1/(2h).  Accepted: at every x of f's interval
    no value that f allows is negative, and out allows the root of each; the
    radius is at most 2^27.
-   Refusals: 1 (any area), 2 (f, h or w), 7, 5, 6, 8. */
+   Refusals: 1 (any area), 2 or 18 (f), 2 (h or w), 7, 5, 6, 8. */
 uint32_t ferruntzo_root(const int32_t *f, size_t f_len,
                         const int32_t *h, size_t h_len,
                         const int32_t *w, size_t w_len,
@@ -290,7 +297,7 @@ uint32_t ferruntzo_root(const int32_t *f, size_t f_len,
    Accepted: as for ferruntzo_root, with this radius.  Where it accepts, ferruntzo_root
    accepts too, with a radius that is never smaller; it can refuse what ferruntzo_root
    accepts (f = 224 S, h = 16 S, w = S/32).
-   Refusals: 1 (any area), 2 (f, h or w), 7, 5, 6, 17. */
+   Refusals: 1 (any area), 2 or 18 (f), 2 (h or w), 7, 5, 6, 17. */
 uint32_t ferruntzo_tight_root(const int32_t *f, size_t f_len,
                               const int32_t *h, size_t h_len,
                               const int32_t *w, size_t w_len,
@@ -305,13 +312,13 @@ uint32_t ferruntzo_tight_root(const int32_t *f, size_t f_len,
    shorter than 68 numbers fails with 1, before f and g are looked at.  If both
    pass, the one with the smaller radius is chosen, if the radii are equal the
    first; if just one passes, that one.
-   Sizes: f and g 35, scratch 16, answer 2.
+   Sizes: f and g 37, scratch 16, answer 2.
 
    Accepted: answer[0] is FERRUNTZO_CHOSEN_FIRST or FERRUNTZO_CHOSEN_SECOND,
    answer[1] the radius.  The coefficients are a part of the caller's own numbers:
    the FERRUNTZO_COEFFICIENTS (33) at first + FERRUNTZO_PLACE_COEFFICIENTS, or at
    second + FERRUNTZO_PLACE_COEFFICIENTS; their degree stands before them.  At every
-   x from -1 to 1 no value that g allows is zero, and each value of f over one of g
+   x of their interval no value that g allows is zero, and each value of f over one of g
    is allowed by these coefficients with this radius.
 
    Refused, 1 included: answer is FERRUNTZO_CHOSEN_NONE and 0; it is left as it was
@@ -357,7 +364,7 @@ uint32_t ferruntzo_quotient_of_two(const int32_t *f, size_t f_len,
    Settled proves nothing: g = S + S T_31 vanishes at -1 and settles in round 7, and
    ferruntzo_quotient then refuses it with 5.  (A lone w is tested as the quotient of
    the constant S by g, with w as both h and w.)  Given up need not fail the test.  Where
-   g has a zero from -1 to 1 no proposal passes.
+   g has a zero in its interval no proposal passes.
 
    Refused, 1 included: each area that is written is zero, if it has its numbers:
    record is +0.0, h, w and units have degree 0, outcome[0] is 0 (given up).
@@ -370,7 +377,7 @@ uint32_t ferruntzo_quotient_of_two(const int32_t *f, size_t f_len,
    An area of doubles that is written may hold any bits before, signalling NaNs too.
    About 5.5 kB of stack.  There is no maker for roots; 15 and 16 never come of a job. */
 
-/* w for 1/g.  Sizes: g 35, record 34, w 34, outcome 1.
+/* w for 1/g.  Sizes: g 37, record 34, w 34, outcome 1.
    Refusals: 1 (any area), 2 (g), 15 (g_0 is zero, or a value is not finite in some
    round), 16 (the weight of w in units). */
 uint32_t ferruntzo_make_reciprocal(const int32_t *g, size_t g_len,
@@ -378,7 +385,7 @@ uint32_t ferruntzo_make_reciprocal(const int32_t *g, size_t g_len,
                                    int32_t *w, size_t w_len,
                                    uint32_t *outcome, size_t outcome_len);
 
-/* h for f/g with its helper w.  Sizes: f and g 35, record 67, h and w 34, outcome 1.
+/* h for f/g with its helper w.  Sizes: f and g 37, record 67, h and w 34, outcome 1.
    Refusals: 1 (any area), 2 (f or g), 15 (g_0 is zero, or a value of w in some round
    or of f times w is not finite), 16 (the weight of h or of w in units, each its
    own). */
@@ -399,14 +406,14 @@ uint32_t ferruntzo_to_units(const double *values, size_t values_len,
 /* ---- Jobs ----
 
    Checks the job_len bytes at job, of any length and content.
-   Sizes: work 1120, scratch 16, answer 2.
+   Sizes: work 1184, scratch 16, answer 2.
 
    Accepted: answer[0] is the count of results, 0 to 32, and answer[1] is 0.
-   Result i is the model at work + 35 * i; the rest of the 1120 numbers is zero.
-   Its degree is work[35 * i], its radius work[35 * i + FERRUNTZO_PLACE_RADIUS].
+   Result i is the model at work + 37 * i; the rest of the 1184 numbers is zero.
+   Its degree is work[37 * i], its radius work[37 * i + FERRUNTZO_PLACE_RADIUS].
 
    Refused with a number above 1: answer[0] is 0, answer[1] is the number of the
-   refused command, counted from 0 (the edition is command 0); the 1120 numbers
+   refused command, counted from 0 (the edition is command 0); the 1184 numbers
    of work are zero.
 
    In both cases the 16 numbers of scratch are zero.
@@ -420,7 +427,8 @@ uint32_t ferruntzo_to_units(const double *values, size_t values_len,
      9   edition not 1; kept degree from 33 to 254
      12  a named result that is not there yet
      13  a 33rd result
-     2   the loaded model, or h or w
+     2, 18   the loaded model; 2 also h or w
+     19  two named results on different intervals
      7, 5, 6, 8, 17, 3   as the operation or test gives them
      11  bytes after the end */
 uint32_t ferruntzo_check(const uint8_t *job, size_t job_len,

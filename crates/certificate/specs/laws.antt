@@ -25,3 +25,4 @@ pub mod TightTheorem
 pub mod Examples
 pub mod TightExamples
 pub mod GroupExamples
+pub mod FormerTests

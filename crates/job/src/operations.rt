@@ -11,12 +11,14 @@ ghost use Rattle.job.specs.definitions.Decode.{keptByte, makerAt};
 ghost use Rattle.job.specs.definitions.Work.{storedResult};
 ghost use Rattle.job.specs.definitions.InnerContracts.{untestedOutcome, Performs, Operable, NamesOne, NamesTwo, Clear};
 use crate::bytes::read_candidate;
+use crate::bytes::read_interval;
 use crate::bytes::read_model;
 use crate::bytes::read_unsigned;
 use crate::types::Operation;
 use crate::work::stored_result;
 use certificate::types::RootRule;
 use certificate::types::TestOutcome;
+use model::types::Interval;
 use model::types::Model;
 use model::types::ModelOutcome;
 
@@ -63,7 +65,19 @@ fn load(job: &[u8], at: usize) -> TestOutcome
     requires { ⌜ at + 138 ≤ length (now job) ⌝ }
     ensures { λ (r : TestOutcome). ⌜ ((w : List ℤ) → Performs (makerAt Operation.Load (now (job .entry)) at) w (testOf r)) ⌝ }
 {
-    let m = read_model(job, at + 1, read_unsigned(job, at + 134));
+    let radius = read_unsigned(job, at + 134);
+    let interval = Interval::unit();
+    let m = read_model(job, at + 1, radius, interval);
+    untested(model::load::load(m))
+}
+
+fn load_on(job: &[u8], at: usize) -> TestOutcome
+    requires { ⌜ at + 146 ≤ length (now job) ⌝ }
+    ensures { λ (r : TestOutcome). ⌜ ((w : List ℤ) → Performs (makerAt Operation.LoadOn (now (job .entry)) at) w (testOf r)) ⌝ }
+{
+    let radius = read_unsigned(job, at + 134);
+    let interval = read_interval(job, at + 138);
+    let m = read_model(job, at + 1, radius, interval);
     untested(model::load::load(m))
 }
 
@@ -146,6 +160,7 @@ pub(crate) fn operate(
         Operation::Add => add(job, at, work),
         Operation::Subtract => subtract(job, at, work),
         Operation::Multiply => multiply(job, at, work),
+        Operation::LoadOn => load_on(job, at),
         Operation::Quotient => quotient(job, at, work, scratch),
         Operation::Root(rule) => root(rule, job, at, work, scratch),
     }

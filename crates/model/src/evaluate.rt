@@ -3,10 +3,17 @@ ghost use mathlib.Core.Path.{_≡_};
 ghost use Prim.Native.Nat.{suc};
 ghost use lib.ListN.{take};
 ghost use Rattle.model.specs.definitions.InnerContracts.{Evaluable};
-ghost use Rattle.model.specs.definitions.Evaluate.{pointSum, pointError, boundsOf, evaluation};
+ghost use mathlib.Core.Bool.{true, cond};
+ghost use Prim.Native.Nat.{_≤_, _*_, _^_};
+ghost use Rattle.chebyshev.specs.definitions.Coefficients.{lipschitzWeight};
+ghost use Rattle.model.specs.definitions.Intervals.{goodEnds};
+ghost use Rattle.model.specs.definitions.Evaluate.{pointSum, pointError, mappedPoint, mapsExactly};
+ghost use Rattle.model.specs.definitions.Evaluate.{boundsOf, evaluation};
+use crate::measure::fault_of;
 use crate::measure::is_good;
 use crate::types::BoundsOutcome;
 use crate::types::COEFFICIENTS;
+use crate::types::Interval;
 use crate::types::Model;
 use crate::types::Refusal;
 use crate::types::Verdict;
@@ -18,10 +25,44 @@ const POINT_FACTOR: i64 = 1024;
 // 2^32 = 4·2^30, the scale of 4V and W.
 const SUM_SCALE: i64 = 4294967296;
 
-// V and W of document 01.
+// V and W of document 01, and the sum of |a_k|·k².
 struct PointSums {
     value: i64,
     error: u64,
+    slope: u64,
+}
+
+// A point of an interval taken to one from -1 to 1, and whether that is exact.
+struct MappedPoint {
+    point: i64,
+    exact: bool,
+}
+
+fn map_point(i: Interval, p: i32) -> MappedPoint
+    requires { ⌜ goodEnds i ≡ true ⌝ }
+    ensures { λ (r : MappedPoint). ⌜ r .point ≡ mappedPoint i p ⌝ }
+    ensures { λ (r : MappedPoint). ⌜ r .exact ≡ mapsExactly i p ⌝ }
+{
+    let low = i.lower;
+    let high = i.upper;
+    let lower = low as i64;
+    let upper = high as i64;
+    let extent = upper - lower;
+    let numerator = Model::SCALE * (2 * (p as i64) - lower - upper);
+    let point = integer::rounding::near(numerator, extent);
+    let rest = integer::absolute::magnitude(point * extent - numerator);
+    MappedPoint {
+        point,
+        exact: rest == 0,
+    }
+}
+
+// What W grows by.
+fn growth(exact: bool, slope: u64) -> u64
+    requires { ⌜ slope ≤ 2 ^ 40 ⌝ }
+    ensures { λ r. ⌜ r ≡ cond exact 0 (2 ^ 11 * slope) ⌝ }
+{
+    if exact { 0 } else { 2048 * slope }
 }
 
 // One pass over the coefficients up to the degree, with t_k and t_(k+1) at hand.
@@ -29,34 +70,42 @@ fn point_sums(degree: u32, coefficients: &[i32; COEFFICIENTS], p: i64) -> PointS
     requires { ⌜ Evaluable degree (now coefficients) p ⌝ }
     ensures { λ (r : PointSums). ⌜ r .value ≡ pointSum p 0 (take (suc degree) (now (coefficients .entry))) ⌝ }
     ensures { λ (r : PointSums). ⌜ r .error ≡ pointError 0 (take (suc degree) (now (coefficients .entry))) ⌝ }
+    ensures { λ (r : PointSums). ⌜ r .slope ≡ lipschitzWeight 0 (take (suc degree) (now (coefficients .entry))) ⌝ }
 {
     let n = degree as usize;
     let mut value: i64 = 0;
     let mut error: u64 = 0;
+    let mut slope: u64 = 0;
     let mut t = TERM_SCALE;
     let mut next = POINT_FACTOR * p;
     let mut k: usize = 0;
     while k <= n {
         let c = coefficients[k] as i64;
         value += c * t;
-        error += integer::absolute::magnitude(c) * ((k * k - k) as u64);
+        let size = integer::absolute::magnitude(c);
+        error += size * ((k * k - k) as u64);
+        slope += size * ((k * k) as u64);
         let after = integer::rounding::near(2 * p * next, Model::SCALE) - t;
         t = next;
         next = after;
         k += 1;
     }
-    PointSums { value, error }
+    PointSums {
+        value,
+        error,
+        slope,
+    }
 }
 
 pub fn evaluate(a: Model, p: i32) -> BoundsOutcome
     ensures { λ (r : BoundsOutcome). ⌜ boundsOf r ≡ evaluation a p ⌝ }
 {
     if is_good(a) {
-        let point = p as i64;
-        if integer::absolute::magnitude(point) <= Model::SCALE as u64 {
-            let sums = point_sums(a.degree, &a.coefficients, point);
+        if Interval::contains(a.interval, p) {
+            let mapped = map_point(a.interval, p);
+            let sums = point_sums(a.degree, &a.coefficients, mapped.point);
             let value = 4 * sums.value;
-            let error = sums.error as i64;
+            let error = (sums.error + growth(mapped.exact, sums.slope)) as i64;
             let radius = a.radius as i64;
             let low = integer::rounding::floor(value - error, SUM_SCALE) - radius;
             let high = integer::rounding::up(value + error, SUM_SCALE) + radius;
@@ -74,7 +123,7 @@ pub fn evaluate(a: Model, p: i32) -> BoundsOutcome
         }
     } else {
         BoundsOutcome {
-            verdict: Verdict::Refused(Refusal::BadModel),
+            verdict: Verdict::Refused(fault_of(a)),
             low: 0,
             high: 0,
         }

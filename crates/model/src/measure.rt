@@ -3,20 +3,23 @@ ghost use mathlib.Core.Path.{_≡_};
 ghost use Prim.Native.Nat.{_<_, _^_};
 ghost use lib.ListN.{length};
 ghost use Rattle.chebyshev.specs.definitions.Coefficients.{weight};
-ghost use Rattle.model.specs.definitions.Models.{coefficientCount, makeModel, candidateModel, good};
+ghost use Rattle.model.specs.definitions.Models.{coefficientCount, sizedParts, sized, good, fault};
+ghost use Rattle.model.specs.definitions.Outcomes.{numberOf};
 use crate::types::COEFFICIENTS;
 use crate::types::Candidate;
+use crate::types::Interval;
 use crate::types::Model;
+use crate::types::Refusal;
 
 pub struct Measured {
     pub good: bool,
     pub weight: u64,
 }
 
-// A model with radius 0, given by its parts.
+// The degree, the weight and what lies beyond the degree, of a model with radius 0 given by its parts.
 fn measure_parts(degree: u32, coefficients: &[i32; COEFFICIENTS]) -> Measured
     requires { ⌜ length (now coefficients) ≡ coefficientCount ⌝ }
-    ensures { λ (r : Measured). ⌜ r .good ≡ good (makeModel degree (now (coefficients .entry)) 0) ⌝ }
+    ensures { λ (r : Measured). ⌜ r .good ≡ sizedParts degree (now (coefficients .entry)) 0 ⌝ }
     ensures { λ (r : Measured). ⌜ r .weight ≡ weight (now (coefficients .entry)) ⌝ }
 {
     let n = degree as usize;
@@ -45,8 +48,9 @@ fn measure_parts(degree: u32, coefficients: &[i32; COEFFICIENTS]) -> Measured
     }
 }
 
-pub fn measure(m: Model) -> Measured
-    ensures { λ (r : Measured). ⌜ (r .good ≡ good m) × (r .weight ≡ weight (m .coefficients)) ⌝ }
+// All but the ends.
+fn measure_size(m: Model) -> Measured
+    ensures { λ (r : Measured). ⌜ (r .good ≡ sized m) × (r .weight ≡ weight (m .coefficients)) ⌝ }
 {
     let parts = measure_parts(m.degree, &m.coefficients);
     if m.radius as u64 <= Model::MAX_RADIUS {
@@ -59,8 +63,23 @@ pub fn measure(m: Model) -> Measured
     }
 }
 
+pub fn measure(m: Model) -> Measured
+    ensures { λ (r : Measured). ⌜ (r .good ≡ good m) × (r .weight ≡ weight (m .coefficients)) ⌝ }
+{
+    let size = measure_size(m);
+    if size.good {
+        Measured {
+            good: Interval::is_good(m.interval),
+            weight: size.weight,
+        }
+    } else {
+        size
+    }
+}
+
+// A candidate's ends are its operand's.
 pub fn measure_candidate(c: Candidate) -> Measured
-    ensures { λ (r : Measured). ⌜ (r .good ≡ good (candidateModel c)) × (r .weight ≡ weight (c .coefficients)) ⌝ }
+    ensures { λ (r : Measured). ⌜ (r .good ≡ sizedParts (c .degree) (c .coefficients) 0) × (r .weight ≡ weight (c .coefficients)) ⌝ }
 {
     measure_parts(c.degree, &c.coefficients)
 }
@@ -70,6 +89,17 @@ pub fn is_good(m: Model) -> bool
     ensures { λ r. ⌜ r ≡ good m ⌝ }
 {
     measure(m).good
+}
+
+// Why a model is not good: its ends count only where nothing else is wrong.
+pub fn fault_of(m: Model) -> Refusal
+    ensures { λ (r : Refusal). ⌜ numberOf r ≡ fault m ⌝ }
+{
+    if measure_size(m).good {
+        Refusal::BadEnds
+    } else {
+        Refusal::BadModel
+    }
 }
 
 // The sum of the absolute values of a list.

@@ -10,10 +10,11 @@ use lib.ListN.{length, take, drop, replicate}
 use Rattle.integer.specs.definitions.Integer.{ℤ-ring}
 use Rattle.chebyshev.specs.definitions.Coefficients.{weight, addLists, scaleList, subtractLists}
 use Rattle.model.specs.definitions.Models.{scale, coefficientCount, maxDegree, maxWeight, maxRadius, good}
-use Rattle.model.specs.definitions.Models.{makeModel, zeroModel, badPlace, largePlace}
+use Rattle.model.specs.definitions.Models.{makeModel, zeroModel, badPlace, apartPlace, largePlace}
 use Rattle.model.specs.definitions.Outcomes.{Outcome, outcome}
 use Rattle.model.specs.definitions.Round.{rounded, roundingLoss}
 use Rattle.model.specs.definitions.Integrate.{halved, alternating}
+use Rattle.model.specs.declared.types.Interval.{Interval}
 use Rattle.model.specs.declared.types.Model.{Model}
 use Rattle.model.specs.declared.round.Rounded.{Rounded}
 
@@ -56,11 +57,20 @@ pub record Evaluable (degree : ℕ) (coefficients : List ℤ) (p : ℤ) : Type 0
   pub light : weight coefficients ≤ maxWeight
   pub inside : natAbs p ≤ scale
 
--- the list 2·a_0, a_1, … of a model that has an integral
-pub record Integrable (degree : ℕ) (doubled : List ℤ) : Type 0 where
+-- the list 2·a_0, a_1, … of a model that has an integral, and the extent of its interval
+pub record Integrable (degree : ℕ) (doubled : List ℤ) (extent : ℕ) : Type 0 where
   pub all : length doubled ≡ coefficientCount
   pub degree-fits : degree < maxDegree
   pub light : weight doubled ≤ 2 * maxWeight
+  pub extent-fits : extent ≤ 2 ^ 29
+
+-- two numbers of such a list, and a place of the integral
+pub record Numerator (below above : ℤ) (extent k : ℕ) : Type 0 where
+  pub below-fits : natAbs below ≤ 2 ^ 29
+  pub above-fits : natAbs above ≤ 2 ^ 29
+  pub extent-fits : extent ≤ 2 ^ 29
+  pub some : 0 < k
+  pub place-fits : k ≤ maxDegree
 
 -- a list of which the first numbers are to be rounded, and a divisor
 pub record Roundable (c : List ℤ) (kept : ℕ) (unit : ℤ) : Type 0 where
@@ -77,9 +87,9 @@ unlessLarge m = outcome (largePlace m ∷ []) m zeroModel
 
 -- from what code has of it: the degree n, the weight w, the radius e, and the coefficients cs, which count only where w is
 -- within its limit
-unfoldable pub formedOutcome : ℕ → List ℤ → ℕ → ℕ → Outcome Model
-formedOutcome n cs w e =
-    outcome ((ltb maxWeight w || (ltb maxRadius e || ltb maxDegree n), 3) ∷ []) (makeModel n cs e) zeroModel
+unfoldable pub formedOutcome : ℕ → List ℤ → ℕ → ℕ → Interval → Outcome Model
+formedOutcome n cs w e i =
+    outcome ((ltb maxWeight w || (ltb maxRadius e || ltb maxDegree n), 3) ∷ []) (makeModel n cs e i) zeroModel
 
 -- ---- add and subtract as one operation, a + s·b with s = 1 or s = −1
 
@@ -88,10 +98,12 @@ combinedModel s a b =
     makeModel (max (a .degree) (b .degree))
     (addLists ℤ-ring (a .coefficients) (scaleList ℤ-ring s (b .coefficients)))
     (a .radius + b .radius)
+    (a .interval)
 
 unfoldable pub combination : ℤ → Model → Model → Outcome Model
 combination s a b =
-    outcome (badPlace a ∷ badPlace b ∷ largePlace (combinedModel s a b) ∷ []) (combinedModel s a b) zeroModel
+    outcome (badPlace a ∷ badPlace b ∷ apartPlace a b ∷ largePlace (combinedModel s a b) ∷ []) (combinedModel s a b)
+    zeroModel
 
 -- ---- the pass over a list c, of which the first n numbers are kept, with the divisor d
 
@@ -103,11 +115,12 @@ pub record RoundedFrom (d : ℕ) (c : List ℤ) (n : ℕ) (r : Rounded) : Type 0
 
 -- ---- the integral from the list ds = 2·a_0, a_1, …
 
--- c_1, c_2, … from ds
-unfoldable pub roundedTail : List ℤ → List ℤ
-roundedTail ds = halved 1 (subtractLists ℤ-ring ds (drop 2 ds))
+-- c_1, c_2, … from ds, over an interval of extent d
+unfoldable pub roundedTail : ℕ → List ℤ → List ℤ
+roundedTail d ds = halved d 1 (subtractLists ℤ-ring ds (drop 2 ds))
 
 -- c_0, c_1, … in a model's places
-unfoldable pub roundedIntegral : List ℤ → List ℤ
-roundedIntegral ds =
-    (alternating (roundedTail ds) ∷ roundedTail ds) ++ replicate (coefficientCount - suc (length (roundedTail ds))) (pos 0)
+unfoldable pub roundedIntegral : ℕ → List ℤ → List ℤ
+roundedIntegral d ds =
+    (alternating (roundedTail d ds) ∷ roundedTail d ds)
+    ++ replicate (coefficientCount - suc (length (roundedTail d ds))) (pos 0)

@@ -1,18 +1,18 @@
 -- Sizes of t_k, V and W of an evaluation, and a point that is accepted.
 use mathlib.Core.Path.{_≡_}
-use mathlib.Core.Bool.{true}
+use mathlib.Core.Bool.{Bool, true, false}
 use mathlib.Core.List.{List, [], _∷_}
 use Prim.Native.Nat.{ℕ, suc, _+_, _*_, _-_, _^_, _≤_}
 use native.Mathlib.Nat.{mul-le-mul, mul-le-mul-left}
 use native.Mathlib.Omega.{arith}
 use lib.IntN.{ℤ, natAbs, _*ℤ_}
 use lib.ListN.{length}
-use borrow.Author.Tests.{le-ltb}
 use Rattle.integer.specs.laws.Parts.{abs-add, abs-mul}
-use Rattle.chebyshev.specs.definitions.Coefficients.{weight}
+use Rattle.chebyshev.specs.definitions.Coefficients.{weight, lipschitzWeight}
+use Rattle.model.specs.definitions.Intervals.{contains}
 use Rattle.model.specs.definitions.Models.{scale, good}
 use Rattle.model.specs.definitions.Outcomes.{accepted, passing}
-use Rattle.model.specs.definitions.Evaluate.{pointTerm, pointSum, pointError, lowBound, highBound, evaluation}
+use Rattle.model.specs.definitions.Evaluate.{pointTerm, pointSum, pointError, growth, lowBound, highBound, evaluation}
 use Rattle.model.specs.laws.EvaluationError.{term-range}
 use Rattle.model.specs.declared.types.Model.{Model}
 
@@ -47,8 +47,23 @@ error-size k m (c ∷ a) l = go (m * (m - 1)) (natAbs c) (k * (k - 1)) (pointErr
     go : (b c t s w : ℕ) → t ≤ b → s ≤ b * w → c * t + s ≤ b * (c + w)
     go b c t s w h l = omega (arith, mul-le-mul-left c h)
 
+-- Σ|a_k|·k² ≤ m²·A
+pub slope-size : (k m : ℕ) (a : List ℤ) → k + length a ≤ suc m → lipschitzWeight k a ≤ m * m * weight a
+unfolding lipschitzWeight weight
+slope-size k m [] l = omega arith
+slope-size k m (c ∷ a) l =
+    go (m * m) (natAbs c) (k * k) (lipschitzWeight (suc k) a) (weight a) (mul-le-mul (omega arith) (omega arith)) (slope-size (suc k) m a (omega arith))
+  where
+    go : (b c t s w : ℕ) → t ≤ b → s ≤ b * w → c * t + s ≤ b * (c + w)
+    go b c t s w h l = omega (arith, mul-le-mul-left c h)
+
+pub growth-size : (exact : Bool) (a : List ℤ) → growth exact a ≤ 2 ^ 11 * lipschitzWeight 0 a
+unfolding growth
+growth-size true a = omega arith
+growth-size false a = omega arith
+
 -- ---- a point that is accepted
 
-pub evaluation-accepted : (a : Model) (p : ℤ) → good a ≡ true → natAbs p ≤ scale → evaluation a p ≡ accepted (record { low = lowBound a p; high = highBound a p })
+pub evaluation-accepted : (a : Model) (p : ℤ) → good a ≡ true → contains (a .interval) p ≡ true → evaluation a p ≡ accepted (record { low = lowBound a p; high = highBound a p })
 unfolding evaluation passing
-evaluation-accepted a p e h = rw (e, le-ltb scale (natAbs p) h)
+evaluation-accepted a p g h = rw (g, h)

@@ -1,20 +1,21 @@
--- `measure::measure` meets its contract: a model is good where it is good with radius 0 and its radius is within the limit.
+-- `measure::measure` meets its contract: the ends are tested where nothing else is wrong.
 use borrow.Author.Needs.{needs}
-use borrow.Author.Tests.{le-leb, lt-leb}
-use mathlib.Core.Path.{refl}
-use mathlib.Core.Bool.{and-false}
-use native.Mathlib.Omega.{arith}
+use mathlib.Core.Path.{sym, _∙_}
 use Rattle.model.specs.definitions.Models.{good}
 use Rattle.model.proofs.measure.measure.Statement.{statement}
 use Rattle.model.proofs.measure.measure.Tie as tie
 
 returns : tie.Need-returns
 unfolding good
-returns c = rw (le-leb (c .before .before .before .before .args .t1 .radius) 268435456 (omega arith)) (c .before .measure-parts .ensures)
+returns c =
+    let m = c .before .before .measure-size in
+    rw (sym (m .ensures .0) ∙ c .before .if1 .taken) (c .is-good .ensures, m .ensures .1)
 
 returns-2 : tie.Need-returns-2
 unfolding good
-returns-2 c = simp (lt-leb (c .before .before .before .before .args .t1 .radius) 268435456 (omega arith), and-false) (refl, c .before .measure-parts .ensures .1)
+returns-2 c =
+    let m = c .before .measure-size in
+    rw (sym (m .ensures .0) ∙ c .if1 .left) (c .if1 .left, m .ensures .1)
 
 pub measure-spec : {M : Type 1} → statement M
-measure-spec = tie.close (tie.spec (λ c κs. search needs) (λ c. search needs) returns returns-2)
+measure-spec = tie.close (tie.spec (λ c κs. search needs) (λ c κs. search needs) returns returns-2)
