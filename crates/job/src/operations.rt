@@ -66,7 +66,7 @@ fn load(job: &[u8], at: usize) -> TestOutcome
     ensures { λ (r : TestOutcome). ⌜ ((w : List ℤ) → Performs (makerAt Operation.Load (now (job .entry)) at) w (testOf r)) ⌝ }
 {
     let radius = read_unsigned(job, at + 134);
-    let interval = Interval::unit();
+    let interval = Interval::standard();
     let m = read_model(job, at + 1, radius, interval);
     untested(model::load::load(m))
 }

@@ -20,7 +20,7 @@ use Rattle.model.specs.laws.GoodLaws.{length-terms, weight-terms}
 use Rattle.model.specs.definitions.Evaluate.{mappedPoint, mapsExactly, valueSum, errorSum, lowBound, highBound}
 use Rattle.model.specs.definitions.Intervals.{contains}
 use Rattle.model.specs.laws.MappedPoint.{mapped-inside}
-use Rattle.model.specs.laws.EvaluationLaws.{sum-size, error-size, slope-size, growth-size}
+use Rattle.model.specs.laws.EvaluationLaws.{sum-size, error-size, lipschitz-size, growth-size}
 use Rattle.model.specs.declared.types.Model.{Model}
 
 -- v is V of a good model at a point inside, and w is W, which is the sum of two numbers
@@ -42,8 +42,8 @@ module _ (a : Model) (passed : good a ≡ true) where
     pub evaluable : length (a .coefficients) ≡ coefficientCount → Evaluable (a .degree) (a .coefficients) q
     evaluable all = record { all = all; degree-fits = good-is a passed .degree-fits; light = good-is a passed .weight-fits; inside = mapped-small }
 
-  pub slope-small : lipschitzWeight 0 (terms a) ≤ 2 ^ 40
-  slope-small = omega (arith, slope-size 0 32 (terms a) (omega (arith, length-terms a passed)), weight-terms a passed)
+  pub lipschitz-small : lipschitzWeight 0 (terms a) ≤ 2 ^ 40
+  lipschitz-small = omega (arith, lipschitz-size 0 32 (terms a) (omega (arith, length-terms a passed)), weight-terms a passed)
 
 module _ {a : Model} {p v : ℤ} {w : ℕ} (s : Sums a p v w) where
   is-good : Good a
@@ -62,7 +62,7 @@ module _ {a : Model} {p v : ℤ} {w : ℕ} (s : Sums a p v w) where
         arith,
         s .error-is,
         error-size 0 32 (terms a) (omega (arith, length-terms a (s .passed))),
-        slope-size 0 32 (terms a) (omega (arith, length-terms a (s .passed))),
+        lipschitz-size 0 32 (terms a) (omega (arith, length-terms a (s .passed))),
         growth-size (mapsExactly (a .interval) p) (terms a),
         weight-terms a (s .passed),
       )

@@ -26,7 +26,7 @@ pub mod MirrorAllowed
 pub mod MirroredOperations
 pub mod MirroredEvaluation
 pub mod Examples
-pub mod UnitInterval
+pub mod StandardInterval
 pub mod StripExamples
 pub mod MirrorExamples
 pub mod FormerNumbers

@@ -29,7 +29,7 @@ const SUM_SCALE: i64 = 4294967296;
 struct PointSums {
     value: i64,
     error: u64,
-    slope: u64,
+    lipschitz: u64,
 }
 
 // A point of an interval taken to one from -1 to 1, and whether that is exact.
@@ -58,11 +58,11 @@ fn map_point(i: Interval, p: i32) -> MappedPoint
 }
 
 // What W grows by.
-fn growth(exact: bool, slope: u64) -> u64
-    requires { ⌜ slope ≤ 2 ^ 40 ⌝ }
-    ensures { λ r. ⌜ r ≡ cond exact 0 (2 ^ 11 * slope) ⌝ }
+fn growth(exact: bool, lipschitz: u64) -> u64
+    requires { ⌜ lipschitz ≤ 2 ^ 40 ⌝ }
+    ensures { λ r. ⌜ r ≡ cond exact 0 (2 ^ 11 * lipschitz) ⌝ }
 {
-    if exact { 0 } else { 2048 * slope }
+    if exact { 0 } else { 2048 * lipschitz }
 }
 
 // One pass over the coefficients up to the degree, with t_k and t_(k+1) at hand.
@@ -70,12 +70,12 @@ fn point_sums(degree: u32, coefficients: &[i32; COEFFICIENTS], p: i64) -> PointS
     requires { ⌜ Evaluable degree (now coefficients) p ⌝ }
     ensures { λ (r : PointSums). ⌜ r .value ≡ pointSum p 0 (take (suc degree) (now (coefficients .entry))) ⌝ }
     ensures { λ (r : PointSums). ⌜ r .error ≡ pointError 0 (take (suc degree) (now (coefficients .entry))) ⌝ }
-    ensures { λ (r : PointSums). ⌜ r .slope ≡ lipschitzWeight 0 (take (suc degree) (now (coefficients .entry))) ⌝ }
+    ensures { λ (r : PointSums). ⌜ r .lipschitz ≡ lipschitzWeight 0 (take (suc degree) (now (coefficients .entry))) ⌝ }
 {
     let n = degree as usize;
     let mut value: i64 = 0;
     let mut error: u64 = 0;
-    let mut slope: u64 = 0;
+    let mut lipschitz: u64 = 0;
     let mut t = TERM_SCALE;
     let mut next = POINT_FACTOR * p;
     let mut k: usize = 0;
@@ -84,7 +84,7 @@ fn point_sums(degree: u32, coefficients: &[i32; COEFFICIENTS], p: i64) -> PointS
         value += c * t;
         let size = integer::absolute::magnitude(c);
         error += size * ((k * k - k) as u64);
-        slope += size * ((k * k) as u64);
+        lipschitz += size * ((k * k) as u64);
         let after = integer::rounding::near(2 * p * next, Model::SCALE) - t;
         t = next;
         next = after;
@@ -93,7 +93,7 @@ fn point_sums(degree: u32, coefficients: &[i32; COEFFICIENTS], p: i64) -> PointS
     PointSums {
         value,
         error,
-        slope,
+        lipschitz,
     }
 }
 
@@ -105,7 +105,7 @@ pub fn evaluate(a: Model, p: i32) -> BoundsOutcome
             let mapped = map_point(a.interval, p);
             let sums = point_sums(a.degree, &a.coefficients, mapped.point);
             let value = 4 * sums.value;
-            let error = (sums.error + growth(mapped.exact, sums.slope)) as i64;
+            let error = (sums.error + growth(mapped.exact, sums.lipschitz)) as i64;
             let radius = a.radius as i64;
             let low = integer::rounding::floor(value - error, SUM_SCALE) - radius;
             let high = integer::rounding::up(value + error, SUM_SCALE) + radius;

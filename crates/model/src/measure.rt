@@ -3,7 +3,7 @@ ghost use mathlib.Core.Path.{_≡_};
 ghost use Prim.Native.Nat.{_<_, _^_};
 ghost use lib.ListN.{length};
 ghost use Rattle.chebyshev.specs.definitions.Coefficients.{weight};
-ghost use Rattle.model.specs.definitions.Models.{coefficientCount, sizedParts, sized, good, fault};
+ghost use Rattle.model.specs.definitions.Models.{coefficientCount, partsWithinLimits, withinLimits, good, fault};
 ghost use Rattle.model.specs.definitions.Outcomes.{numberOf};
 use crate::types::COEFFICIENTS;
 use crate::types::Candidate;
@@ -19,7 +19,7 @@ pub struct Measured {
 // The degree, the weight and what lies beyond the degree, of a model with radius 0 given by its parts.
 fn measure_parts(degree: u32, coefficients: &[i32; COEFFICIENTS]) -> Measured
     requires { ⌜ length (now coefficients) ≡ coefficientCount ⌝ }
-    ensures { λ (r : Measured). ⌜ r .good ≡ sizedParts degree (now (coefficients .entry)) 0 ⌝ }
+    ensures { λ (r : Measured). ⌜ r .good ≡ partsWithinLimits degree (now (coefficients .entry)) 0 ⌝ }
     ensures { λ (r : Measured). ⌜ r .weight ≡ weight (now (coefficients .entry)) ⌝ }
 {
     let n = degree as usize;
@@ -49,8 +49,8 @@ fn measure_parts(degree: u32, coefficients: &[i32; COEFFICIENTS]) -> Measured
 }
 
 // All but the ends.
-fn measure_size(m: Model) -> Measured
-    ensures { λ (r : Measured). ⌜ (r .good ≡ sized m) × (r .weight ≡ weight (m .coefficients)) ⌝ }
+fn measure_limits(m: Model) -> Measured
+    ensures { λ (r : Measured). ⌜ (r .good ≡ withinLimits m) × (r .weight ≡ weight (m .coefficients)) ⌝ }
 {
     let parts = measure_parts(m.degree, &m.coefficients);
     if m.radius as u64 <= Model::MAX_RADIUS {
@@ -66,7 +66,7 @@ fn measure_size(m: Model) -> Measured
 pub fn measure(m: Model) -> Measured
     ensures { λ (r : Measured). ⌜ (r .good ≡ good m) × (r .weight ≡ weight (m .coefficients)) ⌝ }
 {
-    let size = measure_size(m);
+    let size = measure_limits(m);
     if size.good {
         Measured {
             good: Interval::is_good(m.interval),
@@ -79,7 +79,7 @@ pub fn measure(m: Model) -> Measured
 
 // A candidate's ends are its operand's.
 pub fn measure_candidate(c: Candidate) -> Measured
-    ensures { λ (r : Measured). ⌜ (r .good ≡ sizedParts (c .degree) (c .coefficients) 0) × (r .weight ≡ weight (c .coefficients)) ⌝ }
+    ensures { λ (r : Measured). ⌜ (r .good ≡ partsWithinLimits (c .degree) (c .coefficients) 0) × (r .weight ≡ weight (c .coefficients)) ⌝ }
 {
     measure_parts(c.degree, &c.coefficients)
 }
@@ -95,7 +95,7 @@ pub fn is_good(m: Model) -> bool
 pub fn fault_of(m: Model) -> Refusal
     ensures { λ (r : Refusal). ⌜ numberOf r ≡ fault m ⌝ }
 {
-    if measure_size(m).good {
+    if measure_limits(m).good {
         Refusal::BadEnds
     } else {
         Refusal::BadModel

@@ -1,7 +1,7 @@
 // A model: degree, coefficients of T_0 .. T_32 in units of 1/SCALE, radius in units, and the interval on which it holds.
 ghost use mathlib.Core.Path.{_≡_};
 ghost use Rattle.model.specs.definitions.InnerContracts.{formedOutcome};
-ghost use Rattle.model.specs.definitions.Intervals.{goodEnds, extent, contains, sameInterval, unitInterval, zeroInterval};
+ghost use Rattle.model.specs.definitions.Intervals.{goodEnds, extent, contains, sameInterval, standardInterval, zeroInterval};
 ghost use Rattle.model.specs.definitions.Models.{makeModel, zeroModel, constantModel};
 ghost use Rattle.model.specs.definitions.Outcomes.{refused, numberOf, verdictNumber, outcomeOf};
 
@@ -111,8 +111,8 @@ impl Interval {
     pub const MAX_END: u64 = 268435456;
 
     // From -1 to 1.
-    pub fn unit() -> Interval
-        ensures { λ (r : Interval). ⌜ r ≡ unitInterval ⌝ }
+    pub fn standard() -> Interval
+        ensures { λ (r : Interval). ⌜ r ≡ standardInterval ⌝ }
     {
         Interval {
             lower: -1048576,
@@ -206,7 +206,7 @@ impl Model {
     {
         let mut coefficients = [0i32; COEFFICIENTS];
         coefficients[0] = c;
-        let interval = Interval::unit();
+        let interval = Interval::standard();
         Model::new(0, coefficients, 0, interval)
     }
 }

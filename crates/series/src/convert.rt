@@ -58,7 +58,7 @@ fn convert_good(s: Series) -> ModelOutcome
     add_expanded(&mut sums, &all[..count], &table);
     let rounded = round(&sums[..count], count, UNIT);
     let coefficients = rounded.coefficients;
-    let interval = Interval::unit();
+    let interval = Interval::standard();
     ModelOutcome::formed(
         s.degree,
         coefficients,

@@ -7,7 +7,7 @@ use lib.IntN.{ℤ, pos}
 use lib.ListN.{length}
 use Rattle.integer.specs.definitions.Integer.{ℤ-ring}
 use Rattle.chebyshev.specs.definitions.Coefficients.{weight, subtractLists, scaleList}
-use Rattle.model.specs.definitions.Intervals.{unitInterval, sameInterval}
+use Rattle.model.specs.definitions.Intervals.{standardInterval, sameInterval}
 use Rattle.model.specs.definitions.Models.{scale, productSize, maxWeight}
 use Rattle.model.specs.definitions.Models.{good, candidateModel, largePlace}
 use Rattle.model.specs.definitions.Outcomes.{Outcome, accepted, refused, outcome, numberOf}
@@ -35,8 +35,8 @@ pub record Subtrahend (f : List ℤ) : Type 0 where
   pub weight-fits : weight f ≤ maxWeight
 
 -- a candidate on −S and S: m, N and b do not ask where T_k is taken
-abbrev pub unitCandidate : Candidate → Model
-unitCandidate c = candidateModel unitInterval c
+abbrev pub standardCandidate : Candidate → Model
+standardCandidate c = candidateModel standardInterval c
 
 -- a part of the scratch, of any length from 1, and two good models whose list C is formed in it
 pub record Ready (part : List ℤ) (a b : Model) : Type 0 where

@@ -7,7 +7,7 @@ use lib.IntN.{pos}
 use Rattle.integer.specs.definitions.Integer.{ℤ-ring}
 use Rattle.integer.specs.definitions.Rounding.{upℕ}
 use Rattle.chebyshev.specs.definitions.Coefficients.{weight, subtractLists, scaleList}
-use Rattle.model.specs.definitions.Models.{scale, badPlace, apartPlace, largePlace}
+use Rattle.model.specs.definitions.Models.{scale, badPlace, differentPlace, largePlace}
 use Rattle.model.specs.definitions.Outcomes.{Outcome, outcome}
 use Rattle.model.specs.definitions.Multiply.{productList}
 use Rattle.model.specs.declared.types.Model.{Model}
@@ -39,7 +39,7 @@ quotientModel h m b = withRadius h (upℕ (b * scale) (scale - m))
 -- f and g on different intervals "after the models"; "The test: m < S and N ≤ 2^28."
 abbrev pub quotientPlacesFor : ℕ → ℕ → Model → Model → Model → Model → List (Bool × ℕ)
 quotientPlacesFor m n f g h w =
-    badPlace f ∷ badPlace g ∷ badPlace h ∷ badPlace w ∷ apartPlace f g
+    badPlace f ∷ badPlace g ∷ badPlace h ∷ badPlace w ∷ differentPlace f g
     ∷ (testPlaces m n ++ (largePlace (quotientModel h m (displacement w n)) ∷ []))
 
 -- what is given behind them

@@ -18,7 +18,7 @@ use Rattle.integer.specs.definitions.Rounding.{upℕ}
 use Rattle.chebyshev.specs.definitions.Coefficients.{weight, addLists, subtractLists, scaleList, coefficientSum}
 use Rattle.chebyshev.specs.definitions.Product.{product, addAtBy, addPairBy, addTermBy, addTermsBy}
 use Rattle.model.specs.definitions.Intervals.{goodEnds, sameInterval}
-use Rattle.model.specs.definitions.Models.{sizedParts, scale, good, tooLarge, unitModel, constantModel, zeroModel}
+use Rattle.model.specs.definitions.Models.{partsWithinLimits, scale, good, tooLarge, standardModel, constantModel, zeroModel}
 use Rattle.model.specs.definitions.Multiply.{productList}
 use Rattle.model.specs.definitions.Outcomes.{number, passing}
 use Rattle.certificate.specs.definitions.Root.{rootTest, rootNeeding, rootPlaces, rootContraction, rootResidual, rootModel}
@@ -57,7 +57,7 @@ weight-positive a h = omega (arith, sum-weight a, <-parts (pos 0) (coefficientSu
 -- m, N, b, 8·b·M, the same modulo 2^64, (S−m)² and the test's number, where f has radius e
 abbrev numbers : ℕ → List ℕ
 numbers e =
-    let f = unitModel 0 (pos (2 ^ 28) ∷ replicate 32 (pos 0)) e in
+    let f = standardModel 0 (pos (2 ^ 28) ∷ replicate 32 (pos 0)) e in
     let h = candidate (2 ^ 11) in
     let w = candidate (2 ^ 28) in
     let m = rootContraction (placed f h) (placed f w) in
@@ -70,5 +70,5 @@ pub wrapped-discriminant : (numbers 0 ∷ numbers 4 ∷ [])
     ≡ (0 ∷ (2 ^ 28 - 4) ∷ (2 ^ 36 - 2 ^ 10) ∷ (2 ^ 67 - 2 ^ 41) ∷ (2 ^ 64 - 2 ^ 41) ∷ 2 ^ 40 ∷ 8 ∷ [])
     ∷ (0 ∷ 2 ^ 28 ∷ 2 ^ 36 ∷ 2 ^ 67 ∷ 0 ∷ 2 ^ 40 ∷ 8 ∷ [])
     ∷ []
-unfolding rootNeeding rootPlaces rootContraction rootResidual rootModel displacement coefficientSum productList passing sameInterval goodEnds sizedParts good tooLarge constantModel zeroModel weight addLists subtractLists scaleList addAtBy addPairBy addTermBy addTermsBy product upℕ
+unfolding rootNeeding rootPlaces rootContraction rootResidual rootModel displacement coefficientSum productList passing sameInterval goodEnds partsWithinLimits good tooLarge constantModel zeroModel weight addLists subtractLists scaleList addAtBy addPairBy addTermBy addTermsBy product upℕ
 wrapped-discriminant = refl

@@ -8,7 +8,7 @@ use Rattle.integer.specs.definitions.Rounding.{upℕ}
 use Rattle.chebyshev.specs.definitions.Coefficients.{weight, addLists, subtractLists, scaleList, coefficientSum}
 use Rattle.chebyshev.specs.definitions.Product.{product, addAtBy, addPairBy, addTermBy, addTermsBy}
 use Rattle.model.specs.definitions.Intervals.{goodEnds, sameInterval}
-use Rattle.model.specs.definitions.Models.{sizedParts, good, tooLarge, unitModel, constantModel, zeroModel}
+use Rattle.model.specs.definitions.Models.{partsWithinLimits, good, tooLarge, standardModel, constantModel, zeroModel}
 use Rattle.model.specs.definitions.Outcomes.{accepted, refused, passing}
 use Rattle.model.specs.declared.types.Candidate.{Candidate}
 use Rattle.model.specs.definitions.Multiply.{productList}
@@ -31,12 +31,12 @@ w = candidate 262144
 abbrev pub Benchmarks : Type 0
 Benchmarks =
     (quotientTest 16 (constantModel (pos 1048576)) (constantModel (pos 3145728)) (candidate 349525) (candidate 349525)
-    ≡ accepted (makeCertificate (unitModel 0 (pos 349525 ∷ replicate 32 (pos 0)) 2) 1 1 1))
+    ≡ accepted (makeCertificate (standardModel 0 (pos 349525 ∷ replicate 32 (pos 0)) 2) 1 1 1))
     × (rootTest ByDiscriminant 16 (constantModel (pos 2097152)) h w
-    ≡ accepted (makeCertificate (unitModel 0 (pos 2097152 ∷ replicate 32 (pos 0)) 1048576) 0 2097152 524288))
+    ≡ accepted (makeCertificate (standardModel 0 (pos 2097152 ∷ replicate 32 (pos 0)) 1048576) 0 2097152 524288))
     × (rootTest ByDiscriminant 16 (constantModel (pos 2097151)) h w ≡ refused 8 zeroCertificate)
     × (rootTest ByDiscriminant 16 (constantModel (pos 1048576)) h w ≡ refused 8 zeroCertificate)
 
 pub benchmarks : Benchmarks
-unfolding quotientNeeding rootNeeding rootPlaces quotientContraction quotientResidual quotientModel rootContraction rootResidual rootModel displacement coefficientSum productList passing sameInterval goodEnds sizedParts good tooLarge constantModel zeroModel weight addLists subtractLists scaleList addAtBy addPairBy addTermBy addTermsBy product upℕ
+unfolding quotientNeeding rootNeeding rootPlaces quotientContraction quotientResidual quotientModel rootContraction rootResidual rootModel displacement coefficientSum productList passing sameInterval goodEnds partsWithinLimits good tooLarge constantModel zeroModel weight addLists subtractLists scaleList addAtBy addPairBy addTermBy addTermsBy product upℕ
 benchmarks = (refl, refl, refl, refl)

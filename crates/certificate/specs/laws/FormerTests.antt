@@ -8,10 +8,10 @@ use lib.IntN.{pos}
 use lib.Signed.{leZ}
 use Rattle.chebyshev.specs.definitions.Coefficients.{coefficientSum}
 use Prim.Native.Nat.{ℕ}
-use Rattle.model.specs.definitions.Intervals.{unitInterval}
-use Rattle.model.specs.definitions.Models.{sized, badPlace, apartPlace, largePlace}
+use Rattle.model.specs.definitions.Intervals.{standardInterval}
+use Rattle.model.specs.definitions.Models.{withinLimits, badPlace, differentPlace, largePlace}
 use Rattle.model.specs.definitions.Outcomes.{refused, outcome, passing}
-use Rattle.model.specs.laws.FormerNumbers.{sizedPlace, place-former, unit-same}
+use Rattle.model.specs.laws.FormerNumbers.{formerPlace, place-former, standard-same}
 use Rattle.model.specs.declared.types.Candidate.{Candidate}
 use Rattle.model.specs.declared.types.Model.{Model}
 use Rattle.certificate.specs.definitions.Quotient.{quotientNeeding, quotientContraction, quotientResidual, quotientModel, quotientCertificate}
@@ -19,11 +19,11 @@ use Rattle.certificate.specs.definitions.Root.{rootNeeding, rootContract
 use Rattle.certificate.specs.definitions.Tests.{scratchPlace, displacement, testPlaces, zeroCertificate, placed}
 use Rattle.certificate.specs.declared.types.RootRule.{RootRule}
 
-module _ (f g : Model) (h w : Candidate) (on-f : f .interval ≡ unitInterval) (on-g : g .interval ≡ unitInterval) where
+module _ (f g : Model) (h w : Candidate) (on-f : f .interval ≡ standardInterval) (on-g : g .interval ≡ standardInterval) where
   pub quotient-former : (need len : ℕ) → let m = quotientContraction g (placed f w) in let n = quotientResidual f g (placed f h) in
       quotientNeeding need len f g h w
       ≡ outcome
-      (scratchPlace need len ∷ sizedPlace f ∷ sizedPlace g ∷ sizedPlace (placed f h) ∷ sizedPlace (placed f w)
+      (scratchPlace need len ∷ formerPlace f ∷ formerPlace g ∷ formerPlace (placed f h) ∷ formerPlace (placed f w)
       ∷ (testPlaces m n ++ (largePlace (quotientModel (placed f h) m (displacement (placed f w) n)) ∷ [])))
       (quotientCertificate f g h w) zeroCertificate
   unfolding quotientNeeding passing
@@ -33,19 +33,19 @@ module _ (f g : Model) (h w : Candidate) (on-f : f .interval ≡ unitInterval) (
       let z = zeroCertificate in
       let rest = testPlaces (quotientContraction g (placed f w)) n ++ (largePlace (quotientModel (placed f h) (quotientContraction g (placed f w)) (displacement (placed f w) n)) ∷ []) in
       ap (cond (ltb len need) (refused 1 z))
-      (place-former f on-f (badPlace g ∷ badPlace (placed f h) ∷ badPlace (placed f w) ∷ apartPlace f g ∷ rest) c z
-      ∙ ap (cond (not (sized f)) (refused 2 z))
-      (place-former g on-g (badPlace (placed f h) ∷ badPlace (placed f w) ∷ apartPlace f g ∷ rest) c z
-      ∙ ap (cond (not (sized g)) (refused 2 z))
-      (place-former (placed f h) on-f (badPlace (placed f w) ∷ apartPlace f g ∷ rest) c z
-      ∙ ap (cond (not (sized (placed f h))) (refused 2 z))
-      (place-former (placed f w) on-f (apartPlace f g ∷ rest) c z ∙ ap (cond (not (sized (placed f w))) (refused 2 z)) (rw (on-f, on-g, unit-same))))))
+      (place-former f on-f (badPlace g ∷ badPlace (placed f h) ∷ badPlace (placed f w) ∷ differentPlace f g ∷ rest) c z
+      ∙ ap (cond (not (withinLimits f)) (refused 2 z))
+      (place-former g on-g (badPlace (placed f h) ∷ badPlace (placed f w) ∷ differentPlace f g ∷ rest) c z
+      ∙ ap (cond (not (withinLimits g)) (refused 2 z))
+      (place-former (placed f h) on-f (badPlace (placed f w) ∷ differentPlace f g ∷ rest) c z
+      ∙ ap (cond (not (withinLimits (placed f h))) (refused 2 z))
+      (place-former (placed f w) on-f (differentPlace f g ∷ rest) c z ∙ ap (cond (not (withinLimits (placed f w))) (refused 2 z)) (rw (on-f, on-g, standard-same))))))
 
-module _ (rule : RootRule) (f : Model) (h w : Candidate) (on-f : f .interval ≡ unitInterval) where
+module _ (rule : RootRule) (f : Model) (h w : Candidate) (on-f : f .interval ≡ standardInterval) where
   pub root-former : (need len : ℕ) → let m = rootContraction (placed f h) (placed f w) in let n = rootResidual f (placed f h) in
       rootNeeding rule need len f h w
       ≡ outcome
-      (scratchPlace need len ∷ sizedPlace f ∷ sizedPlace (placed f h) ∷ sizedPlace (placed f w)
+      (scratchPlace need len ∷ formerPlace f ∷ formerPlace (placed f h) ∷ formerPlace (placed f w)
       ∷ (leZ (coefficientSum (w .coefficients)) (pos 0), 7) ∷ (testPlaces m n ++ rootRulePlaces rule m n (placed f h) (placed f w)))
       (rootCertificate rule f h w) zeroCertificate
   unfolding rootNeeding passing
@@ -57,5 +57,5 @@ module _ (rule : RootRule) (f : Model) (h w : Candidate) (on-f : f .interval ≡
       let rest : List (Bool × ℕ) = (leZ (coefficientSum (w .coefficients)) (pos 0), 7) ∷ (testPlaces m n ++ rootRulePlaces rule m n (placed f h) (placed f w)) in
       ap (cond (ltb len need) (refused 1 z))
       (place-former f on-f (badPlace (placed f h) ∷ badPlace (placed f w) ∷ rest) c z
-      ∙ ap (cond (not (sized f)) (refused 2 z))
-      (place-former (placed f h) on-f (badPlace (placed f w) ∷ rest) c z ∙ ap (cond (not (sized (placed f h))) (refused 2 z)) (place-former (placed f w) on-f rest c z)))
+      ∙ ap (cond (not (withinLimits f)) (refused 2 z))
+      (place-former (placed f h) on-f (badPlace (placed f w) ∷ rest) c z ∙ ap (cond (not (withinLimits (placed f h))) (refused 2 z)) (place-former (placed f w) on-f rest c z)))

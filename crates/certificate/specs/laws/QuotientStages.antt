@@ -41,9 +41,9 @@ module _ (f g : Model) (h w : Candidate) where
         unfolding quotientNeeding passing
         quotient-bad-w e = rw (good-f, good-g, good-h, e)
 
-        pub quotient-apart : good (placed f w) ≡ true → sameInterval (f .interval) (g .interval) ≡ false → quotientTest scratchSize f g h w ≡ refusedTest 19
+        pub quotient-different : good (placed f w) ≡ true → sameInterval (f .interval) (g .interval) ≡ false → quotientTest scratchSize f g h w ≡ refusedTest 19
         unfolding quotientNeeding passing
-        quotient-apart good-w e = rw (good-f, good-g, good-h, good-w, e)
+        quotient-different good-w e = rw (good-f, good-g, good-h, good-w, e)
 
 -- where all are good: from m on, where m is 01's m, n its N, and so on
 module _ {part : List ℤ} {f g : Model} {h w : Candidate} (r : QuotientReady part f g h w) (m : ℕ) (is-m : m ≡ quotientContraction g (placed f w)) where

@@ -16,17 +16,17 @@ use Rattle.integer.specs.definitions.Rounding.{upℕ}
 use Rattle.integer.specs.laws.RoundingLaws.{upℕ-least}
 use Rattle.integer.specs.laws.Clearing.{length-zeros}
 use Rattle.chebyshev.specs.definitions.Coefficients.{weight}
-use Rattle.model.specs.definitions.Models.{scale, maxDegree, maxWeight, maxRadius, sizedParts, sized, good, fault, tooLarge, candidateModel}
-use Rattle.model.specs.definitions.Intervals.{goodEnds, unitInterval}
+use Rattle.integer.specs.laws.Machine.{both-true}
+use Rattle.model.specs.definitions.Models.{scale, maxDegree, maxWeight, maxRadius, partsWithinLimits, withinLimits, good, fault, tooLarge, candidateModel}
+use Rattle.model.specs.definitions.Intervals.{goodEnds, standardInterval}
 use Rattle.model.specs.definitions.Multiply.{productList}
-use Rattle.model.specs.laws.IntervalLaws.{both}
 use Rattle.model.specs.declared.types.Interval.{Interval}
 use Rattle.model.specs.declared.types.Candidate.{Candidate}
 use Rattle.model.specs.laws.ModelLaws.{good-is}
 use Rattle.model.specs.declared.types.Model.{Model}
 use Rattle.certificate.specs.definitions.Tests.{withRadius, scratchSize, scratchAfter}
 use Rattle.certificate.specs.definitions.Quotient.{quotientNeeding, quotientTest, quotientContraction, quotientResidual}
-use Rattle.certificate.specs.definitions.InnerContracts.{unitCandidate}
+use Rattle.certificate.specs.definitions.InnerContracts.{standardCandidate}
 use Rattle.certificate.specs.definitions.Root.{rootNeeding, rootTest, rootContraction, rootResidual}
 use Rattle.certificate.specs.declared.types.RootRule.{RootRule}
 
@@ -107,19 +107,19 @@ root-room rule len f h w room = root-needs room (le-refl scratchSize) rule f h w
 -- ---- models and candidates
 
 -- a candidate on good ends is good where its size is, so that it is refused with 2 alone
-pub candidate-good : (i : Interval) (c : Candidate) → goodEnds i ≡ true → good (candidateModel i c) ≡ sizedParts (c .degree) (c .coefficients) 0
+pub candidate-good : (i : Interval) (c : Candidate) → goodEnds i ≡ true → good (candidateModel i c) ≡ partsWithinLimits (c .degree) (c .coefficients) 0
 unfolding good
-candidate-good i c e = rw e (and-true (sizedParts (c .degree) (c .coefficients) 0))
+candidate-good i c e = rw e (and-true (partsWithinLimits (c .degree) (c .coefficients) 0))
 
-pub unit-good : (i : Interval) (c : Candidate) → good (candidateModel i c) ≡ true → good (unitCandidate c) ≡ true
+pub standard-good : (i : Interval) (c : Candidate) → good (candidateModel i c) ≡ true → good (standardCandidate c) ≡ true
 unfolding good goodEnds
-unit-good i c e = candidate-good unitInterval c refl ∙ both (sizedParts (c .degree) (c .coefficients) 0) _ e .0
+standard-good i c e = candidate-good standardInterval c refl ∙ both-true (partsWithinLimits (c .degree) (c .coefficients) 0) _ e .0
 
-pub candidate-fault : (i : Interval) (c : Candidate) → sizedParts (c .degree) (c .coefficients) 0 ≡ false → 2 ≡ fault (candidateModel i c)
+pub candidate-fault : (i : Interval) (c : Candidate) → partsWithinLimits (c .degree) (c .coefficients) 0 ≡ false → 2 ≡ fault (candidateModel i c)
 candidate-fault i c e = rw e
 
 pub fault-not : (m : Model) (n : ℕ) → 2 ≢ n → 18 ≢ n → fault m ≢ n
-fault-not m n h k = by (sized m)
+fault-not m n h k = by (withinLimits m)
   where
     by : (t : Bool) → cond t 18 2 ≢ n
     by true = k
@@ -127,18 +127,18 @@ fault-not m n h k = by (sized m)
 
 -- m, N and b do not ask where T_k is taken
 module _ (i : Interval) where
-  pub quotientContraction-unit : (g : Model) (w : Candidate) → quotientContraction g (unitCandidate w) ≡ quotientContraction g (candidateModel i w)
+  pub quotientContraction-standard : (g : Model) (w : Candidate) → quotientContraction g (standardCandidate w) ≡ quotientContraction g (candidateModel i w)
   unfolding quotientContraction productList
-  quotientContraction-unit g w = refl
+  quotientContraction-standard g w = refl
 
-  pub quotientResidual-unit : (f g : Model) (h : Candidate) → quotientResidual f g (unitCandidate h) ≡ quotientResidual f g (candidateModel i h)
+  pub quotientResidual-standard : (f g : Model) (h : Candidate) → quotientResidual f g (standardCandidate h) ≡ quotientResidual f g (candidateModel i h)
   unfolding quotientResidual productList
-  quotientResidual-unit f g h = refl
+  quotientResidual-standard f g h = refl
 
-  pub rootContraction-unit : (h w : Candidate) → rootContraction (unitCandidate h) (unitCandidate w) ≡ rootContraction (candidateModel i h) (candidateModel i w)
+  pub rootContraction-standard : (h w : Candidate) → rootContraction (standardCandidate h) (standardCandidate w) ≡ rootContraction (candidateModel i h) (candidateModel i w)
   unfolding rootContraction productList
-  rootContraction-unit h w = refl
+  rootContraction-standard h w = refl
 
-  pub rootResidual-unit : (f : Model) (h : Candidate) → rootResidual f (unitCandidate h) ≡ rootResidual f (candidateModel i h)
+  pub rootResidual-standard : (f : Model) (h : Candidate) → rootResidual f (standardCandidate h) ≡ rootResidual f (candidateModel i h)
   unfolding rootResidual productList
-  rootResidual-unit f h = refl
+  rootResidual-standard f h = refl

@@ -9,7 +9,7 @@ use Rattle.integer.specs.definitions.Rounding.{upℕ}
 use Rattle.chebyshev.specs.definitions.Coefficients.{weight, addLists, subtractLists, scaleList, coefficientSum}
 use Rattle.chebyshev.specs.definitions.Product.{product, addAtBy, addPairBy, addTermBy, addTermsBy}
 use Rattle.model.specs.definitions.Intervals.{goodEnds, sameInterval}
-use Rattle.model.specs.definitions.Models.{sizedParts, good, tooLarge, unitModel, zeroModel, largePlace}
+use Rattle.model.specs.definitions.Models.{partsWithinLimits, good, tooLarge, standardModel, zeroModel, largePlace}
 use Rattle.model.specs.definitions.Outcomes.{Outcome, accepted, refused, passing, outcome}
 use Rattle.model.specs.definitions.Multiply.{productList}
 use Rattle.radius.specs.definitions.LeastRadius.{isMissing, radiusOf}
@@ -33,7 +33,7 @@ answering f h w e =
 
 -- a constant with radius e
 abbrev constant : ℕ → ℕ → Model
-constant n e = unitModel 0 (pos n ∷ replicate 32 (pos 0)) e
+constant n e = standardModel 0 (pos n ∷ replicate 32 (pos 0)) e
 
 -- the least radius is v + 1, so a search that ends at v would refuse; it is S; b is 0
 pub accepted-tight :
@@ -45,7 +45,7 @@ pub accepted-tight :
     ≡ accepted (makeCertificate (constant 2621440 1048576) 1048571 3145728 3))
     × (rootTest ByLeastRadius 16 (constant 4194304 0) (candidate 2097152) (candidate 262144)
     ≡ accepted (makeCertificate (constant 2097152 0) 0 0 0))
-unfolding rootNeeding rootPlaces rootContraction rootResidual rootModel displacement coefficientSum productList passing sameInterval goodEnds sizedParts good tooLarge zeroModel weight addLists subtractLists scaleList addAtBy addPairBy addTermBy addTermsBy product upℕ
+unfolding rootNeeding rootPlaces rootContraction rootResidual rootModel displacement coefficientSum productList passing sameInterval goodEnds partsWithinLimits good tooLarge zeroModel weight addLists subtractLists scaleList addAtBy addPairBy addTermBy addTermsBy product upℕ
 accepted-tight = (
   ap (answering (constant 15783 0) (candidate 133844) (candidate 5908123)) next-one,
   ap (answering (constant 6366 3182) (candidate 81708) (candidate 716408)) next-two,
@@ -64,7 +64,7 @@ pub refused-17 :
     × (rootTest ByLeastRadius 16 (constant 234881024 0) (candidate 16777216) (candidate 32768) ≡ refused 17 zeroCertificate)
     × (rootTest ByLeastRadius 16 (constant 3407871 0) (candidate 2621440) (candidate 1) ≡ refused 17 zeroCertificate)
     × (rootTest ByLeastRadius 16 (constant 4 65536) (candidate 2048) (candidate 268435456) ≡ refused 17 zeroCertificate)
-unfolding rootNeeding rootPlaces rootContraction rootResidual rootModel displacement coefficientSum productList passing sameInterval goodEnds sizedParts good tooLarge zeroModel weight addLists subtractLists scaleList addAtBy addPairBy addTermBy addTermsBy product upℕ
+unfolding rootNeeding rootPlaces rootContraction rootResidual rootModel displacement coefficientSum productList passing sameInterval goodEnds partsWithinLimits good tooLarge zeroModel weight addLists subtractLists scaleList addAtBy addPairBy addTermBy addTermsBy product upℕ
 refused-17 = (
   refl,
   ap (answering (constant 116509 0) (candidate 349526) (candidate 18)) missing-small,

@@ -3,7 +3,7 @@ use mathlib.Core.Bool.{cond}
 use mathlib.Core.List.{List, [], _∷_}
 use Prim.Native.Nat.{ℕ, _+_}
 use lib.Dec.{eqb}
-use Rattle.model.specs.definitions.Intervals.{unitInterval}
+use Rattle.model.specs.definitions.Intervals.{standardInterval}
 use Rattle.model.specs.definitions.Models.{maxDegree}
 use Rattle.certificate.specs.declared.types.RootRule.the-variants.{ByDiscriminant, ByLeastRadius}
 use Rattle.job.specs.definitions.Bytes.{byteAt, unsignedAt, candidateAt, blockAt, intervalAt}
@@ -58,7 +58,7 @@ pub record OperationRow : Type 0 where
 
 abbrev pub operationRow : Operation → OperationRow
 operationRow Load =
-    record { width = 137; values = Any; maker = λ job at. load (blockAt job (at + 1) (unsignedAt job (at + 134)) unitInterval) }
+    record { width = 137; values = Any; maker = λ job at. load (blockAt job (at + 1) (unsignedAt job (at + 134)) standardInterval) }
 operationRow LoadOn = record {
   width = 145;
   values = Any;

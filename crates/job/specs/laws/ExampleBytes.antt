@@ -3,7 +3,7 @@ use mathlib.Core.List.{List, [], _∷_, _++_}
 use Prim.Native.Nat.{ℕ, zero, suc, _*_, _-_, _/_, _%_}
 use lib.IntN.{ℤ, pos}
 use lib.ListN.{replicate, length}
-use Rattle.model.specs.definitions.Models.{unitModel}
+use Rattle.model.specs.definitions.Models.{standardModel}
 use Rattle.model.specs.declared.types.Candidate.{Candidate}
 use Rattle.model.specs.declared.types.Model.{Model}
 
@@ -20,7 +20,7 @@ positives [] = []
 positives (n ∷ ns) = pos n ∷ positives ns
 
 abbrev pub modelBy : ℕ → List ℕ → ℕ → Model
-modelBy n cs e = unitModel n (positives cs ++ replicate (33 - length cs) (pos 0)) e
+modelBy n cs e = standardModel n (positives cs ++ replicate (33 - length cs) (pos 0)) e
 
 abbrev pub candidateBy : ℕ → List ℕ → Candidate
 candidateBy n cs = record { degree = n; coefficients = positives cs ++ replicate (33 - length cs) (pos 0) }

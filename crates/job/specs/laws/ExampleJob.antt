@@ -6,7 +6,7 @@ use Rattle.integer.specs.definitions.Rounding.{upℕ, near, floor}
 use Rattle.chebyshev.specs.definitions.Coefficients.{weight, addLists, subtractLists, scaleList, coefficientSum}
 use Rattle.chebyshev.specs.definitions.Product.{product, addAtBy, addPairBy, addTermBy, addTermsBy}
 use Rattle.model.specs.definitions.Intervals.{goodEnds, sameInterval}
-use Rattle.model.specs.definitions.Models.{sizedParts, good, tooLarge, zeroModel}
+use Rattle.model.specs.definitions.Models.{partsWithinLimits, good, tooLarge, zeroModel}
 use Rattle.model.specs.definitions.Outcomes.{passing}
 use Rattle.model.specs.definitions.Add.{sumModel, differenceModel}
 use Rattle.model.specs.definitions.Multiply.{productModel, productList, productLoss}
@@ -87,5 +87,5 @@ unfolding jobReading readFrom readingPlaces makerAt signedsAt passing
 example-read = refl
 
 pub example-run : jobOutcome exampleJob ≡ accepted exampleResults
-unfolding jobOutcome run command operation makerPlaces readingPlaces makerAt signedsAt rootPlaces quotientContraction quotientResidual quotientModel rootContraction rootResidual rootModel leastRadius firstOf displacement coefficientSum sumModel differenceModel productModel productList productLoss rounded roundingLoss sameInterval goodEnds sizedParts good tooLarge zeroModel weight addLists subtractLists scaleList addAtBy addPairBy addTermBy addTermsBy product upℕ near floor passing
+unfolding jobOutcome run command operation makerPlaces readingPlaces makerAt signedsAt rootPlaces quotientContraction quotientResidual quotientModel rootContraction rootResidual rootModel leastRadius firstOf displacement coefficientSum sumModel differenceModel productModel productList productLoss rounded roundingLoss sameInterval goodEnds partsWithinLimits good tooLarge zeroModel weight addLists subtractLists scaleList addAtBy addPairBy addTermBy addTermsBy product upℕ near floor passing
 example-run = refl

@@ -24,8 +24,8 @@ use Rattle.job.specs.definitions.Requirement.{Permitted, Overlaps, Made,
 use Rattle.job.specs.laws.MadeUnique.{made-unique}
 use Rattle.job.specs.laws.WorkLaws.{length-modelsIn, modelsIn-at}
 use Rattle.job.specs.definitions.Operations.{resultAt}
-use Rattle.model.specs.definitions.Intervals.{unitInterval}
-use Rattle.model.specs.laws.UnitInterval.{on-unit}
+use Rattle.model.specs.definitions.Intervals.{standardInterval}
+use Rattle.model.specs.laws.StandardInterval.{on-standard}
 use Rattle.model.specs.declared.types.Model.{Model}
 use Rattle.job.specs.definitions.ExactValues.{Exact}
 use Rattle.job.specs.laws.ExampleJob.{exampleJob, exampleCommands, exampleResults, example-read, example-run}
@@ -33,12 +33,12 @@ use Rattle.job.specs.laws.ExampleValues.{upto-at, third, exampleValue, e
 use Rattle.job.specs.laws.ExampleBoxes.{exampleBox, example-permitted}
 use Rattle.job.specs.laws.ExactAllowed.{exact-allowed}
 
-inside : OnInterval unitInterval third
-inside = on-unit (simp (whole-is, fraction-neg, fraction-le, den-is) (leZ-yes tt)) (simp (whole-is, fraction-le, den-is) (leZ-yes tt))
+inside : OnInterval standardInterval third
+inside = on-standard (simp (whole-is, fraction-neg, fraction-le, den-is) (leZ-yes tt)) (simp (whole-is, fraction-le, den-is) (leZ-yes tt))
 
 -- all its results are on −S and S
-all-unit : (i : ℕ) → i < 13 → resultAt exampleResults i .interval ≡ unitInterval
-all-unit = upto-at (λ i. resultAt exampleResults i .interval ≡ unitInterval) 13 (((((((((((((tt, refl), refl), refl), refl), refl), refl), refl), refl), refl), refl), refl), refl), refl)
+all-standard : (i : ℕ) → i < 13 → resultAt exampleResults i .interval ≡ standardInterval
+all-standard = upto-at (λ i. resultAt exampleResults i .interval ≡ standardInterval) 13 (((((((((((((tt, refl), refl), refl), refl), refl), refl), refl), refl), refl), refl), refl), refl), refl)
 
 -- ---- the job meets no numbered refusal
 
@@ -82,7 +82,7 @@ module _ {areas : List (Bool × ℕ)} {answer : JobOutcome ℕ} {work : List ℤ
   inside-at : (i : ℕ) → i < 13 → OnInterval (storedResult work i .interval) third
   inside-at i h =
       let e : storedResult work i ≡ resultAt exampleResults i = sym (modelsIn-at work 13 i h) ∙ ap (λ l. resultAt l i) example-models in
-      subst⁻¹ (λ k. OnInterval k third) (ap (λ (m : Model). m .interval) e ∙ all-unit i h) inside
+      subst⁻¹ (λ k. OnInterval k third) (ap (λ (m : Model). m .interval) e ∙ all-standard i h) inside
 
   -- its exact values at 1/3 are allowed by the models in the work area
   pub example-allowed : (i : ℕ) → i < 13 → Allows (storedResult work i) third (exampleValue i)

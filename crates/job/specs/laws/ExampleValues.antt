@@ -24,8 +24,8 @@ use Rattle.chebyshev.specs.laws.CoefficientLaws.{value-constant}
 use Rattle.chebyshev.specs.definitions.Allows.{allows}
 use Rattle.model.specs.definitions.Models.{scale}
 use Rattle.model.specs.definitions.Allowed.{position, AllowsAt, Allows}
-use Rattle.model.specs.definitions.Intervals.{unitInterval}
-use Rattle.model.specs.laws.UnitInterval.{position-unit}
+use Rattle.model.specs.definitions.Intervals.{standardInterval}
+use Rattle.model.specs.laws.StandardInterval.{position-standard}
 use Rattle.model.specs.laws.ValueLaws.{valueAt, valueAt-append-zeros}
 use Rattle.model.specs.declared.types.Model.{Model}
 use Rattle.job.specs.laws.ExampleJob.{exampleCommands}
@@ -77,8 +77,8 @@ centred : (m : Model) (y v c : ℚ) → valueAt y (m .coefficients) ≡ c → �
 unfolding AllowsAt allows
 centred m y v c e h = rw e h
 
-near-centre : (m : Model) (x v c : ℚ) → m .interval ≡ unitInterval → valueAt x (m .coefficients) ≡ c → ∣ v *ℚ whole (pos scale) -ℚ c ∣ℚ ≤ℚ whole (pos (m .radius)) → Allows m x v
-near-centre m x v c on e h = subst⁻¹ (λ i. AllowsAt m (position i x) v) on (subst⁻¹ (λ y. AllowsAt m y v) (position-unit x) (centred m x v c e h))
+near-centre : (m : Model) (x v c : ℚ) → m .interval ≡ standardInterval → valueAt x (m .coefficients) ≡ c → ∣ v *ℚ whole (pos scale) -ℚ c ∣ℚ ≤ℚ whole (pos (m .radius)) → Allows m x v
+near-centre m x v c on e h = subst⁻¹ (λ i. AllowsAt m (position i x) v) on (subst⁻¹ (λ y. AllowsAt m y v) (position-standard x) (centred m x v c e h))
 
 -- a load of degree 0
 near-constant : (n e : ℕ) (v : ℚ) → ∣ v *ℚ whole (pos scale) -ℚ whole (pos n) ∣ℚ ≤ℚ whole (pos e) → Allows (modelBy 0 (n ∷ []) e) third v

@@ -7,7 +7,7 @@ use lib.ListN.{replicate}
 use Rattle.chebyshev.specs.definitions.Coefficients.{weight, addLists}
 use Rattle.model.specs.definitions.Add.{sumModel}
 use Rattle.model.specs.definitions.Intervals.{makeInterval, goodEnds, sameInterval}
-use Rattle.model.specs.definitions.Models.{makeModel, sizedParts, good, tooLarge, zeroModel}
+use Rattle.model.specs.definitions.Models.{makeModel, partsWithinLimits, good, tooLarge, zeroModel}
 use Rattle.model.specs.definitions.Outcomes.{passing}
 use Rattle.job.specs.definitions.Bytes.{signedsAt}
 use Rattle.job.specs.definitions.Decode.{makerAt}
@@ -31,5 +31,5 @@ pub intervals :
     ∷ []))
     × (jobOutcome (job (one ++ constantOn 5 7 7)) ≡ refused 18 2)
     × (jobOutcome (job (one ++ (constantOn 5 0 1048576 ++ (0x11 ∷ 0 ∷ 1 ∷ [])))) ≡ refused 19 3)
-unfolding jobOutcome run command operation makerPlaces readingPlaces makerAt signedsAt sumModel sameInterval goodEnds sizedParts good tooLarge zeroModel weight addLists passing
+unfolding jobOutcome run command operation makerPlaces readingPlaces makerAt signedsAt sumModel sameInterval goodEnds partsWithinLimits good tooLarge zeroModel weight addLists passing
 intervals = (refl, refl, refl)

@@ -12,6 +12,10 @@ position i x =
     (whole (pos 2) *ℚ whole (pos scale) *ℚ x -ℚ whole (i .lower) -ℚ whole (i .upper))
     /ℚ (whole (i .upper) -ℚ whole (i .lower))
 
+-- l/S, where an interval starts
+abbrev pub start : Interval → ℚ
+start i = whole (i .lower) /ℚ whole (pos scale)
+
 -- 01: "A model allows the value v at x when |v − Σ a_k·T_k(x)/S| ≤ e/S."
 unfoldable pub AllowsAt : Model → ℚ → ℚ → Type 0
 AllowsAt m y v = allows scale (m .coefficients) (m .radius) y v

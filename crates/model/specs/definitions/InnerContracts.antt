@@ -10,7 +10,7 @@ use lib.ListN.{length, take, drop, replicate}
 use Rattle.integer.specs.definitions.Integer.{ℤ-ring}
 use Rattle.chebyshev.specs.definitions.Coefficients.{weight, addLists, scaleList, subtractLists}
 use Rattle.model.specs.definitions.Models.{scale, coefficientCount, maxDegree, maxWeight, maxRadius, good}
-use Rattle.model.specs.definitions.Models.{makeModel, zeroModel, badPlace, apartPlace, largePlace}
+use Rattle.model.specs.definitions.Models.{makeModel, zeroModel, badPlace, differentPlace, largePlace}
 use Rattle.model.specs.definitions.Outcomes.{Outcome, outcome}
 use Rattle.model.specs.definitions.Round.{rounded, roundingLoss}
 use Rattle.model.specs.definitions.Integrate.{halved, alternating}
@@ -102,7 +102,7 @@ combinedModel s a b =
 
 unfoldable pub combination : ℤ → Model → Model → Outcome Model
 combination s a b =
-    outcome (badPlace a ∷ badPlace b ∷ apartPlace a b ∷ largePlace (combinedModel s a b) ∷ []) (combinedModel s a b)
+    outcome (badPlace a ∷ badPlace b ∷ differentPlace a b ∷ largePlace (combinedModel s a b) ∷ []) (combinedModel s a b)
     zeroModel
 
 -- ---- the pass over a list c, of which the first n numbers are kept, with the divisor d

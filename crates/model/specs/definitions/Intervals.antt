@@ -20,8 +20,8 @@ unfoldable pub extent : Interval → ℕ
 extent i = natAbs (i .upper -ℤ i .lower)
 
 -- "0x10 and the converter of S-3 mean −S and S"
-abbrev pub unitInterval : Interval
-unitInterval = makeInterval (negℤ (pos (2 ^ 20))) (pos (2 ^ 20))
+abbrev pub standardInterval : Interval
+standardInterval = makeInterval (negℤ (pos (2 ^ 20))) (pos (2 ^ 20))
 
 -- of the zero model
 abbrev pub zeroInterval : Interval

@@ -6,7 +6,7 @@ use lib.Dec.{leb, ltb, eqb}
 use lib.IntN.{ℤ, pos}
 use lib.ListN.{replicate, take, drop}
 use Rattle.chebyshev.specs.definitions.Coefficients.{weight}
-use Rattle.model.specs.definitions.Intervals.{goodEnds, unitInterval, zeroInterval, sameInterval}
+use Rattle.model.specs.definitions.Intervals.{goodEnds, standardInterval, zeroInterval, sameInterval}
 use Rattle.model.specs.declared.types.Interval.{Interval}
 use Rattle.model.specs.declared.types.Model.{Model}
 use Rattle.model.specs.declared.types.Candidate.{Candidate}
@@ -42,20 +42,20 @@ abbrev pub beyond : Model → List ℤ
 beyond m = drop (suc (m .degree)) (m .coefficients)
 
 -- Refusal 2 is for a model with these parts that is not so: "degree, weight, radius, or a nonzero beyond the degree".
-unfoldable pub sizedParts : ℕ → List ℤ → ℕ → Bool
-sizedParts n cs e =
+unfoldable pub partsWithinLimits : ℕ → List ℤ → ℕ → Bool
+partsWithinLimits n cs e =
     leb n maxDegree && (leb (weight cs) maxWeight && (leb e maxRadius && eqb (weight (drop (suc n) cs)) 0))
 
-abbrev pub sized : Model → Bool
-sized m = sizedParts (m .degree) (m .coefficients) (m .radius)
+abbrev pub withinLimits : Model → Bool
+withinLimits m = partsWithinLimits (m .degree) (m .coefficients) (m .radius)
 
 -- A good model.
 unfoldable pub good : Model → Bool
-good m = sized m && goodEnds (m .interval)
+good m = withinLimits m && goodEnds (m .interval)
 
 -- "Number 18: ends wrong, straight after number 2 for the same model."
 abbrev pub fault : Model → ℕ
-fault m = cond (sized m) 18 2
+fault m = cond (withinLimits m) 18 2
 
 -- Refusal 3, of a result: "weight or radius above 2^28, degree above 32".
 unfoldable pub tooLarge : Model → Bool
@@ -74,19 +74,19 @@ abbrev pub candidateModel : Interval → Candidate → Model
 candidateModel i c = makeModel (c .degree) (c .coefficients) 0 i
 
 -- on −S and S
-abbrev pub unitModel : ℕ → List ℤ → ℕ → Model
-unitModel n cs e = makeModel n cs e unitInterval
+abbrev pub standardModel : ℕ → List ℤ → ℕ → Model
+standardModel n cs e = makeModel n cs e standardInterval
 
 unfoldable pub constantModel : ℤ → Model
-constantModel c = unitModel 0 (c ∷ replicate 32 (pos 0)) 0
+constantModel c = standardModel 0 (c ∷ replicate 32 (pos 0)) 0
 
 -- "each model: 2", or 18: the place of a model among those of an operation
 abbrev pub badPlace : Model → Bool × ℕ
 badPlace m = (not (good m), fault m)
 
 -- "Number 19: two operands on different intervals, …, after the models."
-abbrev pub apartPlace : Model → Model → Bool × ℕ
-apartPlace a b = (not (sameInterval (a .interval) (b .interval)), 19)
+abbrev pub differentPlace : Model → Model → Bool × ℕ
+differentPlace a b = (not (sameInterval (a .interval) (b .interval)), 19)
 
 -- "result: 3": the place of a result
 abbrev pub largePlace : Model → Bool × ℕ

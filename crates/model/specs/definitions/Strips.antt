@@ -9,20 +9,17 @@ use Rattle.chebyshev.specs.definitions.Coefficients.{lipschitzWeight, value}
 use Rattle.chebyshev.specs.definitions.Strips.{leftSum}
 use Rattle.model.specs.definitions.Intervals.{extent}
 use Rattle.model.specs.definitions.Models.{scale}
-use Rattle.model.specs.definitions.Allowed.{position, Allows, OnInterval}
+use Rattle.model.specs.definitions.Allowed.{position, start, Allows, OnInterval}
+use Rattle.model.specs.declared.types.Interval.{Interval}
 use Rattle.model.specs.declared.types.Model.{Model}
 
 -- "choose an allowed value at every fraction"
 abbrev pub Chooses : Model → (ℚ → ℚ) → Type 0
 Chooses a choice = (x : ℚ) → OnInterval (a .interval) x → Allows a x (choice x)
 
--- l/S
-abbrev pub start : Model → ℚ
-start a = whole (a .interval .lower) /ℚ whole (pos scale)
-
 -- "cut …" l/S "to x into k equal strips, add left-end value times width"
-unfoldable pub stripSum : Model → (ℚ → ℚ) → ℚ → ℕ → ℚ
-stripSum a choice x k = leftSum choice (start a) ((x -ℚ start a) /ℚ whole (pos k)) k
+unfoldable pub stripSum : Interval → (ℚ → ℚ) → ℚ → ℕ → ℚ
+stripSum i choice x k = leftSum choice (start i) ((x -ℚ start i) /ℚ whole (pos k)) k
 
 -- "L = Σ|a_k|·k² of the integrand"
 abbrev pub lipschitz : Model → ℕ
@@ -32,5 +29,5 @@ lipschitz a = lipschitzWeight 0 (a .coefficients)
 -- and its integral c
 abbrev pub StripsWithin : Model → Model → (ℚ → ℚ) → ℚ → ℕ → Type 0
 StripsWithin a c choice x k =
-    ∣ stripSum a choice x k *ℚ whole (pos scale) -ℚ value ℚ-ring (position (c .interval) x) (map whole (c .coefficients)) ∣ℚ
+    ∣ stripSum (a .interval) choice x k *ℚ whole (pos scale) -ℚ value ℚ-ring (position (c .interval) x) (map whole (c .coefficients)) ∣ℚ
     ≤ℚ (whole (pos (c .radius)) +ℚ whole (pos (lipschitz a * extent (a .interval))) /ℚ whole (pos (scale * k)))

@@ -48,11 +48,11 @@ error-size k m (c ∷ a) l = go (m * (m - 1)) (natAbs c) (k * (k - 1)) (pointErr
     go b c t s w h l = omega (arith, mul-le-mul-left c h)
 
 -- Σ|a_k|·k² ≤ m²·A
-pub slope-size : (k m : ℕ) (a : List ℤ) → k + length a ≤ suc m → lipschitzWeight k a ≤ m * m * weight a
+pub lipschitz-size : (k m : ℕ) (a : List ℤ) → k + length a ≤ suc m → lipschitzWeight k a ≤ m * m * weight a
 unfolding lipschitzWeight weight
-slope-size k m [] l = omega arith
-slope-size k m (c ∷ a) l =
-    go (m * m) (natAbs c) (k * k) (lipschitzWeight (suc k) a) (weight a) (mul-le-mul (omega arith) (omega arith)) (slope-size (suc k) m a (omega arith))
+lipschitz-size k m [] l = omega arith
+lipschitz-size k m (c ∷ a) l =
+    go (m * m) (natAbs c) (k * k) (lipschitzWeight (suc k) a) (weight a) (mul-le-mul (omega arith) (omega arith)) (lipschitz-size (suc k) m a (omega arith))
   where
     go : (b c t s w : ℕ) → t ≤ b → s ≤ b * w → c * t + s ≤ b * (c + w)
     go b c t s w h l = omega (arith, mul-le-mul-left c h)

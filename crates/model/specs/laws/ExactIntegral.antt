@@ -5,7 +5,7 @@ use mathlib.Core.List.{List, [], _∷_}
 use lib.IntN.{pos}
 use Rattle.integer.specs.definitions.Fraction.{ℚ, whole, _+ℚ_, _-ℚ_, _*ℚ_, _/ℚ_}
 use Rattle.integer.specs.definitions.FractionRing.{ℚ-ring}
-use Rattle.integer.specs.laws.FractionInverse.{quotient-mul}
+use Rattle.integer.specs.laws.FractionInverse.{quotient-mul, *ℚ-cancel}
 use Rattle.integer.specs.laws.FractionLaws.{*ℚ-one}
 use Rattle.integer.specs.laws.FractionRounding.{natural-nonzero}
 use Rattle.integer.specs.laws.FractionSolver.{reifyℚ, solveℚ}
@@ -14,12 +14,12 @@ use Rattle.chebyshev.specs.definitions.Derivative.{sumFrom, remainder}
 use Rattle.chebyshev.specs.definitions.Primitive.{primitive}
 use Rattle.chebyshev.specs.laws.CoefficientLaws.{value-scale}
 use Rattle.chebyshev.specs.laws.PrimitiveLaws.{primitive-minus-one, primitive-increment}
-use Rattle.model.specs.definitions.Allowed.{position}
+use Rattle.model.specs.definitions.Allowed.{position, start}
 use Rattle.model.specs.definitions.Integrate.{ratio, exactIntegral}
 use Rattle.model.specs.definitions.Intervals.{extent}
 use Rattle.model.specs.definitions.Models.{scale}
 use Rattle.model.specs.laws.IntegralSound.{ratio-times}
-use Rattle.model.specs.laws.IntervalLaws.{cancel, GoodEnds, extent-positive, position-times, position-start}
+use Rattle.model.specs.laws.IntervalLaws.{GoodEnds, extent-positive, position-times, position-start}
 use Rattle.model.specs.declared.types.Interval.{Interval}
 
 module _ {i : Interval} (g : GoodEnds i) where
@@ -41,7 +41,7 @@ module _ {i : Interval} (g : GoodEnds i) where
 
   ratio-rate : ratio i *ℚ rate ≡ whole (pos 1)
   ratio-rate =
-      cancel d (ratio i *ℚ rate) (whole (pos 1)) nonzero
+      *ℚ-cancel d (ratio i *ℚ rate) (whole (pos 1)) nonzero
       (regroup d (ratio i) rate ∙ ap (λ z. ratio i *ℚ z) rate-times ∙ ratio-times (extent i) ∙ sym (*ℚ-one d))
     where
       regroup : (e r k : ℚ) → e *ℚ (r *ℚ k) ≡ r *ℚ (k *ℚ e)
@@ -49,7 +49,7 @@ module _ {i : Interval} (g : GoodEnds i) where
 
   position-moved : (x h : ℚ) → position i (x +ℚ h) ≡ position i x +ℚ h *ℚ rate
   position-moved x h =
-      cancel d (position i (x +ℚ h)) (position i x +ℚ h *ℚ rate) nonzero
+      *ℚ-cancel d (position i (x +ℚ h)) (position i x +ℚ h *ℚ rate) nonzero
       (position-times g (x +ℚ h)
       ∙ apart x h s (whole (i .lower)) (whole (i .upper))
       ∙ ap₂ (λ y z. y +ℚ h *ℚ z) (sym (position-times g x)) (sym rate-times)
@@ -62,7 +62,7 @@ module _ {i : Interval} (g : GoodEnds i) where
       together e y h k = solveℚ (e ∷ y ∷ h ∷ k ∷ []) (search reifyℚ depth 20) (search reifyℚ depth 20) tt
 
   -- 0 at l/S
-  pub exactIntegral-start : (α : List ℚ) → value ℚ-ring (position i (whole (i .lower) /ℚ s)) (exactIntegral i α) ≡ whole (pos 0)
+  pub exactIntegral-start : (α : List ℚ) → value ℚ-ring (position i (start i)) (exactIntegral i α) ≡ whole (pos 0)
   exactIntegral-start α =
       ap (λ y. value ℚ-ring y (exactIntegral i α)) (position-start g)
       ∙ value-scale ℚ-ring _ (ratio i) (primitive α)

@@ -22,9 +22,9 @@ use Rattle.chebyshev.specs.definitions.Product.{product}
 use Rattle.model.specs.definitions.Add.{sumModel, differenceModel, addition, subtraction}
 use Rattle.model.specs.definitions.Evaluate.{zeroBounds, mappedNumerator, mappedPoint, mapsExactly, growth, pointSum, pointError, lowBound, highBound, evaluation}
 use Rattle.model.specs.definitions.Integrate.{numerators, halved, alternating, integralList, integralModel, integration}
-use Rattle.model.specs.definitions.Intervals.{goodEnds, extent, unitInterval, sameInterval, contains}
+use Rattle.model.specs.definitions.Intervals.{goodEnds, extent, standardInterval, sameInterval, contains}
 use Rattle.model.specs.definitions.Load.{loading}
-use Rattle.model.specs.definitions.Models.{scale, maxDegree, coefficientCount, productSize, terms, sized, good, makeModel, unitModel, zeroModel, badPlace, apartPlace, largePlace}
+use Rattle.model.specs.definitions.Models.{scale, maxDegree, coefficientCount, productSize, terms, withinLimits, good, makeModel, standardModel, zeroModel, badPlace, differentPlace, largePlace}
 use Rattle.model.specs.definitions.Multiply.{keptDegree, productList, productLoss, productModel, multiplication}
 use Rattle.model.specs.definitions.Outcomes.{outcome, passing, refused}
 use Rattle.model.specs.definitions.Round.{rounded, roundingLoss}
@@ -33,36 +33,36 @@ use Rattle.model.specs.declared.types.Model.{Model}
 
 -- ---- the tests
 
-unit-good : goodEnds unitInterval ≡ true
+standard-good : goodEnds standardInterval ≡ true
 unfolding goodEnds
-unit-good = refl
+standard-good = refl
 
-pub unit-same : sameInterval unitInterval unitInterval ≡ true
+pub standard-same : sameInterval standardInterval standardInterval ≡ true
 unfolding sameInterval
-unit-same = refl
+standard-same = refl
 
-unit-extent : extent unitInterval ≡ 2 * scale
+standard-extent : extent standardInterval ≡ 2 * scale
 unfolding extent
-unit-extent = refl
+standard-extent = refl
 
 -- "each model: 2", as it was
-abbrev pub sizedPlace : Model → Bool × ℕ
-sizedPlace m = (not (sized m), 2)
+abbrev pub formerPlace : Model → Bool × ℕ
+formerPlace m = (not (withinLimits m), 2)
 
-module _ (m : Model) (on : m .interval ≡ unitInterval) where
-  good-sized : good m ≡ sized m
+module _ (m : Model) (on : m .interval ≡ standardInterval) where
+  good-former : good m ≡ withinLimits m
   unfolding good
-  good-sized = by (sized m) refl
+  good-former = by (withinLimits m) refl
     where
-      by : (t : Bool) → sized m ≡ t → good m ≡ sized m
-      by true e = rw (e, on, unit-good)
+      by : (t : Bool) → withinLimits m ≡ t → good m ≡ withinLimits m
+      by true e = rw (e, on, standard-good)
       by false e = rw e
 
   -- a model's place refuses with 2 alone
   pub place-former : {A : Type 0} (ps : List (Bool × ℕ)) (a z : A)
-      → outcome (badPlace m ∷ ps) a z ≡ outcome (sizedPlace m ∷ ps) a z
+      → outcome (badPlace m ∷ ps) a z ≡ outcome (formerPlace m ∷ ps) a z
   unfolding passing
-  place-former ps a z = rw good-sized (by (sized m))
+  place-former ps a z = rw good-former (by (withinLimits m))
     where
       by : (t : Bool) → cond (not t) (refused (cond t 18 2) z) (outcome ps a z) ≡ cond (not t) (refused 2 z) (outcome ps a z)
       by true = refl
@@ -72,10 +72,10 @@ module _ (m : Model) (on : m .interval ≡ unitInterval) where
 
 -- "coefficient by coefficient, the larger degree, radii added"
 unfoldable pub formerSum : Model → Model → Model
-formerSum a b = unitModel (max (a .degree) (b .degree)) (addLists ℤ-ring (a .coefficients) (b .coefficients)) (a .radius + b .radius)
+formerSum a b = standardModel (max (a .degree) (b .degree)) (addLists ℤ-ring (a .coefficients) (b .coefficients)) (a .radius + b .radius)
 
 unfoldable pub formerDifference : Model → Model → Model
-formerDifference a b = unitModel (max (a .degree) (b .degree)) (subtractLists ℤ-ring (a .coefficients) (b .coefficients)) (a .radius + b .radius)
+formerDifference a b = standardModel (max (a .degree) (b .degree)) (subtractLists ℤ-ring (a .coefficients) (b .coefficients)) (a .radius + b .radius)
 
 -- "degree min(d, sum of the degrees), coefficients c_k = near(C_k/(2S)), and radius up(E/(2S))", "E = Σ|C_k − 2S·c_k| over kept k
 -- + Σ|C_k| over dropped k + 2(A·e_b + B·e_a + e_a·e_b)"
@@ -83,7 +83,7 @@ unfoldable pub formerProduct : ℕ → Model → Model → Model
 formerProduct d a b =
     let n = min (keptDegree d) (a .degree + b .degree) in
     let cs = product ℤ-ring productSize (terms a) (terms b) in
-    unitModel n
+    standardModel n
     (rounded (2 * scale) (take (suc n) cs) ++ replicate (coefficientCount - suc n) (pos 0))
     (upℕ
     (roundingLoss (2 * scale) (take (suc n) cs) + weight (drop (suc n) cs)
@@ -91,14 +91,14 @@ formerProduct d a b =
     (2 * scale))
 
 -- two operands: neither 18 nor 19
-module _ (a b : Model) (on-a : a .interval ≡ unitInterval) (on-b : b .interval ≡ unitInterval) where
+module _ (a b : Model) (on-a : a .interval ≡ standardInterval) (on-b : b .interval ≡ standardInterval) where
   places-former : {A : Type 0} (ps : List (Bool × ℕ)) (x z : A)
-      → outcome (badPlace a ∷ badPlace b ∷ apartPlace a b ∷ ps) x z ≡ outcome (sizedPlace a ∷ sizedPlace b ∷ ps) x z
+      → outcome (badPlace a ∷ badPlace b ∷ differentPlace a b ∷ ps) x z ≡ outcome (formerPlace a ∷ formerPlace b ∷ ps) x z
   unfolding passing
   places-former ps x z =
-      place-former a on-a (badPlace b ∷ apartPlace a b ∷ ps) x z
-      ∙ ap (cond (not (sized a)) (refused 2 z))
-      (place-former b on-b (apartPlace a b ∷ ps) x z ∙ ap (cond (not (sized b)) (refused 2 z)) (rw (on-a, on-b, unit-same)))
+      place-former a on-a (badPlace b ∷ differentPlace a b ∷ ps) x z
+      ∙ ap (cond (not (withinLimits a)) (refused 2 z))
+      (place-former b on-b (differentPlace a b ∷ ps) x z ∙ ap (cond (not (withinLimits b)) (refused 2 z)) (rw (on-a, on-b, standard-same)))
 
   pub sum-former : sumModel a b ≡ formerSum a b
   unfolding sumModel formerSum
@@ -112,27 +112,27 @@ module _ (a b : Model) (on-a : a .interval ≡ unitInterval) (on-b : b .interval
   unfolding productModel productLoss productList formerProduct
   product-former d = rw on-a
 
-  pub addition-former : addition a b ≡ outcome (sizedPlace a ∷ sizedPlace b ∷ largePlace (formerSum a b) ∷ []) (formerSum a b) zeroModel
+  pub addition-former : addition a b ≡ outcome (formerPlace a ∷ formerPlace b ∷ largePlace (formerSum a b) ∷ []) (formerSum a b) zeroModel
   unfolding addition
   addition-former =
       places-former (largePlace (sumModel a b) ∷ []) (sumModel a b) zeroModel
-      ∙ ap (λ m. outcome (sizedPlace a ∷ sizedPlace b ∷ largePlace m ∷ []) m zeroModel) sum-former
+      ∙ ap (λ m. outcome (formerPlace a ∷ formerPlace b ∷ largePlace m ∷ []) m zeroModel) sum-former
 
-  pub subtraction-former : subtraction a b ≡ outcome (sizedPlace a ∷ sizedPlace b ∷ largePlace (formerDifference a b) ∷ []) (formerDifference a b) zeroModel
+  pub subtraction-former : subtraction a b ≡ outcome (formerPlace a ∷ formerPlace b ∷ largePlace (formerDifference a b) ∷ []) (formerDifference a b) zeroModel
   unfolding subtraction
   subtraction-former =
       places-former (largePlace (differenceModel a b) ∷ []) (differenceModel a b) zeroModel
-      ∙ ap (λ m. outcome (sizedPlace a ∷ sizedPlace b ∷ largePlace m ∷ []) m zeroModel) difference-former
+      ∙ ap (λ m. outcome (formerPlace a ∷ formerPlace b ∷ largePlace m ∷ []) m zeroModel) difference-former
 
   pub multiplication-former : (d : ℕ)
       → multiplication d a b
-      ≡ outcome (sizedPlace a ∷ sizedPlace b ∷ (not (leb (keptDegree d) maxDegree), 9) ∷ largePlace (formerProduct d a b) ∷ []) (formerProduct d a b) zeroModel
+      ≡ outcome (formerPlace a ∷ formerPlace b ∷ (not (leb (keptDegree d) maxDegree), 9) ∷ largePlace (formerProduct d a b) ∷ []) (formerProduct d a b) zeroModel
   unfolding multiplication
   multiplication-former d =
       places-former ((not (leb (keptDegree d) maxDegree), 9) ∷ largePlace (productModel d a b) ∷ []) (productModel d a b) zeroModel
-      ∙ ap (λ m. outcome (sizedPlace a ∷ sizedPlace b ∷ (not (leb (keptDegree d) maxDegree), 9) ∷ largePlace m ∷ []) m zeroModel) (product-former d)
+      ∙ ap (λ m. outcome (formerPlace a ∷ formerPlace b ∷ (not (leb (keptDegree d) maxDegree), 9) ∷ largePlace m ∷ []) m zeroModel) (product-former d)
 
-pub loading-former : (m : Model) → m .interval ≡ unitInterval → loading m ≡ outcome (sizedPlace m ∷ []) m zeroModel
+pub loading-former : (m : Model) → m .interval ≡ standardInterval → loading m ≡ outcome (formerPlace m ∷ []) m zeroModel
 unfolding loading
 loading-former m on = place-former m on [] m zeroModel
 
@@ -148,7 +148,7 @@ unfoldable pub formerIntegral : Model → Model
 formerIntegral a =
     let tail = formerHalved 1 (numerators (terms a)) in
     let cs = alternating tail ∷ tail in
-    unitModel (a .degree + 1) (cs ++ replicate (coefficientCount - length cs) (pos 0)) (2 * a .radius + a .degree + 1)
+    standardModel (a .degree + 1) (cs ++ replicate (coefficientCount - length cs) (pos 0)) (2 * a .radius + a .degree + 1)
 
 halved-former : (k : ℕ) (ns : List ℤ) → halved (2 * scale) (suc k) ns ≡ formerHalved (suc k) ns
 unfolding halved formerHalved
@@ -165,43 +165,43 @@ halved-former k (n ∷ ns) =
 radius-former : (e : ℕ) → upℕ (e * (2 * scale)) scale ≡ 2 * e
 radius-former e = sym (upℕ-unique (e * (2 * scale)) scale (2 * e) (omega arith) (omega arith) (omega arith))
 
-pub integral-former : (a : Model) → a .interval ≡ unitInterval → integralModel a ≡ formerIntegral a
+pub integral-former : (a : Model) → a .interval ≡ standardInterval → integralModel a ≡ formerIntegral a
 unfolding integralModel integralList formerIntegral
 integral-former a on =
     ap (λ i. formed (integralList (extent i) (terms a)) (upℕ (a .radius * extent i) scale) i) on
-    ∙ ap (λ (d : ℕ). formed (integralList d (terms a)) (upℕ (a .radius * d) scale) unitInterval) unit-extent
-    ∙ ap₂ (λ tail (e : ℕ). formed (alternating tail ∷ tail) e unitInterval) (halved-former 0 (numerators (terms a))) (radius-former (a .radius))
+    ∙ ap (λ (d : ℕ). formed (integralList d (terms a)) (upℕ (a .radius * d) scale) standardInterval) standard-extent
+    ∙ ap₂ (λ tail (e : ℕ). formed (alternating tail ∷ tail) e standardInterval) (halved-former 0 (numerators (terms a))) (radius-former (a .radius))
   where
     formed : List ℤ → ℕ → Interval → Model
     formed cs e i = makeModel (a .degree + 1) (cs ++ replicate (coefficientCount - length cs) (pos 0)) (e + a .degree + 1) i
 
-pub integration-former : (a : Model) → a .interval ≡ unitInterval
-    → integration a ≡ outcome (sizedPlace a ∷ largePlace (formerIntegral a) ∷ []) (formerIntegral a) zeroModel
+pub integration-former : (a : Model) → a .interval ≡ standardInterval
+    → integration a ≡ outcome (formerPlace a ∷ largePlace (formerIntegral a) ∷ []) (formerIntegral a) zeroModel
 unfolding integration
 integration-former a on =
     place-former a on (largePlace (integralModel a) ∷ []) (integralModel a) zeroModel
-    ∙ ap (λ m. outcome (sizedPlace a ∷ largePlace m ∷ []) m zeroModel) (integral-former a on)
+    ∙ ap (λ m. outcome (formerPlace a ∷ largePlace m ∷ []) m zeroModel) (integral-former a on)
 
 -- ---- evaluate
 
-numerator-former : (p : ℤ) → mappedNumerator unitInterval p ≡ p *ℤ pos (2 * scale)
+numerator-former : (p : ℤ) → mappedNumerator standardInterval p ≡ p *ℤ pos (2 * scale)
 numerator-former = all1 _ (simp differences (omega arith))
 
-pub mapped-former : (p : ℤ) → mappedPoint unitInterval p ≡ p
+pub mapped-former : (p : ℤ) → mappedPoint standardInterval p ≡ p
 unfolding mappedPoint
-mapped-former p = ap₂ near (numerator-former p) unit-extent ∙ near-whole p (2 * scale) (omega arith)
+mapped-former p = ap₂ near (numerator-former p) standard-extent ∙ near-whole p (2 * scale) (omega arith)
 
-pub exact-former : (p : ℤ) → mapsExactly unitInterval p ≡ true
+pub exact-former : (p : ℤ) → mapsExactly standardInterval p ≡ true
 unfolding mapsExactly
 exact-former p =
-    ap (λ (d : ℕ). eqb (natAbs (mappedPoint unitInterval p *ℤ pos d -ℤ mappedNumerator unitInterval p)) 0) unit-extent
+    ap (λ (d : ℕ). eqb (natAbs (mappedPoint standardInterval p *ℤ pos d -ℤ mappedNumerator standardInterval p)) 0) standard-extent
     ∙ ap (λ (n : ℕ). eqb n 0) (ap₂ (λ q n. natAbs (q *ℤ pos (2 * scale) -ℤ n)) (mapped-former p) (numerator-former p) ∙ none (p *ℤ pos (2 * scale)))
   where
     none : (z : ℤ) → natAbs (z -ℤ z) ≡ 0
     none z = omega (arith, difference z z, abs (z -ℤ z), apart (z -ℤ z))
 
 -- "p outside −S..S"
-contains-former : (p : ℤ) → not (contains unitInterval p) ≡ ltb scale (natAbs p)
+contains-former : (p : ℤ) → not (contains standardInterval p) ≡ ltb scale (natAbs p)
 unfolding contains
 contains-former (pos n) = by (leb n scale) refl
   where
@@ -220,8 +220,8 @@ formerLow a p = floor (pos 4 *ℤ pointSum p 0 (terms a) -ℤ pos (pointError 0 
 unfoldable pub formerHigh : Model → ℤ → ℤ
 formerHigh a p = up (pos 4 *ℤ pointSum p 0 (terms a) +ℤ pos (pointError 0 (terms a))) (2 ^ 32) +ℤ pos (a .radius)
 
-pub evaluation-former : (a : Model) (p : ℤ) → a .interval ≡ unitInterval
-    → evaluation a p ≡ outcome (sizedPlace a ∷ (ltb scale (natAbs p), 4) ∷ []) (record { low = formerLow a p; high = formerHigh a p }) zeroBounds
+pub evaluation-former : (a : Model) (p : ℤ) → a .interval ≡ standardInterval
+    → evaluation a p ≡ outcome (formerPlace a ∷ (ltb scale (natAbs p), 4) ∷ []) (record { low = formerLow a p; high = formerHigh a p }) zeroBounds
 unfolding evaluation lowBound highBound growth formerLow formerHigh
 evaluation-former a p on =
     place-former a on ((not (contains (a .interval) p), 4) ∷ []) _ zeroBounds

@@ -12,7 +12,7 @@ use Rattle.integer.specs.definitions.Integer.{ℤ-ring}
 use Rattle.chebyshev.specs.definitions.Coefficients.{weight, addLists, subtractLists}
 use Rattle.chebyshev.specs.laws.Weight.{weight-add, weight-drop, weight-zeros, weight-opposite}
 use Rattle.model.specs.definitions.InnerContracts.{roundedIntegral, roundedTail}
-use Rattle.model.specs.definitions.Models.{scale, maxDegree, maxWeight, maxRadius, coefficientCount, terms, beyond, sizedParts, good, tooLarge, zeroModel}
+use Rattle.model.specs.definitions.Models.{scale, maxDegree, maxWeight, maxRadius, coefficientCount, terms, beyond, partsWithinLimits, good, tooLarge, zeroModel}
 use Rattle.model.specs.definitions.Intervals.{extent, goodEnds}
 use Rattle.model.specs.laws.ModelLaws.{good-is, good-ends}
 use Rattle.model.specs.definitions.Outcomes.{accepted}
@@ -29,7 +29,7 @@ use Rattle.model.specs.declared.types.Model.{Model}
 
 -- a result that is not too large, with zeros beyond its degree and good ends
 pub good-small : (m : Model) → tooLarge m ≡ false → weight (beyond m) ≡ 0 → goodEnds (m .interval) ≡ true → good m ≡ true
-unfolding good sizedParts tooLarge
+unfolding good partsWithinLimits tooLarge
 good-small m t z i =
     let p = neither (ltb maxWeight (weight (m .coefficients))) _ t in
     let q = neither (ltb maxRadius (m .radius)) _ (p .1) in

@@ -34,9 +34,8 @@ use Rattle.chebyshev.specs.definitions.Allows.{allows}
 use Rattle.model.specs.definitions.InnerContracts.{roundedIntegral, roundedTail}
 use Rattle.model.specs.definitions.Models.{scale, coefficientCount, terms, good, zeroModel}
 use Rattle.model.specs.definitions.Outcomes.{accepted}
-use Rattle.model.specs.definitions.Allowed.{position, AllowsAt, Allows, OnInterval}
+use Rattle.model.specs.definitions.Allowed.{position, start, AllowsAt, Allows, OnInterval}
 use Rattle.model.specs.laws.ValueLaws.{valueAt, scale-nonzero}
-use Rattle.model.specs.definitions.Strips.{start}
 use Rattle.model.specs.laws.IntervalLaws.{within, position-start}
 use Rattle.model.specs.laws.ModelLaws.{good-is}
 use Rattle.model.specs.definitions.Intervals.{extent}
@@ -328,8 +327,8 @@ module _ (a : Model) {c : Model} (e : integration a ≡ accepted c) where
       (_⟨≼⟩_ ℚ-ordered (value-distance ℚ-ordered (position (a .interval) x) (exactIntegral (a .interval) α) (map whole (c .coefficients)) (within (good-is a (integration-accepted .0) .ends) x on)) (integration-lists α h))
 
   -- "c_0 makes the value at −1", where T_k is taken at the start l/S, "exactly 0."
-  pub integration-start : valueAt (position (c .interval) (start a)) (c .coefficients) ≡ whole (pos 0)
+  pub integration-start : valueAt (position (c .interval) (start (a .interval))) (c .coefficients) ≡ whole (pos 0)
   integration-start =
-      ap (λ i. valueAt (position i (start a)) (c .coefficients)) integration-interval
+      ap (λ i. valueAt (position i (start (a .interval))) (c .coefficients)) integration-interval
       ∙ ap₂ (λ y m. valueAt y (m .coefficients)) (position-start (good-is a (integration-accepted .0) .ends)) (integration-accepted .1)
       ∙ integral-minus-one a

@@ -11,7 +11,7 @@ use Rattle.model.specs.definitions.Integrate.{integration, integralModel
 use Rattle.model.specs.definitions.Intervals.{makeInterval, goodEnds, extent, sameInterval, contains}
 use Rattle.model.specs.definitions.Load.{loading}
 use Rattle.model.specs.definitions.Mirror.{mirrored}
-use Rattle.model.specs.definitions.Models.{sizedParts, good, tooLarge, makeModel, zeroModel}
+use Rattle.model.specs.definitions.Models.{partsWithinLimits, good, tooLarge, makeModel, zeroModel}
 use Rattle.model.specs.definitions.Multiply.{multiplication}
 use Rattle.model.specs.definitions.Outcomes.{accepted, refused, passing}
 use Rattle.model.specs.laws.Examples.{padded}
@@ -35,7 +35,7 @@ Ends =
     × (loading (constantOn (pos 1) (negsuc 268435455) (pos 268435456)) ≡ accepted (constantOn (pos 1) (negsuc 268435455) (pos 268435456)))
 
 pub ends-tested : Ends
-unfolding loading passing good sizedParts goodEnds zeroModel weight
+unfolding loading passing good partsWithinLimits goodEnds zeroModel weight
 ends-tested = (refl, refl, refl, refl, refl, refl)
 
 -- 19, behind every model's 2 and 18, and before the kept degree's 9
@@ -46,9 +46,9 @@ Apart =
     × (multiplication 40 (constantOn (pos 1) (pos 0) (pos 9)) (constantOn (pos 1) (pos 1) (pos 9)) ≡ refused 19 zeroModel)
     × (multiplication 40 (constantOn (pos 1) (pos 0) (pos 9)) (constantOn (pos 1) (pos 0) (pos 9)) ≡ refused 9 zeroModel)
 
-pub apart-refused : Apart
-unfolding addition multiplication passing good sizedParts goodEnds sameInterval zeroModel weight
-apart-refused = (refl, refl, refl, refl)
+pub different-refused : Apart
+unfolding addition multiplication passing good partsWithinLimits goodEnds sameInterval zeroModel weight
+different-refused = (refl, refl, refl, refl)
 
 -- 1 from 0 to 1: half a unit of T_0 and of T_1; 2 with radius 1 on the ends 0 and 1, where up(1/S) is 1; 2^28 on the widest
 -- interval, where c_1 is 2^36
@@ -61,7 +61,7 @@ Integrals =
     × (integration (constantOn (pos 268435456) (negsuc 268435455) (pos 268435456)) ≡ refused 3 zeroModel)
 
 pub integrals : Integrals
-unfolding integration integralModel integralList halved numerators doubleFirst alternating passing good sizedParts goodEnds extent tooLarge zeroModel weight addLists subtractLists floor near upℕ
+unfolding integration integralModel integralList halved numerators doubleFirst alternating passing good partsWithinLimits goodEnds extent tooLarge zeroModel weight addLists subtractLists floor near upℕ
 integrals = (refl, refl, refl)
 
 -- S·T_1 on 0..3 at p = 1, where −S/3 is rounded and W grows, and its mirror at 2; at p = 3, exactly 1; at p = 4
@@ -73,7 +73,7 @@ Evaluations =
     × (evaluation (lineOn (pos 0) (pos 3)) (pos 4) ≡ refused 4 zeroBounds)
 
 pub evaluations : Evaluations
-unfolding evaluation contains mappedPoint mapsExactly growth lowBound highBound pointTerm pointSum pointError lipschitzWeight passing good sizedParts goodEnds extent weight floor up near odd negatedFrom
+unfolding evaluation contains mappedPoint mapsExactly growth lowBound highBound pointTerm pointSum pointError lipschitzWeight passing good partsWithinLimits goodEnds extent weight floor up near odd negatedFrom
 evaluations = (refl, refl, refl, refl)
 
 -- ties of the mapped point, to even, on 0..4: −S + 1/2 is taken to −S, −S + 3/2 to −S + 2; mirrored, S − 1/2 to S; W grows
@@ -86,5 +86,5 @@ PointTies =
     × (evaluation (mirrored (lineOn (pos 0) (pos 4194304))) (pos 4194303) ≡ accepted (record { low = negsuc 1048576; high = negsuc 1048574 }))
 
 pub point-ties : PointTies
-unfolding evaluation contains mappedPoint mapsExactly growth lowBound highBound pointTerm pointSum pointError lipschitzWeight passing good sizedParts goodEnds extent weight floor up near odd negatedFrom
+unfolding evaluation contains mappedPoint mapsExactly growth lowBound highBound pointTerm pointSum pointError lipschitzWeight passing good partsWithinLimits goodEnds extent weight floor up near odd negatedFrom
 point-ties = (refl, refl, refl, refl, refl)

@@ -10,22 +10,18 @@ use lib.IntN.{ℤ, pos, negℤ, natAbs, _-ℤ_}
 use lib.Signed.{ltZ, _<ℤ_}
 use Rattle.integer.specs.definitions.Fraction.{ℚ, whole, _+ℚ_, _-ℚ_, -ℚ_, _*ℚ_, _/ℚ_, _≤ℚ_, ∣_∣ℚ, inverse}
 use Rattle.integer.specs.laws.Difference.{<-parts}
-use Rattle.integer.specs.laws.FractionInverse.{quotient-mul, inverse-right}
+use Rattle.integer.specs.laws.FractionInverse.{quotient-mul, inverse-right, *ℚ-cancel}
 use Rattle.integer.specs.laws.FractionLaws.{whole-add, *ℚ-comm, one-*ℚ}
 use Rattle.integer.specs.laws.FractionOrder.{ℚ-ordered, ≤ℚ-cancel, whole-neg}
 use Rattle.integer.specs.laws.FractionRounding.{natural-positive, natural-nonzero}
 use Rattle.integer.specs.laws.FractionSolver.{reifyℚ, solveℚ}
-use Rattle.integer.specs.laws.Machine.{lt-true}
+use Rattle.integer.specs.laws.Machine.{lt-true, both-true}
 use Rattle.integer.specs.laws.OrderedRingLaws.{abs-le, by-certificate, gap, _⊞_}
 use Rattle.integer.specs.laws.Parts.{abs, apart, difference, same, abs-sub}
-use Rattle.model.specs.definitions.Allowed.{position, OnInterval}
+use Rattle.model.specs.definitions.Allowed.{position, start, OnInterval}
 use Rattle.model.specs.definitions.Intervals.{maxEnd, makeInterval, goodEnds, extent, sameInterval}
 use Rattle.model.specs.definitions.Models.{scale}
 use Rattle.model.specs.declared.types.Interval.{Interval}
-
-pub both : (a b : Bool) → (a && b) ≡ true → (a ≡ true) × (b ≡ true)
-both true b e = (refl, e)
-both false b e = (e, cc)
 
 -- ---- the ends
 
@@ -37,8 +33,8 @@ pub record GoodEnds (i : Interval) : Type 0 where
 pub ends-are : (i : Interval) → goodEnds i ≡ true → GoodEnds i
 unfolding goodEnds
 ends-are i e =
-    let p = both (ltZ (i .lower) (i .upper) && leb (natAbs (i .lower)) maxEnd) _ e in
-    let q = both (ltZ (i .lower) (i .upper)) _ (p .0) in record {
+    let p = both-true (ltZ (i .lower) (i .upper) && leb (natAbs (i .lower)) maxEnd) _ e in
+    let q = both-true (ltZ (i .lower) (i .upper)) _ (p .0) in record {
       ordered = lt-true (i .lower) (i .upper) (q .0);
       lower-fits = leb-true (natAbs (i .lower)) maxEnd (q .1);
       upper-fits = leb-true (natAbs (i .upper)) maxEnd (p .1);
@@ -67,7 +63,7 @@ module _ {i : Interval} (g : GoodEnds i) where
 pub same-is : (i j : Interval) → sameInterval i j ≡ true → i ≡ j
 unfolding sameInterval
 same-is i j e =
-    let p = both (eqb (natAbs (i .lower -ℤ j .lower)) 0) _ e in
+    let p = both-true (eqb (natAbs (i .lower -ℤ j .lower)) 0) _ e in
     ap₂ makeInterval
     (none (i .lower) (j .lower) (eqb-true (natAbs (i .lower -ℤ j .lower)) 0 (p .0)))
     (none (i .upper) (j .upper) (eqb-true (natAbs (i .upper -ℤ j .upper)) 0 (p .1)))
@@ -83,15 +79,6 @@ same-self i = rw (self (i .lower), self (i .upper))
     self z = omega (arith, difference z z, abs (z -ℤ z), apart (z -ℤ z))
 
 -- ---- where a point is taken
-
-pub cancel : (c x y : ℚ) → ¬ (c ≡ whole (pos 0)) → c *ℚ x ≡ c *ℚ y → x ≡ y
-cancel c x y h e = sym (undo x) ∙ ap (λ z. inverse c *ℚ z) e ∙ undo y
-  where
-    regroup : (i z c : ℚ) → i *ℚ (c *ℚ z) ≡ c *ℚ i *ℚ z
-    regroup i z c = solveℚ (i ∷ z ∷ c ∷ []) (search reifyℚ depth 9) (search reifyℚ depth 9) tt
-
-    undo : (z : ℚ) → inverse c *ℚ (c *ℚ z) ≡ z
-    undo z = regroup (inverse c) z c ∙ ap (λ t. t *ℚ z) (inverse-right c h) ∙ one-*ℚ z
 
 module _ {i : Interval} (g : GoodEnds i) (x : ℚ) where
   abbrev d : ℚ
@@ -124,11 +111,11 @@ module _ {i : Interval} (g : GoodEnds i) (x : ℚ) where
           (solveℚ (whole (i .lower) ∷ whole (i .upper) ∷ x ∷ []) (search reifyℚ depth 20) (search reifyℚ depth 20) tt))
 
 -- the lower end l/S is taken at −1
-pub position-start : {i : Interval} → GoodEnds i → position i (whole (i .lower) /ℚ whole (pos scale)) ≡ -ℚ whole (pos 1)
+pub position-start : {i : Interval} → GoodEnds i → position i (start i) ≡ -ℚ whole (pos 1)
 position-start {i} g =
-    cancel (whole (pos (extent i))) (position i (whole (i .lower) /ℚ whole (pos scale))) (-ℚ whole (pos 1)) (natural-nonzero (extent-positive g))
-    (position-times g (whole (i .lower) /ℚ whole (pos scale))
-    ∙ regroup (whole (i .lower) /ℚ whole (pos scale)) (whole (pos scale)) (whole (i .lower)) (whole (i .upper))
+    *ℚ-cancel (whole (pos (extent i))) (position i (start i)) (-ℚ whole (pos 1)) (natural-nonzero (extent-positive g))
+    (position-times g (start i)
+    ∙ regroup (start i) (whole (pos scale)) (whole (i .lower)) (whole (i .upper))
     ∙ ap (λ z. whole (pos 2) *ℚ z -ℚ whole (i .lower) -ℚ whole (i .upper)) (quotient-mul (whole (i .lower)) (whole (pos scale)) (natural-nonzero (omega arith)))
     ∙ opposite (whole (i .lower)) (whole (i .upper))
     ∙ ap (λ z. z *ℚ -ℚ whole (pos 1)) (sym (extent-whole g)))

@@ -14,7 +14,7 @@ use Rattle.integer.specs.laws.FractionLaws.{*ℚ-comm, *ℚ-one, zero-*ℚ, who
 use Rattle.integer.specs.laws.FractionOrder.{ℚ-ordered, whole-le, whole-neg}
 use Rattle.integer.specs.laws.FractionRounding.{natural-mul}
 use Rattle.integer.specs.laws.FractionSolver.{reifyℚ, solveℚ}
-use Rattle.integer.specs.laws.Machine.{le-true}
+use Rattle.integer.specs.laws.Machine.{le-true, both-true}
 use Rattle.integer.specs.laws.NearLaws.{near-within}
 use Rattle.integer.specs.laws.OrderedRingLaws.{by-certificate, gap, _⊞_, _⊠_, abs-mul}
 use Rattle.integer.specs.laws.Parts.{abs, apart, product, difference, abs-mul as natAbs-mul, le-yes}
@@ -26,7 +26,7 @@ use Rattle.model.specs.definitions.Evaluate.{point, mappedNumerator, map
 use Rattle.model.specs.definitions.Intervals.{extent, contains}
 use Rattle.model.specs.definitions.Models.{scale}
 use Rattle.model.specs.laws.EvaluationError.{point-scale, point-inside, scaled-bound}
-use Rattle.model.specs.laws.IntervalLaws.{both, GoodEnds, extent-positive, position-times, within}
+use Rattle.model.specs.laws.IntervalLaws.{GoodEnds, extent-positive, position-times, within}
 use Rattle.model.specs.laws.ValueLaws.{valueAt}
 use Rattle.model.specs.declared.types.Interval.{Interval}
 
@@ -54,7 +54,7 @@ module _ {i : Interval} (g : GoodEnds i) (p : ℤ) where
   pub contains-is : contains i p ≡ true → OnInterval i (point p)
   unfolding contains
   contains-is h =
-      let (above, below) = both (leZ l p) _ h in
+      let (above, below) = both-true (leZ l p) _ h in
       let e : whole (pos scale) *ℚ point p ≡ whole p = *ℚ-comm _ _ ∙ point-scale p in record {
         above = rw e (whole-le l p .1 (le-true l p above));
         below = rw e (whole-le p u .1 (le-true p u below));
@@ -68,7 +68,7 @@ module _ {i : Interval} (g : GoodEnds i) (p : ℤ) where
     where
       between : natAbs (pos 2 *ℤ p -ℤ l -ℤ u) ≤ natAbs (u -ℤ l)
       between =
-          let (above, below) = both (leZ l p) _ h in
+          let (above, below) = both-true (leZ l p) _ h in
           let m = pos 2 *ℤ p in
           omega (
             arith,

@@ -5,7 +5,7 @@ use mathlib.Core.Logic.{_↔_}
 use mathlib.Core.List.{[], _∷_}
 use lib.IntN.{ℤ, pos}
 use Rattle.integer.specs.definitions.Fraction.{ℚ, whole, _+ℚ_, _-ℚ_, _*ℚ_, _/ℚ_, -ℚ_, _≤ℚ_, ∣_∣ℚ, inverse}
-use Rattle.integer.specs.laws.FractionInverse.{quotient-mul}
+use Rattle.integer.specs.laws.FractionInverse.{quotient-mul, *ℚ-cancel}
 use Rattle.integer.specs.definitions.FractionRing.{ℚ-ring}
 use Rattle.integer.specs.laws.FractionLaws.{*ℚ-comm, whole-add}
 use Rattle.integer.specs.laws.FractionOrder.{ℚ-ordered, whole-neg}
@@ -18,7 +18,6 @@ use Rattle.model.specs.definitions.Evaluate.{point}
 use Rattle.model.specs.definitions.Mirror.{negated, mirrored, mirroredPoint, mirroredFraction}
 use Rattle.model.specs.definitions.Models.{scale}
 use Rattle.model.specs.laws.EvaluationError.{point-scale}
-use Rattle.model.specs.laws.IntervalLaws.{cancel}
 use Rattle.model.specs.laws.ValueLaws.{valueAt, scale-nonzero}
 use Rattle.model.specs.declared.types.Interval.{Interval}
 use Rattle.model.specs.declared.types.Model.{Model}
@@ -58,7 +57,7 @@ fraction-times i x =
 -- the fraction of p mirrored is that of p, mirrored
 pub mirrored-fraction : (i : Interval) (p : ℤ) → mirroredFraction i (point p) ≡ point (mirroredPoint i p)
 mirrored-fraction i p =
-    cancel (whole (pos scale)) (mirroredFraction i (point p)) (point (mirroredPoint i p)) scale-nonzero
+    *ℚ-cancel (whole (pos scale)) (mirroredFraction i (point p)) (point (mirroredPoint i p)) scale-nonzero
     (fraction-times i (point p)
     ∙ ap (λ z. whole (i .lower) +ℚ whole (i .upper) -ℚ z) (*ℚ-comm _ _ ∙ point-scale p)
     ∙ together

@@ -12,7 +12,7 @@ use Rattle.integer.specs.laws.RoundingLaws.{near-opposite}
 use Rattle.chebyshev.specs.definitions.Coefficients.{weight}
 use Rattle.chebyshev.specs.definitions.Negation.{none, negatedIf, negatedFrom}
 use Rattle.chebyshev.specs.laws.NegationLaws.{abs-negated, take-negated, drop-negated, weight-negated, negated-zeros, negated-none}
-use Rattle.model.specs.definitions.Models.{coefficientCount, terms, beyond, sizedParts, sized, good, tooLarge, makeModel, zeroModel}
+use Rattle.model.specs.definitions.Models.{coefficientCount, terms, beyond, partsWithinLimits, withinLimits, good, tooLarge, makeModel, zeroModel}
 use Rattle.model.specs.definitions.Intervals.{zeroInterval}
 use Rattle.model.specs.definitions.Mirror.{negatedWhere}
 use Rattle.model.specs.definitions.Outcomes.{refused, outcome, passing, mapOutcome}
@@ -54,14 +54,14 @@ module _ (chosen : ℕ → Bool) where
   pub weight-of-negated : (m : Model) → weight (negatedWhere chosen m .coefficients) ≡ weight (m .coefficients)
   weight-of-negated m = weight-negated chosen 0 (m .coefficients)
 
-  pub sized-negated : (m : Model) → sized (negatedWhere chosen m) ≡ sized m
-  unfolding sizedParts
-  sized-negated m =
+  pub withinLimits-negated : (m : Model) → withinLimits (negatedWhere chosen m) ≡ withinLimits m
+  unfolding partsWithinLimits
+  withinLimits-negated m =
       rw (weight-negated chosen 0 (m .coefficients), drop-negated chosen (suc (m .degree)) 0 (m .coefficients), weight-negated chosen (0 + suc (m .degree)) (beyond m))
 
   pub good-negated : (m : Model) → good (negatedWhere chosen m) ≡ good m
   unfolding good
-  good-negated m = rw (sized-negated m)
+  good-negated m = rw (withinLimits-negated m)
 
   pub tooLarge-negated : (m : Model) → tooLarge (negatedWhere chosen m) ≡ tooLarge m
   unfolding tooLarge

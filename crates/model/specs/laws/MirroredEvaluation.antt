@@ -23,7 +23,7 @@ use Rattle.model.specs.definitions.Mirror.{mirrored, mirroredPoint}
 use Rattle.model.specs.definitions.Outcomes.{passing}
 use Rattle.model.specs.definitions.Evaluate.{mappedNumerator, mappedPoint, mapsExactly, growth, pointTerm, pointSum, pointError, lowBound, highBound, evaluation}
 use Rattle.model.specs.laws.IntervalLaws.{extent-positive}
-use Rattle.model.specs.laws.MirrorLaws.{terms-negated, sized-negated, good-negated}
+use Rattle.model.specs.laws.MirrorLaws.{terms-negated, withinLimits-negated, good-negated}
 use Rattle.model.specs.laws.MirroredOperations.{opposites}
 use Rattle.model.specs.laws.ModelLaws.{good-is}
 use Rattle.model.specs.declared.types.Interval.{Interval}
@@ -68,10 +68,10 @@ unfolding pointError negatedFrom
 pointError-negated chosen k j [] = refl
 pointError-negated chosen k j (c ∷ cs) = ap₂ (λ (n m : ℕ). n * (j * (j - 1)) + m) (abs-negated (chosen k) c) (pointError-negated chosen (suc k) (suc j) cs)
 
-slope-negated : (chosen : ℕ → Bool) (k j : ℕ) (cs : List ℤ) → lipschitzWeight j (negatedFrom chosen k cs) ≡ lipschitzWeight j cs
+lipschitz-negated : (chosen : ℕ → Bool) (k j : ℕ) (cs : List ℤ) → lipschitzWeight j (negatedFrom chosen k cs) ≡ lipschitzWeight j cs
 unfolding lipschitzWeight negatedFrom
-slope-negated chosen k j [] = refl
-slope-negated chosen k j (c ∷ cs) = ap₂ (λ (n m : ℕ). n * (j * j) + m) (abs-negated (chosen k) c) (slope-negated chosen (suc k) (suc j) cs)
+lipschitz-negated chosen k j [] = refl
+lipschitz-negated chosen k j (c ∷ cs) = ap₂ (λ (n m : ℕ). n * (j * j) + m) (abs-negated (chosen k) c) (lipschitz-negated chosen (suc k) (suc j) cs)
 
 -- two tests that hold at the same time
 same-test : (a b c d : ℤ) → (a ≤ℤ b → c ≤ℤ d) → (c ≤ℤ d → a ≤ℤ b) → leZ a b ≡ leZ c d
@@ -139,17 +139,17 @@ unfolding evaluation lowBound highBound growth passing
 evaluation-mirrored a p = by (good a) refl
   where
     by : (t : Bool) → good a ≡ t → evaluation (mirrored a) (mirroredPoint (a .interval) p) ≡ evaluation a p
-    by false e = rw (good-negated odd a, sized-negated odd a, e)
+    by false e = rw (good-negated odd a, withinLimits-negated odd a, e)
     by true e =
         let h = extent-positive (good-is a e .ends) in
         rw (
           good-negated odd a,
-          sized-negated odd a,
+          withinLimits-negated odd a,
           contains-mirrored (a .interval) p,
           terms-negated odd a,
           mapped-mirrored (a .interval) p h,
           pointSum-mirrored (mappedPoint (a .interval) p) 0 (terms a),
           pointError-negated odd 0 0 (terms a),
           exact-mirrored (a .interval) p h,
-          slope-negated odd 0 0 (terms a),
+          lipschitz-negated odd 0 0 (terms a),
         )

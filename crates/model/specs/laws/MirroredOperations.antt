@@ -24,7 +24,7 @@ use Rattle.model.specs.definitions.Add.{sumModel, differenceModel, addit
 use Rattle.model.specs.definitions.Multiply.{productList, productDegree, productLoss, productModel, multiplicationPlaces, multiplication}
 use Rattle.model.specs.definitions.Integrate.{doubleFirst, numerators, halved, alternating, integralList, integralModel, integrationPlaces, integration}
 use Rattle.model.specs.definitions.Round.{rounded}
-use Rattle.model.specs.laws.MirrorLaws.{rounded-negated, roundingLoss-negated, terms-negated, weight-of-negated, negated-nowhere, sized-negated, good-negated, tooLarge-negated, zero-negated, outcome-mapped}
+use Rattle.model.specs.laws.MirrorLaws.{rounded-negated, roundingLoss-negated, terms-negated, weight-of-negated, negated-nowhere, withinLimits-negated, good-negated, tooLarge-negated, zero-negated, outcome-mapped}
 use Rattle.model.specs.declared.types.Model.{Model}
 
 -- ---- add and subtract, both operands negated at the same places
@@ -40,7 +40,7 @@ module _ (chosen : ℕ → Bool) (a b : Model) where
   pub addition-negated : addition (negatedWhere chosen a) (negatedWhere chosen b) ≡ mapOutcome (negatedWhere chosen) (addition a b)
   unfolding addition
   addition-negated =
-      rw (good-negated chosen a, good-negated chosen b, sized-negated chosen a, sized-negated chosen b, sumModel-negated, tooLarge-negated chosen (sumModel a b))
+      rw (good-negated chosen a, good-negated chosen b, withinLimits-negated chosen a, withinLimits-negated chosen b, sumModel-negated, tooLarge-negated chosen (sumModel a b))
       (outcome-mapped (negatedWhere chosen) (additionPlaces a b) (sumModel a b) zeroModel (zero-negated chosen))
 
   differenceModel-negated : differenceModel (negatedWhere chosen a) (negatedWhere chosen b) ≡ negatedWhere chosen (differenceModel a b)
@@ -50,7 +50,7 @@ module _ (chosen : ℕ → Bool) (a b : Model) where
   pub subtraction-negated : subtraction (negatedWhere chosen a) (negatedWhere chosen b) ≡ mapOutcome (negatedWhere chosen) (subtraction a b)
   unfolding subtraction
   subtraction-negated =
-      rw (good-negated chosen a, good-negated chosen b, sized-negated chosen a, sized-negated chosen b, differenceModel-negated, tooLarge-negated chosen (differenceModel a b))
+      rw (good-negated chosen a, good-negated chosen b, withinLimits-negated chosen a, withinLimits-negated chosen b, differenceModel-negated, tooLarge-negated chosen (differenceModel a b))
       (outcome-mapped (negatedWhere chosen) (subtractionPlaces a b) (differenceModel a b) zeroModel (zero-negated chosen))
 
 -- ---- multiply
@@ -92,7 +92,7 @@ module _ {s t u : ℕ → Bool} (signs : Signs s t u) (a b : Model) where
   pub multiplication-negated : (d : ℕ) → multiplication d (negatedWhere s a) (negatedWhere t b) ≡ mapOutcome (negatedWhere u) (multiplication d a b)
   unfolding multiplication
   multiplication-negated d =
-      rw (good-negated s a, good-negated t b, sized-negated s a, sized-negated t b, productModel-negated d, tooLarge-negated u (productModel d a b))
+      rw (good-negated s a, good-negated t b, withinLimits-negated s a, withinLimits-negated t b, productModel-negated d, tooLarge-negated u (productModel d a b))
       (outcome-mapped (negatedWhere u) (multiplicationPlaces d a b) (productModel d a b) zeroModel (zero-negated u))
 
 -- "Negating every coefficient of one factor … negates the result's coefficients and keeps its radius", the first, and the second
@@ -170,5 +170,5 @@ integralModel-negated a =
 pub integration-negated : (a : Model) → integration (negated a) ≡ mapOutcome negated (integration a)
 unfolding integration
 integration-negated a =
-    rw (good-negated every a, sized-negated every a, integralModel-negated a, tooLarge-negated every (integralModel a))
+    rw (good-negated every a, withinLimits-negated every a, integralModel-negated a, tooLarge-negated every (integralModel a))
     (outcome-mapped negated (integrationPlaces a) (integralModel a) zeroModel (zero-negated every))

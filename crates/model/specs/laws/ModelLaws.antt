@@ -5,9 +5,10 @@ use Prim.Native.Nat.{_≤_}
 use lib.Dec.{leb}
 use borrow.Author.Tests.{leb-true, eqb-true}
 use Rattle.chebyshev.specs.definitions.Coefficients.{weight}
-use Rattle.model.specs.definitions.Models.{maxDegree, maxWeight, maxRadius, beyond, sizedParts, sized, good}
+use Rattle.integer.specs.laws.Machine.{both-true}
+use Rattle.model.specs.definitions.Models.{maxDegree, maxWeight, maxRadius, beyond, partsWithinLimits, withinLimits, good}
 use Rattle.model.specs.definitions.Intervals.{goodEnds}
-use Rattle.model.specs.laws.IntervalLaws.{both, GoodEnds, ends-are}
+use Rattle.model.specs.laws.IntervalLaws.{GoodEnds, ends-are}
 use Rattle.model.specs.declared.types.Model.{Model}
 
 pub record Good (m : Model) : Type 0 where
@@ -18,12 +19,12 @@ pub record Good (m : Model) : Type 0 where
   pub ends : GoodEnds (m .interval)
 
 pub good-is : (m : Model) → good m ≡ true → Good m
-unfolding good sizedParts
+unfolding good partsWithinLimits
 good-is m e =
-    let s = both (sized m) _ e in
-    let p = both (leb (m .degree) maxDegree) _ (s .0) in
-    let q = both (leb (weight (m .coefficients)) maxWeight) _ (p .1) in
-    let r = both (leb (m .radius) maxRadius) _ (q .1) in record {
+    let s = both-true (withinLimits m) _ e in
+    let p = both-true (leb (m .degree) maxDegree) _ (s .0) in
+    let q = both-true (leb (weight (m .coefficients)) maxWeight) _ (p .1) in
+    let r = both-true (leb (m .radius) maxRadius) _ (q .1) in record {
       degree-fits = leb-true (m .degree) maxDegree (p .0);
       weight-fits = leb-true (weight (m .coefficients)) maxWeight (q .0);
       radius-fits = leb-true (m .radius) maxRadius (r .0);
@@ -33,4 +34,4 @@ good-is m e =
 
 pub good-ends : (m : Model) → good m ≡ true → goodEnds (m .interval) ≡ true
 unfolding good
-good-ends m e = both (sized m) _ e .1
+good-ends m e = both-true (withinLimits m) _ e .1

@@ -6,7 +6,7 @@ use mathlib.Core.List.{List, [], _∷_, _++_}
 use Prim.Native.Nat.{ℕ}
 use native.Mathlib.Omega.{arith}
 use borrow.Author.Tests.{not-false}
-use Rattle.model.specs.definitions.Models.{sized, good, zeroModel, badPlace, apartPlace}
+use Rattle.model.specs.definitions.Models.{withinLimits, good, zeroModel, badPlace, differentPlace}
 use Rattle.model.specs.definitions.Intervals.{goodEnds, sameInterval}
 use Rattle.model.specs.laws.IntervalLaws.{same-is}
 use Rattle.model.specs.definitions.Outcomes.{Outcome, accepted, refused, number, payload, mapOutcome, outcome, passing, Passed, First, here, later}
@@ -119,9 +119,9 @@ first-behind (p ∷ ps) f g = later (f .0) (first-behind ps (f .1) g)
 module _ {A : Type 0} (m : Model) (a : A) (r : ℕ → A) where
   pub model-places : (ps qs : List (Bool × ℕ))
       → passing (ps ++ (badPlace m ∷ qs)) a r
-      ≡ passing (ps ++ ((not (sized m), 2) ∷ (not (goodEnds (m .interval)), 18) ∷ qs)) a r
+      ≡ passing (ps ++ ((not (withinLimits m), 2) ∷ (not (goodEnds (m .interval)), 18) ∷ qs)) a r
   unfolding passing good
-  model-places [] qs = by (sized m) (goodEnds (m .interval)) (passing qs a r)
+  model-places [] qs = by (withinLimits m) (goodEnds (m .interval)) (passing qs a r)
     where
       by : (s t : Bool) (rest : A) → cond (not (s && t)) (r (cond s 18 2)) rest ≡ cond (not s) (r 2) (cond (not t) (r 18) rest)
       by true true rest = refl
@@ -163,9 +163,9 @@ pub record Performed (a b m c : Model) : Type 0 where
   pub result : c ≡ m
 
 operation-accepted : (a b m : Model) (ps : List (Bool × ℕ)) {c : Model}
-    → outcome (badPlace a ∷ badPlace b ∷ apartPlace a b ∷ ps) m zeroModel ≡ accepted c → Performed a b m c
+    → outcome (badPlace a ∷ badPlace b ∷ differentPlace a b ∷ ps) m zeroModel ≡ accepted c → Performed a b m c
 operation-accepted a b m ps e =
-    let (passed, same) = outcome-accepted (badPlace a ∷ badPlace b ∷ apartPlace a b ∷ ps) m zeroModel e in record {
+    let (passed, same) = outcome-accepted (badPlace a ∷ badPlace b ∷ differentPlace a b ∷ ps) m zeroModel e in record {
       first-good = not-false (good a) (passed .0);
       second-good = not-false (good b) (passed .1 .0);
       same-interval = same-is (a .interval) (b .interval) (not-false (sameInterval (a .interval) (b .interval)) (passed .1 .1 .0));

@@ -15,7 +15,7 @@ use Rattle.integer.specs.laws.FractionLaws.{*ℚ-comm}
 use Rattle.integer.specs.definitions.FractionRing.{ℚ-ring}
 use Rattle.integer.specs.laws.FractionSolver.{reifyℚ, solveℚ}
 use Rattle.integer.specs.laws.FractionOrder.{ℚ-ordered, ≤ℚ-cancel}
-use Rattle.integer.specs.laws.FractionInverse.{quotient-mul}
+use Rattle.integer.specs.laws.FractionInverse.{quotient-mul, *ℚ-cancel}
 use Rattle.integer.specs.laws.FractionRounding.{natural-mul, natural-positive, natural-nonzero}
 use Rattle.chebyshev.specs.definitions.Coefficients.{value}
 use Rattle.chebyshev.specs.definitions.Primitive.{primitive}
@@ -27,11 +27,11 @@ use Rattle.chebyshev.specs.laws.StripLaws.{leftSum-scale, left-sum-bound}
 use Rattle.chebyshev.specs.definitions.Allows.{allows}
 use Rattle.model.specs.definitions.Models.{scale, good}
 use Rattle.model.specs.definitions.Outcomes.{accepted}
-use Rattle.model.specs.definitions.Allowed.{position, AllowsAt, OnInterval}
+use Rattle.model.specs.definitions.Allowed.{position, start, AllowsAt, OnInterval}
 use Rattle.model.specs.definitions.Integrate.{integralModel, integration, ratio}
-use Rattle.model.specs.definitions.Strips.{Chooses, start, stripSum, lipschitz, StripsWithin}
+use Rattle.model.specs.definitions.Strips.{Chooses, stripSum, lipschitz, StripsWithin}
 use Rattle.model.specs.laws.ValueLaws.{valueAt, scale-nonzero}
-use Rattle.model.specs.laws.IntervalLaws.{cancel, GoodEnds, extent-positive, extent-whole, position-times, within}
+use Rattle.model.specs.laws.IntervalLaws.{GoodEnds, extent-positive, extent-whole, position-times, within}
 use Rattle.model.specs.laws.ModelLaws.{good-is}
 use Rattle.model.specs.definitions.Intervals.{extent}
 use Rattle.model.specs.laws.IntegralSound.{two-scale, ratio-times, ratio-nonneg, integral-radius, integral-rounding, integration-accepted, integration-interval}
@@ -93,29 +93,29 @@ module _ (a : Model) (g : GoodEnds (a .interval)) where
 
   -- the x at which T_k is taken at y
   abbrev back : ℚ → ℚ
-  back y = start a +ℚ ratio (a .interval) *ℚ (y +ℚ whole (pos 1))
+  back y = start (a .interval) +ℚ ratio (a .interval) *ℚ (y +ℚ whole (pos 1))
 
-  start-times : start a *ℚ s ≡ l
+  start-times : start (a .interval) *ℚ s ≡ l
   start-times = quotient-mul l s scale-nonzero
 
   -- 2·S·x = 2·l + (u−l)·(y + 1)
   back-times : (y : ℚ) → whole (pos 2) *ℚ s *ℚ back y ≡ whole (pos 2) *ℚ l +ℚ d *ℚ (y +ℚ whole (pos 1))
-  back-times y = regroup (start a) (ratio (a .interval)) y s ∙ ap₂ (λ p q. whole (pos 2) *ℚ p +ℚ q *ℚ (y +ℚ whole (pos 1))) start-times (ratio-times (extent (a .interval)))
+  back-times y = regroup (start (a .interval)) (ratio (a .interval)) y s ∙ ap₂ (λ p q. whole (pos 2) *ℚ p +ℚ q *ℚ (y +ℚ whole (pos 1))) start-times (ratio-times (extent (a .interval)))
     where
       regroup : (p r y s : ℚ) → whole (pos 2) *ℚ s *ℚ (p +ℚ r *ℚ (y +ℚ whole (pos 1))) ≡ whole (pos 2) *ℚ (p *ℚ s) +ℚ r *ℚ (whole (pos 2) *ℚ s) *ℚ (y +ℚ whole (pos 1))
       regroup p r y s = solveℚ (p ∷ r ∷ y ∷ s ∷ []) (search reifyℚ depth 20) (search reifyℚ depth 20) tt
 
   position-back : (y : ℚ) → position (a .interval) (back y) ≡ y
-  position-back y = cancel d (position (a .interval) (back y)) y (natural-nonzero (extent-positive g)) (position-times g (back y) ∙ ap (λ z. z -ℚ l -ℚ u) (back-times y) ∙ ap (λ z. whole (pos 2) *ℚ l +ℚ z *ℚ (y +ℚ whole (pos 1)) -ℚ l -ℚ u) (extent-whole g) ∙ regroup l u y ∙ ap (λ z. z *ℚ y) (sym (extent-whole g)))
+  position-back y = *ℚ-cancel d (position (a .interval) (back y)) y (natural-nonzero (extent-positive g)) (position-times g (back y) ∙ ap (λ z. z -ℚ l -ℚ u) (back-times y) ∙ ap (λ z. whole (pos 2) *ℚ l +ℚ z *ℚ (y +ℚ whole (pos 1)) -ℚ l -ℚ u) (extent-whole g) ∙ regroup l u y ∙ ap (λ z. z *ℚ y) (sym (extent-whole g)))
     where
       regroup : (l u y : ℚ) → whole (pos 2) *ℚ l +ℚ (u -ℚ l) *ℚ (y +ℚ whole (pos 1)) -ℚ l -ℚ u ≡ (u -ℚ l) *ℚ y
       regroup l u y = solveℚ (l ∷ u ∷ y ∷ []) (search reifyℚ depth 20) (search reifyℚ depth 20) tt
 
   -- x − l/S = (u−l)/(2S)·(y + 1)
-  from-start : (x : ℚ) → x -ℚ start a ≡ ratio (a .interval) *ℚ (position (a .interval) x +ℚ whole (pos 1))
+  from-start : (x : ℚ) → x -ℚ start (a .interval) ≡ ratio (a .interval) *ℚ (position (a .interval) x +ℚ whole (pos 1))
   from-start x =
-      cancel (whole (pos 2) *ℚ s) (x -ℚ start a) (ratio (a .interval) *ℚ (position (a .interval) x +ℚ whole (pos 1))) two-scale
-      (left x (start a) s
+      *ℚ-cancel (whole (pos 2) *ℚ s) (x -ℚ start (a .interval)) (ratio (a .interval) *ℚ (position (a .interval) x +ℚ whole (pos 1))) two-scale
+      (left x (start (a .interval)) s
       ∙ ap (λ z. whole (pos 2) *ℚ s *ℚ x -ℚ whole (pos 2) *ℚ z) start-times
       ∙ middle l u (whole (pos 2) *ℚ s *ℚ x)
       ∙ ap₂ _+ℚ_ (sym (position-times g x)) (sym (extent-whole g))
@@ -162,7 +162,7 @@ module _ (a : Model) (g : GoodEnds (a .interval)) where
   unfolding leftSum
   strips-back f zero y h = solveℚ (ratio (a .interval) ∷ []) (search reifyℚ depth 20) (search reifyℚ depth 20) tt
   strips-back f (suc k) y h =
-      ap (λ z. f (back y) *ℚ (ratio (a .interval) *ℚ h) +ℚ leftSum f z (ratio (a .interval) *ℚ h) k) (next (start a) (ratio (a .interval)) y h)
+      ap (λ z. f (back y) *ℚ (ratio (a .interval) *ℚ h) +ℚ leftSum f z (ratio (a .interval) *ℚ h) k) (next (start (a .interval)) (ratio (a .interval)) y h)
       ∙ ap (λ z. f (back y) *ℚ (ratio (a .interval) *ℚ h) +ℚ z) (strips-back f k (y +ℚ h) h)
       ∙ solveℚ (ratio (a .interval) ∷ h ∷ f (back y) ∷ leftSum (λ z. f (back z)) (y +ℚ h) h k ∷ []) (search reifyℚ depth 20) (search reifyℚ depth 20) tt
     where
@@ -249,11 +249,11 @@ module _ (a : Model) (g : good a ≡ true) (choice : ℚ → ℚ) (chosen : Choo
           (width-nonneg y n width above below strips equal) (le-refl ℚ-ordered (-ℚ whole (pos 1))) (rw end below))
 
   -- the strips in x
-  strips-are : stripSum a choice x k ≡ ratio (a .interval) *ℚ sum
+  strips-are : stripSum (a .interval) choice x k ≡ ratio (a .interval) *ℚ sum
   unfolding stripSum
   strips-are =
-      ap₂ (λ p h. leftSum choice p h k) (begin (start a) (ratio (a .interval)))
-      (ap (λ z. z /ℚ whole (pos k)) (from-start a ends x) ∙ width-is (ratio (a .interval)) y (inverse (whole (pos k))))
+      ap₂ (λ p h. leftSum choice p h k) (begin (start (a .interval)) (ratio (a .interval)))
+      (ap (λ z. z /ℚ whole (pos k)) (from-start (a .interval) ends x) ∙ width-is (ratio (a .interval)) y (inverse (whole (pos k))))
       ∙ strips-back a ends choice k (-ℚ whole (pos 1)) width
     where
       begin : (p r : ℚ) → p ≡ p +ℚ r *ℚ (-ℚ whole (pos 1) +ℚ whole (pos 1))
@@ -265,7 +265,7 @@ module _ (a : Model) (g : good a ≡ true) (choice : ℚ → ℚ) (chosen : Choo
   -- L·(u−l)/(S·k) is (u−l)/(2S) times 2·L/k
   term-is : whole (pos (lipschitz a * extent (a .interval))) /ℚ whole (pos (scale * k)) ≡ ratio (a .interval) *ℚ term
   term-is =
-      cancel (whole (pos (scale * k))) _ _ (natural-nonzero (mul-pos (omega arith) positive))
+      *ℚ-cancel (whole (pos (scale * k))) _ _ (natural-nonzero (mul-pos (omega arith) positive))
       (*ℚ-comm _ _
       ∙ quotient-mul (whole (pos (lipschitz a * extent (a .interval)))) (whole (pos (scale * k))) (natural-nonzero (mul-pos (omega arith) positive))
       ∙ natural-mul (lipschitz a) (extent (a .interval))
@@ -282,7 +282,7 @@ module _ (a : Model) (g : good a ≡ true) (choice : ℚ → ℚ) (chosen : Choo
       swap r t k s = solveℚ (r ∷ t ∷ k ∷ s ∷ []) (search reifyℚ depth 20) (search reifyℚ depth 20) tt
 
   -- of the integral
-  integral-strips : ∣ stripSum a choice x k *ℚ whole (pos scale) -ℚ valueAt y (integralModel a .coefficients) ∣ℚ
+  integral-strips : ∣ stripSum (a .interval) choice x k *ℚ whole (pos scale) -ℚ valueAt y (integralModel a .coefficients) ∣ℚ
       ≤ℚ (whole (pos (integralModel a .radius)) +ℚ whole (pos (lipschitz a * extent (a .interval))) /ℚ whole (pos (scale * k)))
   integral-strips =
       rw (strips-are, term-is)

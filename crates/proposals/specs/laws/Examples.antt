@@ -11,7 +11,7 @@ use Rattle.integer.specs.definitions.Lists.{zeros}
 use Rattle.chebyshev.specs.definitions.Coefficients.{weight}
 use Rattle.chebyshev.specs.definitions.Product.{addAtBy, addPairBy, addTermBy, addTermsBy}
 use Rattle.model.specs.definitions.Intervals.{goodEnds}
-use Rattle.model.specs.definitions.Models.{sizedParts, good, unitModel}
+use Rattle.model.specs.definitions.Models.{partsWithinLimits, good, standardModel}
 use Rattle.model.specs.definitions.Area.{areaOut}
 use Rattle.model.specs.definitions.Outcomes.{accepted, refused, passing}
 use Rattle.proposals.specs.definitions.Values.{nought, one, two, settledLimit, difference, magnitude, greater, allFinite, valueOf}
@@ -132,17 +132,17 @@ not-finite-first = refl
 -- ---- makers
 
 -- g_0 = 0
-of-zero : reciprocalProposal (unitModel 1 (pos 0 ∷ pos 5 ∷ replicate 31 (pos 0)) 0) ≡ refused 15 refusedReciprocal
-unfolding reciprocalProposal passing reciprocalRounds goodEnds sizedParts good weight valueOf ofInt div round eq
+of-zero : reciprocalProposal (standardModel 1 (pos 0 ∷ pos 5 ∷ replicate 31 (pos 0)) 0) ≡ refused 15 refusedReciprocal
+unfolding reciprocalProposal passing reciprocalRounds goodEnds partsWithinLimits good weight valueOf ofInt div round eq
 of-zero = refl
 
 -- a bad model is 2, though its g_0 is 0
-of-bad : reciprocalProposal (unitModel 33 (replicate 33 (pos 0)) 0) ≡ refused 2 refusedReciprocal
-unfolding reciprocalProposal passing goodEnds sizedParts good
+of-bad : reciprocalProposal (standardModel 33 (replicate 33 (pos 0)) 0) ≡ refused 2 refusedReciprocal
+unfolding reciprocalProposal passing goodEnds partsWithinLimits good
 of-bad = refl
 
-by-bad : quotientProposal (unitModel 0 (replicate 33 (pos 0)) 0) (unitModel 0 (replicate 33 (pos 0)) (2 ^ 28 + 1)) ≡ refused 2 refusedQuotient
-unfolding quotientProposal passing goodEnds sizedParts good weight
+by-bad : quotientProposal (standardModel 0 (replicate 33 (pos 0)) 0) (standardModel 0 (replicate 33 (pos 0)) (2 ^ 28 + 1)) ≡ refused 2 refusedQuotient
+unfolding quotientProposal passing goodEnds partsWithinLimits good weight
 by-bad = refl
 
 -- ---- areas

@@ -124,9 +124,9 @@ module _ (f g : Model) where
     unfolding quotientProposal passing
     quotient-by-bad b = rw (bf, b)
 
-    pub quotient-apart : good g ≡ true → sameInterval (f .interval) (g .interval) ≡ false → refused 19 refusedQuotient ≡ quotientProposal f g
+    pub quotient-different : good g ≡ true → sameInterval (f .interval) (g .interval) ≡ false → refused 19 refusedQuotient ≡ quotientProposal f g
     unfolding quotientProposal passing
-    quotient-apart bg e = rw (bf, bg, e)
+    quotient-different bg e = rw (bf, bg, e)
 
     module _ (m : Made) (bg : good g ≡ true) (same : sameInterval (f .interval) (g .interval) ≡ true) (em : m ≡ reciprocalRounds (valuesOf g)) where
       pub quotient-not-finite : m .finite ≡ false → refused 15 refusedQuotient ≡ quotientProposal f g

@@ -8,7 +8,7 @@ use Rattle.integer.specs.definitions.Rounding.{upℕ}
 use Rattle.chebyshev.specs.definitions.Coefficients.{weight, addLists, subtractLists, scaleList}
 use Rattle.chebyshev.specs.definitions.Product.{product, addAtBy, addPairBy, addTermBy, addTermsBy}
 use Rattle.model.specs.definitions.Intervals.{goodEnds, sameInterval}
-use Rattle.model.specs.definitions.Models.{sizedParts, good, tooLarge, constantModel, zeroModel}
+use Rattle.model.specs.definitions.Models.{partsWithinLimits, good, tooLarge, constantModel, zeroModel}
 use Rattle.model.specs.definitions.Outcomes.{Outcome, accepted, refused, passing}
 use Rattle.model.specs.definitions.Multiply.{productList}
 use Rattle.model.specs.declared.types.Model.{Model}
@@ -59,7 +59,7 @@ Selections =
     × (selectionNeeding 65 64 f g (proposal 699051 w) (proposal 699051 w) ≡ refused 1 (makeSelected 0 0))
 
 pub selections : Selections
-unfolding tighter proposalNeeding quotientNeeding quotientContraction quotientResidual quotientModel displacement productList passing sameInterval goodEnds sizedParts good tooLarge constantModel zeroModel weight addLists subtractLists scaleList addAtBy addPairBy addTermBy addTermsBy product upℕ
+unfolding tighter proposalNeeding quotientNeeding quotientContraction quotientResidual quotientModel displacement productList passing sameInterval goodEnds partsWithinLimits good tooLarge constantModel zeroModel weight addLists subtractLists scaleList addAtBy addPairBy addTermBy addTermsBy product upℕ
 selections = (refl, refl, refl, refl, refl, refl, refl, refl, refl, refl, refl, refl, refl, refl, refl, refl)
 
 -- h's coefficients behind the degree, in the chosen slice; of none an empty part where the first begins

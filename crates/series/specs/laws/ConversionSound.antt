@@ -19,9 +19,9 @@ use Rattle.chebyshev.specs.laws.Weight.{weight-end, weight-zero}
 use Rattle.model.specs.definitions.Models.{scale, coefficientCount, zeroModel}
 use Rattle.model.specs.definitions.Outcomes.{accepted}
 use Rattle.model.specs.definitions.Round.{rounded, roundingLoss}
-use Rattle.model.specs.definitions.Intervals.{unitInterval}
+use Rattle.model.specs.definitions.Intervals.{standardInterval}
 use Rattle.model.specs.laws.IntervalLaws.{within}
-use Rattle.model.specs.laws.UnitInterval.{unit-ends, position-unit}
+use Rattle.model.specs.laws.StandardInterval.{standard-ends, position-standard}
 use Rattle.model.specs.definitions.Allowed.{position, AllowsAt, Allows, OnInterval}
 use Rattle.model.specs.laws.PlaceLaws.{outcome-accepted}
 use Rattle.model.specs.laws.RoundingPassLaws.{rounding-value}
@@ -95,16 +95,16 @@ series-sound s g x on =
         ∙ ap (λ v. whole (pos expansionUnit) *ℚ v) (sym (series-take x 0 (suc (s .degree)) (s .coefficients) (l .beyond-zero)))
 
 -- S-24: the converter's models are on −S and S
-pub conversion-interval : (s : Series) {m : Model} → conversion s ≡ accepted m → m .interval ≡ unitInterval
+pub conversion-interval : (s : Series) {m : Model} → conversion s ≡ accepted m → m .interval ≡ standardInterval
 unfolding conversion seriesModel
 conversion-interval s e = ap (λ (r : Model). r .interval) (outcome-accepted (conversionPlaces s) (seriesModel s) zeroModel e .1)
 
 pub conversion-sound : (s : Series) {m : Model} → conversion s ≡ accepted m
-    → (x : ℚ) → OnInterval unitInterval x → Allows m x (seriesValue (s .coefficients) x /ℚ whole (pos scale))
+    → (x : ℚ) → OnInterval standardInterval x → Allows m x (seriesValue (s .coefficients) x /ℚ whole (pos scale))
 unfolding conversion
 conversion-sound s {m} e x on =
     let p = outcome-accepted (conversionPlaces s) (seriesModel s) zeroModel e in
-    let near = subst (λ y. ∣ y ∣ℚ ≤ℚ whole (pos 1)) (position-unit x) (within unit-ends x on) in
+    let near = subst (λ y. ∣ y ∣ℚ ≤ℚ whole (pos 1)) (position-standard x) (within standard-ends x on) in
     let v = seriesValue (s .coefficients) x /ℚ whole (pos scale) in
     let at-x = subst⁻¹ (λ r. AllowsAt r x v) (p .1) (series-sound s (not-false (goodSeries s) (p .0 .0)) x near) in
-    subst⁻¹ (λ i. AllowsAt m (position i x) v) (conversion-interval s e) (subst⁻¹ (λ y. AllowsAt m y v) (position-unit x) at-x)
+    subst⁻¹ (λ i. AllowsAt m (position i x) v) (conversion-interval s e) (subst⁻¹ (λ y. AllowsAt m y v) (position-standard x) at-x)

@@ -10,7 +10,7 @@ use Rattle.certificate.specs.laws.Stages.{displacement-bound}
 use Rattle.certificate.specs.definitions.InnerContracts.{refusedTest}
 use Rattle.certificate.specs.laws.QuotientStages.{quotient-not-contracting, quotient-large-residual, quotient-formed}
 use Rattle.certificate.specs.definitions.Quotient.{quotientContraction, quotientResidual}
-use Rattle.certificate.specs.laws.Stages.{unit-good, quotientContraction-unit, quotientResidual-unit}
+use Rattle.certificate.specs.laws.Stages.{standard-good, quotientContraction-standard, quotientResidual-standard}
 use Rattle.certificate.proofs.quotient.test_good.Statement.{statement}
 use Rattle.certificate.proofs.quotient.test_good.Tie as tie
 
@@ -19,17 +19,17 @@ w-fits s = omega (arith, s .pre .1 .1, good-is (placed (s .args .f) (s .args .w)
 
 -- m and N, which do not ask for the interval
 m-is : (c : tie.After-quotient-contraction) → let a = c .before .before .args in c .quotient-contraction .result ≡ quotientContraction (a .g) (placed (a .f) (a .w))
-m-is c = let a = c .before .before .args in c .quotient-contraction .ensures ∙ quotientContraction-unit (a .f .interval) (a .g) (a .w)
+m-is c = let a = c .before .before .args in c .quotient-contraction .ensures ∙ quotientContraction-standard (a .f .interval) (a .g) (a .w)
 
 n-is : (c : tie.After-quotient-residual) → let a = c .before .before .before .before .before .before .args in
     c .quotient-residual .result ≡ quotientResidual (a .f) (a .g) (placed (a .f) (a .h))
-n-is c = let a = c .before .before .before .before .before .before .args in c .quotient-residual .ensures ∙ quotientResidual-unit (a .f .interval) (a .f) (a .g) (a .h)
+n-is c = let a = c .before .before .before .before .before .before .args in c .quotient-residual .ensures ∙ quotientResidual-standard (a .f .interval) (a .f) (a .g) (a .h)
 
 quotient-contraction-requires : tie.Need-quotient-contraction-requires
 quotient-contraction-requires c κs =
     let s = c .before in
     let r = s .pre .0 in
-    (record { room = r .room; first-good = unit-good (s .args .f .interval) (s .args .w) (r .good-w); second-good = r .good-g }, s .pre .1 .1)
+    (record { room = r .room; first-good = standard-good (s .args .f .interval) (s .args .w) (r .good-w); second-good = r .good-g }, s .pre .1 .1)
 
 quotient-radius-requires : tie.Need-quotient-radius-requires
 quotient-radius-requires c κs =
@@ -68,7 +68,7 @@ quotient-residual-requires c κs =
     let p = c .before .before in
     let s = p .before .before .before in
     let r = s .pre .0 in
-    ((record { room = search needs; first-good = r .good-g; second-good = unit-good (s .args .f .interval) (s .args .h) (r .good-h) }, r .good-f), s .pre .1 .0)
+    ((record { room = search needs; first-good = r .good-g; second-good = standard-good (s .args .f .interval) (s .args .h) (r .good-h) }, r .good-f), s .pre .1 .0)
 
 pub test-good-spec : {M : Type 1} → statement M
 test-good-spec =

@@ -3,13 +3,13 @@ use borrow.Author.Needs.{needs}
 use borrow.Author.Tests.{not-true, not-false}
 use mathlib.Core.Path.{_≡_, sym, _∙_, ap}
 use mathlib.Core.Bool.{true}
-use Rattle.model.specs.definitions.Models.{sizedParts, good}
+use Rattle.model.specs.definitions.Models.{partsWithinLimits, good}
 use Rattle.model.specs.laws.ModelLaws.{good-ends}
 use Rattle.model.specs.declared.types.Candidate.{Candidate}
 use Rattle.model.specs.declared.types.Model.{Model}
 use Rattle.certificate.specs.definitions.Tests.{placed}
 use Rattle.certificate.specs.definitions.InnerContracts.{refusedTest}
-use Rattle.certificate.specs.laws.QuotientStages.{quotient-bad-f, quotient-bad-g, quotient-bad-h, quotient-bad-w, quotient-apart}
+use Rattle.certificate.specs.laws.QuotientStages.{quotient-bad-f, quotient-bad-g, quotient-bad-h, quotient-bad-w, quotient-different}
 use Rattle.certificate.specs.laws.Stages.{candidate-good, candidate-fault}
 use Rattle.certificate.proofs.quotient.test_in.Statement.{statement}
 use Rattle.certificate.proofs.quotient.test_in.Tie as tie
@@ -57,7 +57,7 @@ module _ (c : tie.Else2) where
   good-g = let n = c .before .is-good2 in sym (n .ensures) ∙ not-false (n .result) (c .if2 .left)
 
   -- of a candidate that is measured
-  measured : (x : Candidate) → good (placed (f e) x) ≡ sizedParts (x .degree) (x .coefficients) 0
+  measured : (x : Candidate) → good (placed (f e) x) ≡ partsWithinLimits (x .degree) (x .coefficients) 0
   measured x = candidate-good (f e .interval) x (good-ends (f e) (good-f e))
 
 returns-3 : tie.Need-returns-3
@@ -98,7 +98,7 @@ returns-5 c =
     let b = c .before .before .before in
     let x = e (d (k b)) in
     c .refused5 .ensures
-    ∙ sym (quotient-apart (f x) (g x) (h x) (w x) (good-f x) (good-g (d (k b))) (good-h (k b)) (good-w b) (sym (n .ensures) ∙ not-true (n .result) (c .before .if5 .taken)))
+    ∙ sym (quotient-different (f x) (g x) (h x) (w x) (good-f x) (good-g (d (k b))) (good-h (k b)) (good-w b) (sym (n .ensures) ∙ not-true (n .result) (c .before .if5 .taken)))
 
 test-good-requires : tie.Need-test-good-requires
 test-good-requires c κs =

@@ -4,7 +4,7 @@ use borrow.Author.Tests.{not-true, not-false}
 use mathlib.Core.Path.{_≡_, sym, _∙_, ap}
 use mathlib.Core.Bool.{true}
 use Prim.Native.Nat.{ℕ}
-use Rattle.model.specs.definitions.Models.{sizedParts, good}
+use Rattle.model.specs.definitions.Models.{partsWithinLimits, good}
 use Rattle.model.specs.definitions.Outcomes.{refused}
 use Rattle.model.specs.laws.ModelLaws.{good-ends}
 use Rattle.model.specs.declared.types.Candidate.{Candidate}
@@ -40,7 +40,7 @@ module _ (c : tie.Else1) where
   good-f = sym (c .before .is-good .ensures) ∙ not-false (c .before .is-good .result) (c .if1 .left)
 
   -- of a candidate that is measured
-  measured : (x : Candidate) → good (placed f x) ≡ sizedParts (x .degree) (x .coefficients) 0
+  measured : (x : Candidate) → good (placed f x) ≡ partsWithinLimits (x .degree) (x .coefficients) 0
   measured x = candidate-good (f .interval) x (good-ends f good-f)
 
 returns-2 : tie.Need-returns-2

@@ -13,7 +13,7 @@ use Rattle.model.specs.laws.ModelLaws.{good-is}
 use Rattle.certificate.specs.definitions.Tests.{placed}
 use Rattle.certificate.specs.laws.NumbersStages.{numbers-helper, numbers-not-contracting, numbers-large-residual, numbers-reached}
 use Rattle.certificate.specs.definitions.Root.{rootContraction, rootResidual}
-use Rattle.certificate.specs.laws.Stages.{unit-good, rootContraction-unit, rootResidual-unit}
+use Rattle.certificate.specs.laws.Stages.{standard-good, rootContraction-standard, rootResidual-standard}
 use Rattle.certificate.proofs.root.numbers_of_good.Statement.{statement}
 use Rattle.certificate.proofs.root.numbers_of_good.Tie as tie
 
@@ -30,24 +30,24 @@ positive c = sym (sign-is (c .before)) ∙ c .if1 .left
 -- m and N, which do not ask for the interval
 m-is : (c : tie.After-root-contraction) → let a = c .before .before .before .before .before .before .args in
     c .root-contraction .result ≡ rootContraction (placed (a .f) (a .h)) (placed (a .f) (a .t4))
-m-is c = let a = c .before .before .before .before .before .before .args in c .root-contraction .ensures ∙ rootContraction-unit (a .f .interval) (a .h) (a .t4)
+m-is c = let a = c .before .before .before .before .before .before .args in c .root-contraction .ensures ∙ rootContraction-standard (a .f .interval) (a .h) (a .t4)
 
 n-is : (c : tie.After-root-residual) → let a = c .before .before .before .before .before .before .before .before .before .before .args in
     c .root-residual .result ≡ rootResidual (a .f) (placed (a .f) (a .h))
-n-is c = let a = c .before .before .before .before .before .before .before .before .before .before .args in c .root-residual .ensures ∙ rootResidual-unit (a .f .interval) (a .f) (a .h)
+n-is c = let a = c .before .before .before .before .before .before .before .before .before .before .args in c .root-residual .ensures ∙ rootResidual-standard (a .f .interval) (a .f) (a .h)
 
 root-contraction-requires : tie.Need-root-contraction-requires
 root-contraction-requires c κs =
     let s = c .before .before .before .before .before in
     let r = s .pre .0 in
     let i = s .args .f .interval in
-    record { room = r .room; first-good = unit-good i (s .args .t4) (r .good-w); second-good = unit-good i (s .args .h) (r .good-h) }
+    record { room = r .room; first-good = standard-good i (s .args .t4) (r .good-w); second-good = standard-good i (s .args .h) (r .good-h) }
 
 root-residual-requires : tie.Need-root-residual-requires
 root-residual-requires c κs =
     let s = c .before .before .before .before .before .before .before .before .before in
     let r = s .pre .0 in
-    let good-h = unit-good (s .args .f .interval) (s .args .h) (r .good-h) in
+    let good-h = standard-good (s .args .f .interval) (s .args .h) (r .good-h) in
     (record { room = search needs; first-good = good-h; second-good = good-h }, r .good-f)
 
 returns : tie.Need-returns

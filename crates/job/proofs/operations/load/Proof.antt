@@ -5,7 +5,7 @@ use Prim.Native.Nat.{_+_}
 use denote.Ref.{now}
 use Rattle.model.specs.definitions.Load.{loading}
 use Rattle.job.specs.definitions.Bytes.{blockAt, unsignedAt}
-use Rattle.model.specs.definitions.Intervals.{unitInterval}
+use Rattle.model.specs.definitions.Intervals.{standardInterval}
 use Rattle.job.specs.definitions.Decode.{makerAt}
 use Rattle.job.specs.definitions.InnerContracts.{untestedOutcome}
 use Rattle.job.specs.laws.MakerLaws.{load-operation}
@@ -22,8 +22,8 @@ returns c =
     let u = i .before in
     let g = u .before .before .args in
     let job = now (g .job) in
-    let m = blockAt job (g .at + 1) (unsignedAt job (g .at + 134)) unitInterval in
-    let e = r .read-model .ensures ∙ ap₂ (blockAt job (g .at + 1)) (u .read-unsigned .ensures) (i .unit .ensures) in
+    let m = blockAt job (g .at + 1) (unsignedAt job (g .at + 134)) standardInterval in
+    let e = r .read-model .ensures ∙ ap₂ (blockAt job (g .at + 1)) (u .read-unsigned .ensures) (i .standard .ensures) in
     λ w. performs-untested (loading m) (c .untested .ensures ∙ ap untestedOutcome (l .load .ensures ∙ ap loading e)) (loading-storable m)
     (λ count rs t h n. sym (load-operation m rs))
 

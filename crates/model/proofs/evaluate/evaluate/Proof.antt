@@ -18,7 +18,7 @@ use Rattle.model.specs.laws.ModelLaws.{good-ends}
 use Rattle.model.specs.definitions.Evaluate.{mappedPoint, mapsExactly, growth, pointSum, errorSum, evaluation}
 use Rattle.model.specs.laws.EvaluationLaws.{evaluation-accepted}
 use Rattle.model.specs.declared.types.Model.{Model}
-use Rattle.model.proofs.EvaluationBounds.{fits-mapped, evaluable, slope-small, Sums, error-small, error-word, radius-word, fits-value, fits-fourfold, fits-below, fits-above, low, high}
+use Rattle.model.proofs.EvaluationBounds.{fits-mapped, evaluable, lipschitz-small, Sums, error-small, error-word, radius-word, fits-value, fits-fourfold, fits-below, fits-above, low, high}
 use Rattle.model.proofs.evaluate.evaluate.Statement.{statement}
 use Rattle.model.proofs.evaluate.evaluate.Tie as tie
 
@@ -138,7 +138,7 @@ evaluate-spec =
     (λ k κs. let m = k .before .before .before in
     let x = c m in simp (toZ-ofZ (fits-q m)) (evaluable (a x) (passed x) (p x) (q m) (inside m) (point-is m) (search needs)))
     (λ d. let n = summed (d .before .before) _ refl in simp (toZ-ofZ (fits-value n)) (fits-fourfold n))
-    (λ d κs. let k = d .before .before in omega (arith, k .point-sums .ensures .1 .1, slope-small (a (c (m k))) (passed (c (m k)))))
+    (λ d κs. let k = d .before .before in omega (arith, k .point-sums .ensures .1 .1, lipschitz-small (a (c (m k))) (passed (c (m k)))))
     (λ c. omega (arith, error-small (sums (c .before)))) (λ c. abs-fits w64 _ (omega (arith, error-small (sums (c .before))))) (λ c. search needs)
     (λ c. let n = sums (c .before) in simp (toZ-ofZ (fits-value n), toZ-ofZ (fits-fourfold n), error-word n) (fits-below n))
     (λ c κs. search needs) sub-low

@@ -8,13 +8,13 @@ use Rattle.model.proofs.measure.measure.Tie as tie
 returns : tie.Need-returns
 unfolding good
 returns c =
-    let m = c .before .before .measure-size in
+    let m = c .before .before .measure-limits in
     rw (sym (m .ensures .0) ∙ c .before .if1 .taken) (c .is-good .ensures, m .ensures .1)
 
 returns-2 : tie.Need-returns-2
 unfolding good
 returns-2 c =
-    let m = c .before .measure-size in
+    let m = c .before .measure-limits in
     rw (sym (m .ensures .0) ∙ c .if1 .left) (c .if1 .left, m .ensures .1)
 
 pub measure-spec : {M : Type 1} → statement M

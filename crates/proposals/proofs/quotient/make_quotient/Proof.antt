@@ -15,7 +15,7 @@ use Rattle.proposals.specs.definitions.Product.{product}
 use Rattle.proposals.specs.definitions.Units.{inUnits}
 use Rattle.proposals.specs.definitions.Reciprocal.{valuesOf}
 use Rattle.proposals.specs.definitions.Quotient.{Quotient, makeQuotient, refusedQuotient, quotientProposal}
-use Rattle.proposals.specs.laws.MakerLaws.{quotient-of-bad, quotient-by-bad, quotient-apart, quotient-not-finite, quotient-in-units, thenUnits, units-stop, units-go-on}
+use Rattle.proposals.specs.laws.MakerLaws.{quotient-of-bad, quotient-by-bad, quotient-different, quotient-not-finite, quotient-in-units, thenUnits, units-stop, units-go-on}
 use Rattle.proposals.proofs.quotient.make_quotient.Statement.{statement}
 use Rattle.proposals.proofs.quotient.make_quotient.Tie as tie
 
@@ -48,7 +48,7 @@ returns-3 c =
     let d = c .before .before .before in
     let e = d .before .before in
     let a = e .before .before .args in
-    c .refused3 .ensures ∙ quotient-apart (a .f) (a .g) (first-good e) (divisor-good d) (sym (b .ensures) ∙ not-true (b .result) (c .before .if3 .taken))
+    c .refused3 .ensures ∙ quotient-different (a .f) (a .g) (first-good e) (divisor-good d) (sym (b .ensures) ∙ not-true (b .result) (c .before .if3 .taken))
 
 -- the rounds were made
 module _ (m : tie.After-make) where

@@ -12,7 +12,7 @@ use lib.Signed.{ltZ-yes}
 use Rattle.chebyshev.specs.definitions.Coefficients.{weight}
 use Rattle.chebyshev.specs.laws.Weight.{weight-take, weight-zeros}
 use Rattle.model.specs.definitions.InnerContracts.{formedOutcome}
-use Rattle.model.specs.definitions.Models.{unitModel}
+use Rattle.model.specs.definitions.Models.{standardModel}
 use Rattle.model.specs.laws.ModelLaws.{Good}
 use Rattle.series.specs.definitions.Convert.{seriesTerms, expandedFrom}
 use Rattle.series.specs.laws.ConversionLaws.{limits, length-expanded, weight-expanded, from-zeros, series-formed}
@@ -24,7 +24,7 @@ module _ (s : tie.Start) where
   abbrev series : Series
   series = s .args .s
 
-  within : Good (unitModel (series .degree) (series .coefficients) 0)
+  within : Good (standardModel (series .degree) (series .coefficients) 0)
   within = limits series (s .pre)
 
   length-all : length (series .coefficients) ≡ 33
@@ -94,7 +94,7 @@ returns c =
     let s = series (start d) in
     let n : length (seriesTerms s) ≡ suc (s .degree) = rw add-one at (length-ps (start d)) in
     c .formed .ensures
-    ∙ ap₂ (formedOutcome (s .degree) (r .round .result .coefficients) (r .round .result .weight)) (c .before .up-unsigned .ensures) (c .before .before .unit .ensures)
+    ∙ ap₂ (formedOutcome (s .degree) (r .round .result .coefficients) (r .round .result .weight)) (c .before .up-unsigned .ensures) (c .before .before .standard .ensures)
     ∙ series-formed s (r .round .result) n (simp add-one at (rw (sums-are d) at (r .round .ensures)))
 
 pub convert-good-spec : {M : Type 1} → statement M

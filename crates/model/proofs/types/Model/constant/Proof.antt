@@ -13,7 +13,7 @@ returns : tie.Need-returns
 unfolding constantModel
 returns c =
     let s = c .before .before in
-    (simp (toZ-ofZ (s .fits .c)) at (c .new .ensures)) ∙ ap (makeModel 0 (s .args .c ∷ replicate 32 (pos 0)) 0) (c .before .unit .ensures)
+    (simp (toZ-ofZ (s .fits .c)) at (c .new .ensures)) ∙ ap (makeModel 0 (s .args .c ∷ replicate 32 (pos 0)) 0) (c .before .standard .ensures)
 
 pub constant-spec : {M : Type 1} → statement M
 constant-spec = tie.close (tie.spec (λ c. search needs) (λ c κs. search needs) (λ c κs. search needs) returns)
