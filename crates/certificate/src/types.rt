@@ -68,7 +68,8 @@ impl TestOutcome {
         displacement: u64,
     ) -> TestOutcome
         requires { ⌜ good (candidateModel interval h) ≡ true ⌝ }
-        ensures { λ (r : TestOutcome). ⌜ testOf r ≡ formedTest (candidateModel interval h) radius contraction residual displacement ⌝ }
+        ensures { λ (r : TestOutcome).
+            ⌜ testOf r ≡ formedTest (candidateModel interval h) radius contraction residual displacement ⌝ }
     {
         if radius <= Model::MAX_RADIUS {
             return TestOutcome::accepted(

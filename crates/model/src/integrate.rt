@@ -1,5 +1,5 @@
-// Integrate from the lower end: the coefficients are formed from the highest down, so that c_0 = c_1 - (c_2 - (c_3 - ..)) needs no
-// signs.
+// Integrate from the lower end: the coefficients are formed from the highest down, so that c_0 = c_1 - (c_2 - (c_3 - ..))
+// needs no signs.
 ghost use mathlib.Core.Path.{_≡_};
 ghost use Prim.Native.Nat.{suc, _*_, _≤_};
 ghost use lib.IntN.{pos, _-ℤ_, _*ℤ_};

@@ -79,7 +79,8 @@ pub fn measure(m: Model) -> Measured
 
 // A candidate's ends are its operand's.
 pub fn measure_candidate(c: Candidate) -> Measured
-    ensures { λ (r : Measured). ⌜ (r .good ≡ partsWithinLimits (c .degree) (c .coefficients) 0) × (r .weight ≡ weight (c .coefficients)) ⌝ }
+    ensures { λ (r : Measured).
+        ⌜ (r .good ≡ partsWithinLimits (c .degree) (c .coefficients) 0) × (r .weight ≡ weight (c .coefficients)) ⌝ }
 {
     measure_parts(c.degree, &c.coefficients)
 }

@@ -1,7 +1,8 @@
 // A model: degree, coefficients of T_0 .. T_32 in units of 1/SCALE, radius in units, and the interval on which it holds.
 ghost use mathlib.Core.Path.{_≡_};
 ghost use Rattle.model.specs.definitions.InnerContracts.{formedOutcome};
-ghost use Rattle.model.specs.definitions.Intervals.{goodEnds, extent, contains, sameInterval, standardInterval, zeroInterval};
+ghost use Rattle.model.specs.definitions.Intervals.{goodEnds, extent, contains, sameInterval};
+ghost use Rattle.model.specs.definitions.Intervals.{standardInterval, zeroInterval};
 ghost use Rattle.model.specs.definitions.Models.{makeModel, zeroModel, constantModel};
 ghost use Rattle.model.specs.definitions.Outcomes.{refused, numberOf, verdictNumber, outcomeOf};
 

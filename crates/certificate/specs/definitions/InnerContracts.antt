@@ -13,7 +13,8 @@ use Rattle.model.specs.definitions.Models.{good, candidateModel, largePlace}
 use Rattle.model.specs.definitions.Outcomes.{Outcome, accepted, refused, outcome, numberOf}
 use Rattle.model.specs.declared.types.Model.{Model}
 use Rattle.model.specs.declared.types.Candidate.{Candidate}
-use Rattle.certificate.specs.definitions.Tests.{Certificate, makeCertificate, zeroCertificate, placed, withRadius, displacement}
+use Rattle.certificate.specs.definitions.Tests.{Certificate, makeCertificate, zeroCertificate}
+use Rattle.certificate.specs.definitions.Tests.{placed, withRadius, displacement}
 use Rattle.certificate.specs.definitions.Groups.{group}
 use Rattle.certificate.specs.definitions.Root.{rootPlaces, rootLastPlaces, rootModel, rootContraction, rootResidual}
 use Rattle.certificate.specs.declared.types.RootRule.{RootRule}

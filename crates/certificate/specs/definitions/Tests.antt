@@ -31,7 +31,7 @@ scratchAfter s = cond (leb scratchSize (length s)) (replicate scratchSize (pos 0
 
 -- ---- their candidates
 
--- "A candidate is a model without a radius (taken as 0)." S-24: "A candidate has its operand's interval.": of f, the first of them
+-- "A candidate is a model without a radius (taken as 0)." S-24: "A candidate has its operand's interval.", that of f
 abbrev pub placed : Model → Candidate → Model
 placed f c = candidateModel (f .interval) c
 

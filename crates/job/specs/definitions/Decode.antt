@@ -57,8 +57,11 @@ pub record OperationRow : Type 0 where
   pub maker : List ℕ → ℕ → Maker
 
 abbrev pub operationRow : Operation → OperationRow
-operationRow Load =
-    record { width = 137; values = Any; maker = λ job at. load (blockAt job (at + 1) (unsignedAt job (at + 134)) standardInterval) }
+operationRow Load = record {
+  width = 137;
+  values = Any;
+  maker = λ job at. load (blockAt job (at + 1) (unsignedAt job (at + 134)) standardInterval);
+}
 operationRow LoadOn = record {
   width = 145;
   values = Any;

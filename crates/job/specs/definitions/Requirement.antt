@@ -111,8 +111,8 @@ pub record Results (job : List ℕ) (count : ℕ) (work : List ℤ) : Type 0 whe
   pub read : jobReading job ≡ well commands
   -- "its results are exactly those that document 01 gives for its commands." (`workAfter` of Work has the rest of the area.)
   pub made : Made commands (modelsIn work count)
-  -- "Of each result the following then holds at every fraction from -1 to 1.", with S-24 "at fractions of its own interval in place
-  -- of -1 to 1"
+  -- "Of each result the following then holds at every fraction from -1 to 1.", with S-24 "at fractions of its own interval in
+  -- place of -1 to 1"
   pub vouched : (i : ℕ) → i < count → (x : ℚ) → OnInterval (storedResult work i .interval) x → Vouched commands work i x
 
 -- "For every list of bytes …, whatever the lent areas held before:" of the places that the areas can be refused at, the bytes,

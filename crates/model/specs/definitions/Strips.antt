@@ -29,5 +29,6 @@ lipschitz a = lipschitzWeight 0 (a .coefficients)
 -- and its integral c
 abbrev pub StripsWithin : Model → Model → (ℚ → ℚ) → ℚ → ℕ → Type 0
 StripsWithin a c choice x k =
-    ∣ stripSum (a .interval) choice x k *ℚ whole (pos scale) -ℚ value ℚ-ring (position (c .interval) x) (map whole (c .coefficients)) ∣ℚ
+    ∣ stripSum (a .interval) choice x k *ℚ whole (pos scale)
+    -ℚ value ℚ-ring (position (c .interval) x) (map whole (c .coefficients)) ∣ℚ
     ≤ℚ (whole (pos (c .radius)) +ℚ whole (pos (lipschitz a * extent (a .interval))) /ℚ whole (pos (scale * k)))

@@ -38,7 +38,8 @@ quotientProposal f g =
     let h = map unitsOf q in
     let w = map unitsOf (m .round .coefficients) in
     outcome
-    (badPlace f ∷ badPlace g ∷ differentPlace f g ∷ notFinitePlace (m .finite && allFinite q) ∷ weightPlace h ∷ weightPlace w ∷ [])
+    (badPlace f ∷ badPlace g ∷ differentPlace f g
+    ∷ notFinitePlace (m .finite && allFinite q) ∷ weightPlace h ∷ weightPlace w ∷ [])
     (makeQuotient (m .ending) q (m .round) (candidateIn h) (candidateIn w))
     refusedQuotient
 

@@ -17,4 +17,5 @@ partModel cs e i = makeModel maxDegree cs e i
 -- its radius", with S-24 "at fractions of its own interval in place of -1 to 1"
 pub record QuotientAllowed (f g : Model) (cs : List ℤ) (e : ℕ) : Type 0 where
   pub divisor : (x v : ℚ) → OnInterval (f .interval) x → Allows g x v → ¬ (v ≡ whole (pos 0))
-  pub quotient : (x u v : ℚ) → OnInterval (f .interval) x → Allows f x u → Allows g x v → Allows (partModel cs e (f .interval)) x (u /ℚ v)
+  pub quotient : (x u v : ℚ) → OnInterval (f .interval) x → Allows f x u → Allows g x v
+      → Allows (partModel cs e (f .interval)) x (u /ℚ v)
