@@ -153,7 +153,7 @@ unfolding reciprocalIn areaOut refusedReciprocal zeroRound zeroCandidate zeros
 short-model = refl
 
 -- the outcome has no number
-short-outcome : makeQuotientAnswer (replicate 35 (pos 0)) (replicate 35 (pos 0)) (replicate 67 one) (replicate 34 (pos 1)) (replicate 35 (pos 1)) []
+short-outcome : makeQuotientAnswer (replicate 37 (pos 0)) (replicate 37 (pos 0)) (replicate 67 one) (replicate 34 (pos 1)) (replicate 35 (pos 1)) []
     ≡ quotientAnswer 1 (replicate 67 nought) (replicate 34 (pos 0)) (replicate 34 (pos 0) ++ (pos 1 ∷ [])) []
 unfolding quotientIn areaOut refusedQuotient zeroRound zeroCandidate zeros
 short-outcome = refl
