@@ -26,3 +26,7 @@ pub mod ExampleValues
 pub mod ExampleBoxes
 pub mod ExampleUse
 pub mod IntervalExamples
+pub mod FormerOperations
+pub mod FormerCommands
+pub mod FormerJob
+pub mod FormerWork

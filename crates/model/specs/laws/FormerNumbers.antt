@@ -1,14 +1,14 @@
 -- Document 02, S-24, on the interval −S..S: the whole outcomes of add, subtract, multiply, load, integrate and evaluate are the
 -- former ones, for near(n·m, d·m) = near(n, d), the point maps to itself and W does not grow. The former places and results stand
--- here written out; of the two tests FormerTests (certificate) speaks.
+-- here written out, and the former numbers of a model in an area; of the two tests FormerTests (certificate) speaks.
 use mathlib.Core.Path.{_≡_, refl, sym, _∙_, ap, ap₂}
 use mathlib.Core.Bool.{Bool, true, false, not, cond, _&&_}
-use mathlib.Core.List.{List, [], _∷_, _++_}
+use mathlib.Core.List.{List, [], _∷_, _++_, append-assoc}
 use Prim.Native.Nat.{ℕ, suc, _+_, _-_, _*_, _^_, max, min}
 use native.Mathlib.Omega.{arith}
 use lib.Dec.{leb, ltb, eqb}
-use lib.IntN.{ℤ, pos, negsuc, natAbs, _+ℤ_, _-ℤ_, _*ℤ_}
-use lib.ListN.{length, replicate, take, drop}
+use lib.IntN.{ℤ, pos, negsuc, negℤ, natAbs, _+ℤ_, _-ℤ_, _*ℤ_}
+use lib.ListN.{length, replicate, getD, take, drop}
 use Rattle.integer.specs.definitions.Integer.{ℤ-ring}
 use Rattle.integer.specs.definitions.Rounding.{floor, up, upℕ, near}
 use Rattle.integer.specs.laws.Difference.{all1, differences}
@@ -20,13 +20,14 @@ use borrow.Author.Tests.{leb-true, leb-false, le-ltb, lt-ltb}
 use Rattle.chebyshev.specs.definitions.Coefficients.{weight, addLists, subtractLists}
 use Rattle.chebyshev.specs.definitions.Product.{product}
 use Rattle.model.specs.definitions.Add.{sumModel, differenceModel, addition, subtraction}
-use Rattle.model.specs.definitions.Evaluate.{zeroBounds, mappedNumerator, mappedPoint, mapsExactly, growth, pointSum, pointError, lowBound, highBound, evaluation}
+use Rattle.model.specs.definitions.Area.{words, unsignedOf, areaModel}
+use Rattle.model.specs.definitions.Evaluate.{Bounds, zeroBounds, mappedNumerator, mappedPoint, mapsExactly, growth, pointSum, pointError, lowBound, highBound, evaluation}
 use Rattle.model.specs.definitions.Integrate.{numerators, halved, alternating, integralList, integralModel, integration}
 use Rattle.model.specs.definitions.Intervals.{goodEnds, extent, standardInterval, sameInterval, contains}
 use Rattle.model.specs.definitions.Load.{loading}
 use Rattle.model.specs.definitions.Models.{scale, maxDegree, coefficientCount, productSize, terms, withinLimits, good, makeModel, standardModel, zeroModel, badPlace, differentPlace, largePlace}
 use Rattle.model.specs.definitions.Multiply.{keptDegree, productList, productLoss, productModel, multiplication}
-use Rattle.model.specs.definitions.Outcomes.{outcome, passing, refused}
+use Rattle.model.specs.definitions.Outcomes.{Outcome, outcome, passing, refused}
 use Rattle.model.specs.definitions.Round.{rounded, roundingLoss}
 use Rattle.model.specs.declared.types.Interval.{Interval}
 use Rattle.model.specs.declared.types.Model.{Model}
@@ -58,15 +59,31 @@ module _ (m : Model) (on : m .interval ≡ standardInterval) where
       by true e = rw (e, on, standard-good)
       by false e = rw e
 
-  -- a model's place refuses with 2 alone
-  pub place-former : {A : Type 0} (ps : List (Bool × ℕ)) (a z : A)
-      → outcome (badPlace m ∷ ps) a z ≡ outcome (formerPlace m ∷ ps) a z
+-- lists of places that refuse with the same number, or not at all
+pub record SameRefusal (ps qs : List (Bool × ℕ)) : Type 1 where
+  pub outcomes : (A : Type 0) (a z : A) → outcome ps a z ≡ outcome qs a z
+
+pub same-refusal : (ps : List (Bool × ℕ)) → SameRefusal ps ps
+same-refusal ps = record { outcomes = λ A a z. refl }
+
+module _ {ps qs : List (Bool × ℕ)} (rest : SameRefusal ps qs) where
+  pub behind-place : (p : Bool × ℕ) → SameRefusal (p ∷ ps) (p ∷ qs)
   unfolding passing
-  place-former ps a z = rw good-former (by (withinLimits m))
+  behind-place p = record { outcomes = λ A a z. ap (cond (p .0) (refused (p .1) z)) (rest .outcomes A a z) }
+
+  -- a model's place refuses with 2 alone
+  pub place-former : (m : Model) → m .interval ≡ standardInterval → SameRefusal (badPlace m ∷ ps) (formerPlace m ∷ qs)
+  unfolding passing
+  place-former m on = record { outcomes = λ A a z. rw (good-former m on, rest .outcomes A a z) (by A z (outcome qs a z) (withinLimits m)) }
     where
-      by : (t : Bool) → cond (not t) (refused (cond t 18 2) z) (outcome ps a z) ≡ cond (not t) (refused 2 z) (outcome ps a z)
-      by true = refl
-      by false = refl
+      by : (A : Type 0) (z : A) (o : Outcome A) (t : Bool) → cond (not t) (refused (cond t 18 2) z) o ≡ cond (not t) (refused 2 z) o
+      by A z o true = refl
+      by A z o false = refl
+
+  -- and 19 never refuses
+  pub different-former : (f g : Model) → f .interval ≡ standardInterval → g .interval ≡ standardInterval → SameRefusal (differentPlace f g ∷ ps) qs
+  unfolding passing
+  different-former f g on-f on-g = record { outcomes = λ A a z. rw (on-f, on-g, standard-same) (rest .outcomes A a z) }
 
 -- ---- add, subtract, multiply
 
@@ -90,51 +107,61 @@ formerProduct d a b =
     + 2 * (weight (a .coefficients) * b .radius + weight (b .coefficients) * a .radius + a .radius * b .radius))
     (2 * scale))
 
+abbrev pub formerLoading : Model → Outcome Model
+formerLoading m = outcome (formerPlace m ∷ []) m zeroModel
+
+abbrev pub formerAddition : Model → Model → Outcome Model
+formerAddition a b = outcome (formerPlace a ∷ formerPlace b ∷ largePlace (formerSum a b) ∷ []) (formerSum a b) zeroModel
+
+abbrev pub formerSubtraction : Model → Model → Outcome Model
+formerSubtraction a b =
+    outcome (formerPlace a ∷ formerPlace b ∷ largePlace (formerDifference a b) ∷ []) (formerDifference a b) zeroModel
+
+abbrev pub formerMultiplication : ℕ → Model → Model → Outcome Model
+formerMultiplication d a b =
+    outcome (formerPlace a ∷ formerPlace b ∷ (not (leb (keptDegree d) maxDegree), 9) ∷ largePlace (formerProduct d a b) ∷ [])
+    (formerProduct d a b)
+    zeroModel
+
+pub loading-former : (m : Model) → m .interval ≡ standardInterval → loading m ≡ formerLoading m
+unfolding loading
+loading-former m on = place-former (same-refusal []) m on .outcomes Model m zeroModel
+
 -- two operands: neither 18 nor 19
 module _ (a b : Model) (on-a : a .interval ≡ standardInterval) (on-b : b .interval ≡ standardInterval) where
-  places-former : {A : Type 0} (ps : List (Bool × ℕ)) (x z : A)
-      → outcome (badPlace a ∷ badPlace b ∷ differentPlace a b ∷ ps) x z ≡ outcome (formerPlace a ∷ formerPlace b ∷ ps) x z
-  unfolding passing
-  places-former ps x z =
-      place-former a on-a (badPlace b ∷ differentPlace a b ∷ ps) x z
-      ∙ ap (cond (not (withinLimits a)) (refused 2 z))
-      (place-former b on-b (differentPlace a b ∷ ps) x z ∙ ap (cond (not (withinLimits b)) (refused 2 z)) (rw (on-a, on-b, standard-same)))
+  pub places-former : (ps : List (Bool × ℕ)) → SameRefusal (badPlace a ∷ badPlace b ∷ differentPlace a b ∷ ps) (formerPlace a ∷ formerPlace b ∷ ps)
+  places-former ps = place-former (place-former (different-former (same-refusal ps) a b on-a on-b) b on-b) a on-a
 
-  pub sum-former : sumModel a b ≡ formerSum a b
+  sum-former : sumModel a b ≡ formerSum a b
   unfolding sumModel formerSum
   sum-former = rw on-a
 
-  pub difference-former : differenceModel a b ≡ formerDifference a b
+  difference-former : differenceModel a b ≡ formerDifference a b
   unfolding differenceModel formerDifference
   difference-former = rw on-a
 
-  pub product-former : (d : ℕ) → productModel d a b ≡ formerProduct d a b
+  product-former : (d : ℕ) → productModel d a b ≡ formerProduct d a b
   unfolding productModel productLoss productList formerProduct
   product-former d = rw on-a
 
-  pub addition-former : addition a b ≡ outcome (formerPlace a ∷ formerPlace b ∷ largePlace (formerSum a b) ∷ []) (formerSum a b) zeroModel
+  pub addition-former : addition a b ≡ formerAddition a b
   unfolding addition
   addition-former =
-      places-former (largePlace (sumModel a b) ∷ []) (sumModel a b) zeroModel
+      places-former (largePlace (sumModel a b) ∷ []) .outcomes Model (sumModel a b) zeroModel
       ∙ ap (λ m. outcome (formerPlace a ∷ formerPlace b ∷ largePlace m ∷ []) m zeroModel) sum-former
 
-  pub subtraction-former : subtraction a b ≡ outcome (formerPlace a ∷ formerPlace b ∷ largePlace (formerDifference a b) ∷ []) (formerDifference a b) zeroModel
+  pub subtraction-former : subtraction a b ≡ formerSubtraction a b
   unfolding subtraction
   subtraction-former =
-      places-former (largePlace (differenceModel a b) ∷ []) (differenceModel a b) zeroModel
+      places-former (largePlace (differenceModel a b) ∷ []) .outcomes Model (differenceModel a b) zeroModel
       ∙ ap (λ m. outcome (formerPlace a ∷ formerPlace b ∷ largePlace m ∷ []) m zeroModel) difference-former
 
-  pub multiplication-former : (d : ℕ)
-      → multiplication d a b
-      ≡ outcome (formerPlace a ∷ formerPlace b ∷ (not (leb (keptDegree d) maxDegree), 9) ∷ largePlace (formerProduct d a b) ∷ []) (formerProduct d a b) zeroModel
+  pub multiplication-former : (d : ℕ) → multiplication d a b ≡ formerMultiplication d a b
   unfolding multiplication
   multiplication-former d =
-      places-former ((not (leb (keptDegree d) maxDegree), 9) ∷ largePlace (productModel d a b) ∷ []) (productModel d a b) zeroModel
-      ∙ ap (λ m. outcome (formerPlace a ∷ formerPlace b ∷ (not (leb (keptDegree d) maxDegree), 9) ∷ largePlace m ∷ []) m zeroModel) (product-former d)
-
-pub loading-former : (m : Model) → m .interval ≡ standardInterval → loading m ≡ outcome (formerPlace m ∷ []) m zeroModel
-unfolding loading
-loading-former m on = place-former m on [] m zeroModel
+      let kept : Bool × ℕ = (not (leb (keptDegree d) maxDegree), 9) in
+      places-former (kept ∷ largePlace (productModel d a b) ∷ []) .outcomes Model (productModel d a b) zeroModel
+      ∙ ap (λ m. outcome (formerPlace a ∷ formerPlace b ∷ kept ∷ largePlace m ∷ []) m zeroModel) (product-former d)
 
 -- ---- integrate
 
@@ -175,11 +202,13 @@ integral-former a on =
     formed : List ℤ → ℕ → Interval → Model
     formed cs e i = makeModel (a .degree + 1) (cs ++ replicate (coefficientCount - length cs) (pos 0)) (e + a .degree + 1) i
 
-pub integration-former : (a : Model) → a .interval ≡ standardInterval
-    → integration a ≡ outcome (formerPlace a ∷ largePlace (formerIntegral a) ∷ []) (formerIntegral a) zeroModel
+abbrev pub formerIntegration : Model → Outcome Model
+formerIntegration a = outcome (formerPlace a ∷ largePlace (formerIntegral a) ∷ []) (formerIntegral a) zeroModel
+
+pub integration-former : (a : Model) → a .interval ≡ standardInterval → integration a ≡ formerIntegration a
 unfolding integration
 integration-former a on =
-    place-former a on (largePlace (integralModel a) ∷ []) (integralModel a) zeroModel
+    place-former (same-refusal (largePlace (integralModel a) ∷ [])) a on .outcomes Model (integralModel a) zeroModel
     ∙ ap (λ m. outcome (formerPlace a ∷ largePlace m ∷ []) m zeroModel) (integral-former a on)
 
 -- ---- evaluate
@@ -220,12 +249,37 @@ formerLow a p = floor (pos 4 *ℤ pointSum p 0 (terms a) -ℤ pos (pointError 0 
 unfoldable pub formerHigh : Model → ℤ → ℤ
 formerHigh a p = up (pos 4 *ℤ pointSum p 0 (terms a) +ℤ pos (pointError 0 (terms a))) (2 ^ 32) +ℤ pos (a .radius)
 
-pub evaluation-former : (a : Model) (p : ℤ) → a .interval ≡ standardInterval
-    → evaluation a p ≡ outcome (formerPlace a ∷ (ltb scale (natAbs p), 4) ∷ []) (record { low = formerLow a p; high = formerHigh a p }) zeroBounds
+abbrev pub formerEvaluation : Model → ℤ → Outcome Bounds
+formerEvaluation a p =
+    outcome (formerPlace a ∷ (ltb scale (natAbs p), 4) ∷ []) (record { low = formerLow a p; high = formerHigh a p }) zeroBounds
+
+pub evaluation-former : (a : Model) (p : ℤ) → a .interval ≡ standardInterval → evaluation a p ≡ formerEvaluation a p
 unfolding evaluation lowBound highBound growth formerLow formerHigh
 evaluation-former a p on =
-    place-former a on ((not (contains (a .interval) p), 4) ∷ []) _ zeroBounds
+    place-former (same-refusal ((not (contains (a .interval) p), 4) ∷ [])) a on .outcomes Bounds _ zeroBounds
     ∙ rw (on, contains-former p, mapped-former p, exact-former p, plain (pointError 0 (terms a)))
   where
     plain : (n : ℕ) → n + 0 ≡ n
     plain n = omega arith
+
+-- ---- areas
+
+-- "35 numbers …: degree, coefficients, radius"
+abbrev pub formerWords : Model → List ℤ
+formerWords m = pos (m .degree) ∷ (m .coefficients ++ (pos (m .radius) ∷ []))
+
+-- behind them the two ends
+pub words-ends : (m : Model) → words m ≡ formerWords m ++ (m .interval .lower ∷ m .interval .upper ∷ [])
+words-ends m =
+    ap (λ x. pos (m .degree) ∷ x) (sym (append-assoc (m .coefficients) (pos (m .radius) ∷ []) (m .interval .lower ∷ m .interval .upper ∷ [])))
+
+pub words-former : (m : Model) → m .interval ≡ standardInterval → words m ≡ formerWords m ++ (negℤ (pos scale) ∷ pos scale ∷ [])
+words-former m on = words-ends m ∙ ap (λ (i : Interval). formerWords m ++ (i .lower ∷ i .upper ∷ [])) on
+
+-- the model in the first 35 numbers of an area
+abbrev pub formerAreaModel : List ℤ → Model
+formerAreaModel s =
+    standardModel (unsignedOf (getD s 0 (pos 0))) (take coefficientCount (drop 1 s)) (unsignedOf (getD s 34 (pos 0)))
+
+pub area-former : (s : List ℤ) → getD s 35 (pos 0) ≡ negℤ (pos scale) → getD s 36 (pos 0) ≡ pos scale → areaModel s ≡ formerAreaModel s
+area-former s l u = rw (l, u)
