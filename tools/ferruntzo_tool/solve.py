@@ -11,18 +11,19 @@ from math import isqrt
 from pathlib import Path
 
 from . import candidates, exact, program
-from .arithmetic import Refused, add, model, multiply, near, up, weight
+from .arithmetic import Refused, add, model, multiply, near, tested, up, weight
 from .curve import BadCurve, read_curve
 from .exact import Series
 from .program import NotChecked
 from .reading import write_step
-from .tables import BY_NAME, LIMIT, MAX_DEGREE, S, in_micrometres
+from .tables import BY_NAME, LIMIT, MAX_DEGREE, S, STANDARD, Interval, in_micrometres, interval_text
 
 SHORTEST = 1 << 8               # parameters; a stretch is not cut below twice that
+MOST_CUTS = 12                  # of an own interval into halves, so that a limit out of reach ends as well
 PRECISION = 1 << 120            # of lengths in verify
 ROOTS = tuple(candidates.ROOT_ENDS)     # the commands for a root
 
-Stretch = namedtuple('Stretch', 'low high parts')       # parts: (low, high, x, y) in their own -1..1
+Stretch = namedtuple('Stretch', 'low high parts interval')      # parts: (low, high, x, y) in their own -1..1
 Solved = namedtuple('Solved', 'stretch job results loads scale bur sign')
 
 
@@ -42,7 +43,7 @@ def cut_out(run, low, high):
             a, b, d = end - start, start + end - piece.low - piece.high, piece.high - piece.low
             parts.append((start, end, exact.restricted(piece.x, a, b, d),
                           exact.restricted(piece.y, a, b, d)))
-    return Stretch(low, high, parts)
+    return Stretch(low, high, parts, Interval(low, high) if run[0].own else STANDARD)
 
 
 def halves(run, low, high):
@@ -50,7 +51,8 @@ def halves(run, low, high):
     joints = [piece.low for piece in run if low < piece.low < high]
     if joints:
         return min(joints, key=lambda at: abs(2 * at - low - high))
-    return (low + high) // 2 if high - low >= 2 * SHORTEST else None
+    shortest = max(run[-1].high - run[0].low >> MOST_CUTS, 1) if run[0].own else SHORTEST
+    return (low + high) // 2 if high - low >= 2 * shortest else None
 
 
 def derived(stretch, axis, scale, sign):
@@ -92,7 +94,7 @@ def covering(stretch, parts, degree):
         radius = max(radius, exact.distance(curve, own))
     if radius > LIMIT or weight(row) > LIMIT:
         raise Refused(2, 'the curve does not fit a load')
-    return model(row, radius)
+    return model(row, radius, interval=stretch.interval)
 
 
 def plain(stretch, axis):
@@ -128,7 +130,8 @@ class Job:
         return len(self.results) - 1
 
     def load(self, m):
-        return self._made('load', {'model': m, 'radius': m.radius}, m)
+        name = 'load' if m.interval == STANDARD else 'load_on'
+        return self._made(name, {'model': m, 'radius': m.radius, 'interval': m.interval}, m)
 
     def add(self, a, b, name='add'):
         sign = 1 if name == 'add' else -1
@@ -143,12 +146,12 @@ class Job:
 
     def quotient(self, f, g):
         h, w, numbers = candidates.quotient(self.results[f], self.results[g])
-        return self._made('quotient', {'f': f, 'g': g, 'h': h, 'w': w}, h._replace(radius=numbers['radius']))
+        return self._made('quotient', {'f': f, 'g': g, 'h': h, 'w': w}, tested(self.results[f], h, numbers))
 
     def root(self, f):
         h, w, numbers = candidates.root(self.results[f], self.roots)
         self.used.append(numbers['command'])
-        return self._made(numbers['command'], {'f': f, 'h': h, 'w': w}, h._replace(radius=numbers['radius']))
+        return self._made(numbers['command'], {'f': f, 'h': h, 'w': w}, tested(self.results[f], h, numbers))
 
     def ended(self):
         return bytes(self.bytes) + write_step(BY_NAME['end'], {})
@@ -159,12 +162,12 @@ class Job:
             f'accepted {len(self.results)}\n'
 
 
-def bur_load(bur):
+def bur_load(bur, interval=STANDARD):
     """The bur's radius in mm as a constant; its radius covers the rounding."""
     units = bur * S
     whole = near(units.numerator, units.denominator)
     missed = abs(units - whole)
-    return model([whole], up(missed.numerator, missed.denominator))
+    return model([whole], up(missed.numerator, missed.denominator), interval=interval)
 
 
 def add_loads(job, bur, loads, kept=MAX_DEGREE):
@@ -191,7 +194,7 @@ def add_stretch(job, bur, stretch, side, degree=None, scale=None, kept=MAX_DEGRE
 
 def solve_stretch(stretch, bur, side, degree=None, scale=None, kept=MAX_DEGREE, roots=ROOTS):
     job = Job(roots)
-    at = job.load(bur_load(bur))
+    at = job.load(bur_load(bur, stretch.interval))
     _, loads, scale = add_stretch(job, at, stretch, side, degree, scale, kept)
     return Solved(stretch, job, job.results, loads, scale, bur, 1 if side == 'left' else -1)
 
