@@ -4,7 +4,7 @@ import sys
 from itertools import zip_longest
 
 from . import arithmetic as ar
-from . import covered, misfit, misread, program
+from . import covered, misfit, misplaced, misread, program
 from .arithmetic import Refused
 from .program import NotChecked
 from .reading import Checked, blocks_of
@@ -153,7 +153,7 @@ def explanation(job, checked):
         for line in covered.cautions(job):
             yield 'CAUTION: ' + line + '.'
     lines = list(dict.fromkeys(([] if checked.accepted else misread.causes(job, checked))
-                               + misfit.causes(job, checked)))
+                               + misplaced.causes(job, checked) + misfit.causes(job, checked)))
     if lines:
         yield ''
         yield 'Likely mistakes (found by trying)'

@@ -7,20 +7,22 @@ what was cut, nothing estimated."""
 import re
 import sys
 from collections import namedtuple
+from fractions import Fraction
 from math import isqrt
 from pathlib import Path
 
-from . import candidates, exact, program
+from . import candidates, exact, misplaced, program
 from .arithmetic import Refused, add, model, multiply, near, tested, up, weight
 from .curve import BadCurve, read_curve
 from .exact import Series
 from .program import NotChecked
-from .reading import write_step
-from .tables import BY_NAME, LIMIT, MAX_DEGREE, S, STANDARD, Interval, in_micrometres, interval_text
+from .reading import split, write_step
+from .tables import BY_NAME, LIMIT, MAX_DEGREE, S, STANDARD, Interval, argument, in_micrometres, is_load
 
 SHORTEST = 1 << 8               # parameters; a stretch is not cut below twice that
 MOST_CUTS = 12                  # of an own interval into halves, so that a limit out of reach ends as well
 PRECISION = 1 << 120            # of lengths in verify
+SAVING_POINTS = 64              # of a stretch, less one, at which rescaled points are looked at
 ROOTS = tuple(candidates.ROOT_ENDS)     # the commands for a root
 
 Stretch = namedtuple('Stretch', 'low high parts interval')      # parts: (low, high, x, y) in their own -1..1
@@ -233,6 +235,44 @@ def verified(solved, count, results=(-2, -1)):
     return max(sample_error(solved, 2 * i - count, count, results) for i in range(count + 1))
 
 
+# ---- What an own interval saves ----
+
+def rescaled(job):
+    """The job with every load by 0x10: the same curves, rescaled to -S..S."""
+    return b''.join(write_step(BY_NAME['load'] if is_load(step) else step.command, step.values)
+                    for step in split(job)[0])
+
+
+def point_error(solved, p, results=(-2, -1)):
+    """How far the centre's two curves move, in units, if the point p of the interval is rescaled and rounded to a unit."""
+    low, high = solved.stretch.interval
+    top, bottom = 2 * p - low - high, high - low
+    rounded = near(S * top, bottom)
+    rows = [exact.Series(m.coefficients[:m.degree + 1], 1) for m in (solved.results[i] for i in results)]
+    return max(abs(Fraction(*exact.value(row, top, bottom)) - Fraction(*exact.value(row, rounded, S))) for row in rows)
+
+
+def largest_point_error(solved, count=SAVING_POINTS):
+    """The largest of them at `count` + 1 whole points of the interval."""
+    low, high = solved.stretch.interval
+    return max(point_error(solved, low + (high - low) * i // count) for i in range(count + 1))
+
+
+def saving(stretches, checker, name):
+    """What loads by 0x14 save, measured on the stretches: lines to print."""
+    for i, solved in enumerate(stretches):
+        if program.run(checker, rescaled(solved.job.ended()), f'{name}: stretch {i}, rescaled').text != solved.job.text():
+            raise NotChecked(f'{name}: stretch {i} has other radii when rescaled; this must not happen, please report it')
+    for interval in (solved.stretch.interval for solved in stretches):
+        yield from (f'CAUTION: {line}.' for line in misplaced.small_interval(interval))
+    moved = max(map(largest_point_error, stretches))
+    yield ('On their own intervals (loads by 0x14): rescaled to -1..1 (by 0x10) the stretches have the same radii, and their '
+           'ends would have to be kept beside the jobs.')
+    yield (f'Rescaled, a point of the interval is rounded to 2^-20 of half the stretch: at {SAVING_POINTS + 1} points of '
+           f'each that moves the path by up to {float(moved):.3f} units ({in_micrometres(moved)}), which no radius covers; '
+           'ferruntzo_evaluate takes the point itself, and its bounds cover it.')
+
+
 # ---- A whole margin ----
 
 def refine(run, low, high, make, limit):
@@ -273,6 +313,9 @@ def solve(curve, bur, side, options):
             yield from refine(run, run[0].low, run[-1].high, make, options.limit_um)
         else:
             ends = uniform(run, options.stretches)
+            if len(set(ends)) < len(ends):
+                raise Unsolvable(f'the interval from {ends[0]} to {ends[-1]} has fewer units than {options.stretches} '
+                                 'stretches; are its ends in units?')
             for low, high in zip(ends, ends[1:]):
                 yield from refine(run, low, high, make, None)
 
@@ -286,6 +329,8 @@ def row(i, solved, error):
     radii = f'{loads[0].radius}, {loads[1].radius}, {max(m.radius for m in loads[2:])}'
     root, = (f'0x{BY_NAME[name].byte:02x}' for name in solved.job.used)
     told = '' if error is None else f'   largest error against the margin {error:.3f} units'
+    if solved.stretch.interval != STANDARD:
+        told += f'   x from {argument(solved.stretch.low)} to {argument(solved.stretch.high)}'
     return (f'{i:>7}  {degrees:<12} {solved.scale:>5}  {radii:<24}  {root} {worst:>15,} '
             f'{in_micrometres(worst)[:-3]:>12}' + told)
 
@@ -313,13 +358,14 @@ def main(options):
                            '--bur-mm')
         checker = program.find(options.jobcheck)
         print(HEAD)
-        worst, jobs = 0, []
+        worst, jobs, own = 0, [], []
         for solved in solve(curve, bur, options.side or curve.side or 'left', options):
             job, name = solved.job.ended(), f'{options.curve}: stretch {len(jobs)}'
             answer = program.run(checker, job, name)
             if answer.text != solved.job.text():
                 raise NotChecked(f'{name}: jobcheck does not print what was solved for; is it the '
-                                 'program of this version? (--only-0x21 makes jobs for those older than 3.2.0)')
+                                 'program of this version? (--only-0x21 makes jobs for those older than 3.2.0; an own '
+                                 'interval needs 4.0.0)')
             error = verified(solved, options.verify) if options.verify else None
             if error is not None and error > final(solved):
                 raise NotChecked(f'{name}: the error against the margin, {error:.3f} units, is above '
@@ -327,6 +373,9 @@ def main(options):
             print(row(len(jobs), solved, error), flush=True)
             worst = max(worst, final(solved))
             jobs.append(job)
+            if solved.stretch.interval != STANDARD:
+                own.append(solved)
+        told = list(saving(own, checker, options.curve)) if own else []
         # Only now: a curve that cannot be solved to its end leaves the folder as it was.
         if options.output:
             write_jobs(Path(options.output), Path(options.curve).stem or 'job', jobs)
@@ -338,6 +387,8 @@ def main(options):
         return 2
     print(f'{len(jobs)} stretch{"es" if len(jobs) > 1 else ""}, accepted by jobcheck; largest radius {worst:,} '
           f'unit{"" if worst == 1 else "s"} = {in_micrometres(worst)}, against the margin itself.')
+    for line in told:
+        print(line)
     if options.limit_um is not None and worst * 1000 > options.limit_um * S:
         print(f'BEYOND the limit of {options.limit_text} µm: take more stretches or a higher degree.')
         return 1
