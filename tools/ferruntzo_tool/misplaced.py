@@ -82,13 +82,14 @@ def edits(job, checked):
     if checked.refusal != 19:
         return
     standard = [step.number for _, step in makers if 'interval' not in step.values]
-    for interval in sorted(set(named_intervals(checked))):
+    # Curves on -S..S by mistake are more likely than curves elsewhere by mistake.
+    for interval in sorted(set(named_intervals(checked)), key=lambda interval: interval == STANDARD):
         for scope, chosen, load in named:
             by = 'is by 0x14 with other ends' if 'interval' in load.values else 'is by 0x10, so on -S..S'
             if interval != STANDARD or 'interval' in load.values:
-                yield f'{scope} {by}; it belongs on {interval_text(interval)}', moved_to(chosen, interval)
+                yield f'{scope} {by}; on {interval_text(interval)} the job goes on', moved_to(chosen, interval)
         if len(standard) > 1 and interval != STANDARD:
-            yield (f'every load by 0x10 is on -S..S; here they belong on {interval_text(interval)}, by 0x14',
+            yield (f'every load by 0x10 is on -S..S; on {interval_text(interval)}, by 0x14, the job goes on',
                    moved_to(standard, interval))
 
 
