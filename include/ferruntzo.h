@@ -102,10 +102,10 @@ extern "C" {
 
 /* ---- Version ---- */
 
-#define FERRUNTZO_VERSION_MAJOR 3
-#define FERRUNTZO_VERSION_MINOR 2
+#define FERRUNTZO_VERSION_MAJOR 4
+#define FERRUNTZO_VERSION_MINOR 0
 #define FERRUNTZO_VERSION_PATCH 0
-#define FERRUNTZO_VERSION "3.2.0"
+#define FERRUNTZO_VERSION "4.0.0"
 
 /* ---- Limits ---- */
 
@@ -140,6 +140,8 @@ extern "C" {
 #define FERRUNTZO_PLACE_DEGREE 0
 #define FERRUNTZO_PLACE_COEFFICIENTS 1  /* of a_0; a_k stands at 1 + k */
 #define FERRUNTZO_PLACE_RADIUS 34
+#define FERRUNTZO_PLACE_LOWER 35        /* l */
+#define FERRUNTZO_PLACE_UPPER 36        /* u */
 #define FERRUNTZO_COEFFICIENTS 33       /* how many there are */
 
 /* A kept degree of a product that leaves the choice open: 32. */
