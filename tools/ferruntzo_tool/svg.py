@@ -51,7 +51,8 @@ class Frame:
         for v, text in self.below():
             x = self.x(v)
             yield f'<line class="grid" x1="{x:.1f}" x2="{x:.1f}" y1="{TOP}" y2="{floor_y}"/>'
-            yield f'<text class="below" x="{x:.1f}" y="{floor_y + 14}">{text}</text>'
+            # A long number at the right end keeps within the drawing.
+            yield f'<text class="below" x="{min(x, WIDTH - 3 * len(text)):.1f}" y="{floor_y + 14}">{text}</text>'
         yield f'<text class="below" x="{(LEFT + right) / 2:.0f}" y="{self.height - 3}">{escape(x_name)}</text>'
         yield (f'<text class="below" transform="translate(12 {(TOP + floor_y) / 2:.0f}) rotate(-90)">'
                f'{escape(y_name)}</text>')
@@ -59,9 +60,10 @@ class Frame:
     def below(self):
         """Numbers below the frame, as many as stand beside one another."""
         found = []
-        for wanted in (6, 4, 3, 2):
+        for wanted in (6, 4, 3, 2, 1):
             found = list(ticks(self.x_low, self.x_high, wanted))
-            if sum(LETTER * len(text) for _, text in found) <= WIDTH - LEFT - RIGHT:
+            room = LETTER * max((len(text) for _, text in found), default=0)
+            if all(self.x(v) - self.x(u) >= room for (u, _), (v, _) in zip(found, found[1:])):
                 break
         return found
 
