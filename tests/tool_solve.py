@@ -20,6 +20,7 @@ ROOT = Path(__file__).resolve().parent.parent
 sys.path.insert(0, str(ROOT / 'tools'))
 
 import oracle                                                           # noqa: E402
+import tool_intervals                                                   # noqa: E402
 from ferruntzo_tool import arithmetic as ar                             # noqa: E402
 from ferruntzo_tool import covered, exact                               # noqa: E402
 from ferruntzo_tool import solve as solver                              # noqa: E402
@@ -356,6 +357,7 @@ def main():
         random_margins(rng, 14, Path(name), options.margins)
         mirrored_margins(rng, Path(name), options.margins // 2)
         cautions(rng, 14, Path(name), options.margins // 2)
+        tool_intervals.curves(expect, run, Path(name), Random(options.seed), random_series, 14, Options, options.margins)
         commands(run, Path(name))
         written(run, Path(name))
     print(f'solve: {len(wrong)} wrong')

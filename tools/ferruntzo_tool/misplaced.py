@@ -37,7 +37,6 @@ CHANGES = [
      lambda radius, ends: (radius, struct.unpack('<2i', struct.pack('>2i', *ends)))),
     ('has its ends in seconds or millimetres; they must be in units, 2^20 times that',
      lambda radius, ends: (radius, [end * S for end in ends])),
-    ('has its ends multiplied by 2^20 twice', lambda radius, ends: (radius, [round(end / S) for end in ends])),
     ('has 32-bit floating-point numbers as its ends; they must be whole numbers of units', float_ends),
     ("has the sign of its ends in the highest bit; they must be in two's complement",
      lambda radius, ends: (radius, [-(end + (1 << 31)) if end < 0 else end for end in ends])),
@@ -110,5 +109,6 @@ def causes(job, checked):
         one, two = named_intervals(checked)
         apart = max(abs(u - v) for u, v in zip(one, two))
         if apart <= SMALL_ENDS:
-            lines.append(f'the two intervals differ by only {apart} units at an end: were their ends rounded differently?')
+            lines.append(f'the two intervals differ by only {apart} unit{"s" if apart > 1 else ""} at an end: were their ends '
+                         'rounded differently?')
     return lines

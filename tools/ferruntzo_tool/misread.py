@@ -19,7 +19,6 @@ LAYOUTS = [
     ('the coefficients have 2 bytes each; they have 4', 'block', lambda job, at: 1 + 2 * 33),
     ('the ends of each load by 0x14 are missing (4 bytes each, behind the radius)', 'interval', lambda job, at: 0),
     ('the ends of each load by 0x14 have 8 bytes each; they have 4', 'interval', lambda job, at: 16),
-    ('each load by 0x14 has one end; it has two', 'interval', lambda job, at: 4),
 ]
 
 
