@@ -23,7 +23,7 @@ from ferruntzo_tool import solve as solver                              # noqa: 
 from ferruntzo_tool.arithmetic import Refused, model, up                # noqa: E402
 from ferruntzo_tool.curve import read_curve                             # noqa: E402
 from ferruntzo_tool.reading import Checked, split                       # noqa: E402
-from ferruntzo_tool.tables import BY_NAME, MAX_DEGREE, S, is_root       # noqa: E402
+from ferruntzo_tool.tables import BY_NAME, MAX_DEGREE, S, Interval, is_root     # noqa: E402
 
 NAMED = [word for word in sys.argv[1:] if not word.startswith('--')]
 USUAL = 'machine_time.json' if '--intervals' in sys.argv else 'margin.json'
@@ -229,9 +229,22 @@ def intervals():
               f'± {max(other for _, other in bounds):.1f} | {float(moved):.1f} |')
 
 
+def extents():
+    """The integral of the same coefficients on intervals of other extents."""
+    first = plain(next(stretches(1))).results[8]
+    rows = [(k, *integral_radii(first._replace(interval=Interval(0, S << k if k > 0 else S >> -k)))) for k in range(-5, 6, 2)]
+    print(f'| extent over S, of result 8 with degree {first.degree}, radius {first.radius} | integral on the interval | rescaled, '
+          'times half the extent |')
+    print('|-|-|-|')
+    for k, own, other in rows:
+        print(f'| 2^{k} | {own} | {other} |')
+
+
 def main():
     if '--intervals' in sys.argv:
-        return intervals()
+        intervals()
+        print()
+        return extents()
     if '--roots' in sys.argv:
         roots_of_examples()
         print()
