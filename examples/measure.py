@@ -18,7 +18,7 @@ HERE = Path(__file__).resolve().parent
 sys.path[:0] = [str(HERE.parent / 'tests'), str(HERE.parent / 'tools')]
 
 import oracle as o                                                      # noqa: E402
-from ferruntzo_tool import candidates, covered, exact                   # noqa: E402
+from ferruntzo_tool import candidates, covered, exact, saving           # noqa: E402
 from ferruntzo_tool import solve as solver                              # noqa: E402
 from ferruntzo_tool.arithmetic import Refused, model, up                # noqa: E402
 from ferruntzo_tool.curve import read_curve                             # noqa: E402
@@ -207,7 +207,7 @@ def evaluations(m):
     """At whole points of the interval: the largest half width of the bounds there, and at the rescaled points, rounded."""
     own, standard = on_interval(m)
     extent = own.upper - own.lower
-    points = [own.lower + extent * i // solver.SAVING_POINTS for i in range(solver.SAVING_POINTS + 1)]
+    points = [own.lower + extent * i // saving.POINTS for i in range(saving.POINTS + 1)]
     mapped = [o.near(S * (2 * p - own.lower - own.upper), extent) for p in points]
     return (max(half_width(o.evaluate(own, p)) for p in points),
             max(half_width(o.evaluate(standard, p)) for p in mapped))
@@ -220,10 +220,10 @@ def intervals():
     print('|-|-|-|-|-|-|-|-|')
     for n in (1, 2, 4, 8, 16):
         solved = [plain(s) for s in stretches(n)]
-        former = [Checked(solver.rescaled(one.job.ended())) for one in solved]
+        former = [Checked(saving.rescaled(one.job.ended())) for one in solved]
         integrals = [integral_radii(one.results[8]) for one in solved]
         bounds = [evaluations(m) for one in solved for m in one.results[-2:]]
-        moved = max(map(solver.largest_point_error, solved))
+        moved = max(map(saving.largest_point_error, solved))
         print(f'| {len(solved)} | {path(solved)} | {max(map(largest_end, former))} | {max(own for own, _ in integrals)} | '
               f'{max(other for _, other in integrals)} | ± {max(own for own, _ in bounds):.1f} | '
               f'± {max(other for _, other in bounds):.1f} | {float(moved):.1f} |')

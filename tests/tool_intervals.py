@@ -15,7 +15,7 @@ sys.path.insert(0, str(ROOT / 'tools'))
 
 import oracle as o                                                      # noqa: E402
 from cases import on, random_interval                                   # noqa: E402
-from ferruntzo_tool import explain, program                             # noqa: E402
+from ferruntzo_tool import explain, program, saving                     # noqa: E402
 from ferruntzo_tool import solve as solver                              # noqa: E402
 from ferruntzo_tool.curve import read_curve                             # noqa: E402
 from ferruntzo_tool.reading import Checked, split                       # noqa: E402
@@ -188,7 +188,7 @@ def solved_curves(expect, folder, rng, given, samples, options):
     whole = solver.solve_stretch(solver.cut_out(run, *pair), curve.bur, curve.side)
     former = solver.solve_stretch(solver.cut_out(plain.runs[0], 0, plain.runs[0][0].high), curve.bur, curve.side)
     standard = pair == tuple(STANDARD)
-    expect('rescaled, the job is the former one', solver.rescaled(whole.job.ended()) == former.job.ended()
+    expect('rescaled, the job is the former one', saving.rescaled(whole.job.ended()) == former.job.ended()
            and (whole.job.ended() == former.job.ended()) == standard, str(pair))
     expect('and its lines are the same', whole.job.text() == former.job.text())
     found = list(solver.solve(curve, curve.bur, curve.side, options))
@@ -204,9 +204,9 @@ def solved_curves(expect, folder, rng, given, samples, options):
                and {o.interval(m) for m in o.check_job(job)[2]} == {ends}, str(ends))
         expect('the radius on an interval', solver.verified(one, samples) <= solver.final(one), str(ends))
         p = rng.randint(*ends)
-        expect('a rescaled point', solver.point_error(one, p) == moved(one, p), f'{ends} {p}')
+        expect('a rescaled point', saving.point_error(one, p) == moved(one, p), f'{ends} {p}')
         extent = ends[1] - ends[0]
-        expect('a power of two maps exactly', extent & extent - 1 or extent > 2 * S or not solver.largest_point_error(one))
+        expect('a power of two maps exactly', extent & extent - 1 or extent > 2 * S or not saving.largest_point_error(one))
     return len(found)
 
 
@@ -230,13 +230,14 @@ def curves(expect, run, folder, rng, draw, samples, options, count):
     example, out = ROOT / 'examples/machine_time.json', folder / 'on_time'
     done = run('solve', example, '-o', out, '--verify', '10')
     expect('machine time', done.returncode == 0 and all(text in done.stdout for text in (
-        'x from 12.5 to 15.80000019\n', 'x from 15.80000019 to 19\n', 'have the same radii', 'moves the path by up to 1.971 units '
+        'x from 12.5 to 15.80000019\n', 'x from 15.80000019 to 19\n', 'have the same radii', 'moves the path by up to 1.972 units '
         '(0.00188 µm), which no radius covers')), done.stdout + done.stderr)
     expect('the job of machine time is the example', (out / 'machine_time_0000.job').read_bytes()
            == (ROOT / 'examples/machine_time.job').read_bytes())
     given = {'bur_mm': 0.3, 'series_mm': [{'x': [0, 1], 'y': [0, 0, 0.1]}]}
     path = folder / 'own.json'
     for pair, status, wanted in (
+            ([0, 2 * S], 0, 'a point of the interval would need no rounding at 65 points'),
             ([0, 8], 0, 'CAUTION: the interval 0 to 8 (x from 0 to 7.629394531e-06) is very short'), ([0, 1], 0, '1 stretch,'),
             ([-LIMIT, LIMIT], 0, 'x from -256 to 256'), ([0, LIMIT + 1], 2, 'upper end 268,435,457 is outside'),
             ([5, 5], 2, 'lower end 5 is not below'), ([8, 0], 2, 'lower end 8 is not below'),

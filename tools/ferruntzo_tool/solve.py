@@ -7,22 +7,20 @@ what was cut, nothing estimated."""
 import re
 import sys
 from collections import namedtuple
-from fractions import Fraction
 from math import isqrt
 from pathlib import Path
 
-from . import candidates, exact, misplaced, program
+from . import candidates, exact, program, saving
 from .arithmetic import Refused, add, model, multiply, near, tested, up, weight
 from .curve import BadCurve, read_curve
 from .exact import Series
 from .program import NotChecked
-from .reading import split, write_step
-from .tables import BY_NAME, LIMIT, MAX_DEGREE, S, STANDARD, Interval, argument, in_micrometres, is_load
+from .reading import write_step
+from .tables import BY_NAME, LIMIT, MAX_DEGREE, S, STANDARD, Interval, argument, in_micrometres
 
 SHORTEST = 1 << 8               # parameters; a stretch is not cut below twice that
 MOST_CUTS = 12                  # of an own interval into halves, so that a limit out of reach ends as well
 PRECISION = 1 << 120            # of lengths in verify
-SAVING_POINTS = 64              # of a stretch, less one, at which rescaled points are looked at
 ROOTS = tuple(candidates.ROOT_ENDS)     # the commands for a root
 
 Stretch = namedtuple('Stretch', 'low high parts interval')      # parts: (low, high, x, y) in their own -1..1
@@ -235,44 +233,6 @@ def verified(solved, count, results=(-2, -1)):
     return max(sample_error(solved, 2 * i - count, count, results) for i in range(count + 1))
 
 
-# ---- What an own interval saves ----
-
-def rescaled(job):
-    """The job with every load by 0x10: the same curves, rescaled to -S..S."""
-    return b''.join(write_step(BY_NAME['load'] if is_load(step) else step.command, step.values)
-                    for step in split(job)[0])
-
-
-def point_error(solved, p, results=(-2, -1)):
-    """How far the centre's two curves move, in units, if the point p of the interval is rescaled and rounded to a unit."""
-    low, high = solved.stretch.interval
-    top, bottom = 2 * p - low - high, high - low
-    rounded = near(S * top, bottom)
-    rows = [exact.Series(m.coefficients[:m.degree + 1], 1) for m in (solved.results[i] for i in results)]
-    return max(abs(Fraction(*exact.value(row, top, bottom)) - Fraction(*exact.value(row, rounded, S))) for row in rows)
-
-
-def largest_point_error(solved, count=SAVING_POINTS):
-    """The largest of them at `count` + 1 whole points of the interval."""
-    low, high = solved.stretch.interval
-    return max(point_error(solved, low + (high - low) * i // count) for i in range(count + 1))
-
-
-def saving(stretches, checker, name):
-    """What loads by 0x14 save, measured on the stretches: lines to print."""
-    for i, solved in enumerate(stretches):
-        if program.run(checker, rescaled(solved.job.ended()), f'{name}: stretch {i}, rescaled').text != solved.job.text():
-            raise NotChecked(f'{name}: stretch {i} has other radii when rescaled; this must not happen, please report it')
-    for interval in (solved.stretch.interval for solved in stretches):
-        yield from (f'CAUTION: {line}.' for line in misplaced.small_interval(interval))
-    moved = max(map(largest_point_error, stretches))
-    yield ('On their own intervals (loads by 0x14): rescaled to -1..1 (by 0x10) the stretches have the same radii, and their '
-           'ends would have to be kept beside the jobs.')
-    yield (f'Rescaled, a point of the interval is rounded to 2^-20 of half the stretch: at {SAVING_POINTS + 1} points of '
-           f'each that moves the path by up to {float(moved):.3f} units ({in_micrometres(moved)}), which no radius covers; '
-           'ferruntzo_evaluate takes the point itself, and its bounds cover it.')
-
-
 # ---- A whole margin ----
 
 def refine(run, low, high, make, limit):
@@ -375,7 +335,7 @@ def main(options):
             jobs.append(job)
             if solved.stretch.interval != STANDARD:
                 own.append(solved)
-        told = list(saving(own, checker, options.curve)) if own else []
+        told = list(saving.lines(own, checker, options.curve)) if own else []
         # Only now: a curve that cannot be solved to its end leaves the folder as it was.
         if options.output:
             write_jobs(Path(options.output), Path(options.curve).stem or 'job', jobs)
