@@ -124,7 +124,8 @@ def fixed_moved(entry):
 # ---- Points ------------------------------------------------------------------------------------------------------------------
 
 CURVES = (model([0, LIMIT]), term(2, LIMIT), term(MAX_DEGREE, LIMIT, 3), term(MAX_DEGREE - 1, -LIMIT),
-          model([S // 3] * (MAX_DEGREE + 1), LIMIT), model([5, -1, 7]), constant(LIMIT, 1), model([], 3, MAX_DEGREE))
+          model([S // 3] * (MAX_DEGREE + 1), LIMIT), model([(-1) ** k * (LIMIT // 33) for k in range(MAX_DEGREE + 1)]),
+          model([5, -1, 7]), constant(LIMIT, 1), model([], 3, MAX_DEGREE))
 
 
 def points(lower, upper):
@@ -153,7 +154,7 @@ def fixed_points():
         for p in points(lower, upper):
             yield Case('evaluate', (on(CURVES[0], lower, upper),), p)
     rng = Random(24)
-    for m in islice(cycle(CURVES[:5]), 300):
+    for m in islice(cycle(CURVES[:6]), 300):
         lower, upper, p = tied_point(rng)
         yield Case('evaluate', (on(m, lower, upper),), p)
 
