@@ -90,7 +90,8 @@ def check_intervals():
         wrong, worse = placed(lower, upper, [S]), placed(lower, upper, [S], 0, 33)
         assert o.add(wrong, one) == o.add(one, wrong) == o.add(wrong, constant(limit + 1)) == (18, zero)
         assert o.add(worse, one) == o.add(one, worse) == o.add(constant(limit + 1), wrong) == (2, zero)
-    assert all(o.add(placed(*ends, [S]), placed(*ends, [S])) == (0, placed(*ends, [2 * S])) for ends in ((-limit, 1 - limit), widest))
+    for ends in ((-limit, 1 - limit), (limit - 1, limit), widest):
+        assert o.add(placed(*ends, [S]), placed(*ends, [S])) == (0, placed(*ends, [2 * S]))
     assert o.integrate(o.add(constant(limit), one)[1]) == (18, zero)
     # 19: after every 2 and 18, before all else.
     assert o.add(one, other) == o.multiply(one, other, 33) == o.multiply(constant(limit), other, 0) == (19, zero)
@@ -121,7 +122,8 @@ def interval_jobs():
     yield start + four + b'\x00', '0 0 3\naccepted 1\n'
     yield start + four + loaded_on(-1, -5, 5) + b'\x11\x00\x00\x00', '0 0 3\n1 0 3\n2 0 6\naccepted 3\n'
     yield start + four + root + b'\x22' + root[1:] + b'\x00', '0 0 3\n1 0 2\n2 0 2\naccepted 3\n'         # N = 3, b = 1
-    yield start + four + quotient * 31 + b'\x00', '0 0 3\n' + ''.join(f'{i} 0 3\n' for i in range(1, 32)) + 'accepted 32\n'    # m = 1, b = 2
+    # m = 1, N = 6, b = 2
+    yield start + four + quotient * 31 + b'\x00', ''.join(f'{i} 0 3\n' for i in range(32)) + 'accepted 32\n'
     yield start + loaded_on(S, -S, S) + b'\x10' + block(S) + bytes(4) + b'\x12\x00\x01\x00', '0 0 3\n1 0 0\n2 0 3\naccepted 3\n'
     for ends in ((0, 0), (1, 0), (-(1 << 28) - 1, 0), (0, (1 << 28) + 1), (-1 << 31, (1 << 31) - 1)):
         yield start + four + loaded_on(S, *ends) + b'\x00', 'refused 18 2\n'

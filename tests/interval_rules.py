@@ -1,6 +1,6 @@
-"""Are the fixed cases of document 02's S-24 sharp?  One wrong rule at a time in the oracle must change the answers to so many of them.
+"""Are the fixed cases of document 02's S-24 sharp?  One wrong rule at a time in the oracle must change the answers to some of them.
 
-interval_rules.py [part of a rule's name]
+  interval_rules.py [part of a rule's name]
 """
 
 import sys
@@ -14,8 +14,8 @@ import oracle as o
 import proposal_oracle as p
 from area_cases import AREAS, area_cases
 from cases import LOWEST, on
-from header import (ACCEPTED, BAD_ENDS, BAD_MODEL, BAD_VALUE, BLOCK_BYTES, COEFFICIENTS, DEFAULT_KEPT, DIFFERENT_INTERVALS, MAX_DEGREE,
-                    MAX_END, MODEL_SIZE, POINT_OUTSIDE, PROPOSAL_SIZE, S)
+from header import (ACCEPTED, BAD_ENDS, BAD_MODEL, BAD_VALUE, BLOCK_BYTES, COEFFICIENTS, DEFAULT_KEPT, DIFFERENT_INTERVALS,
+                    MAX_DEGREE, MAX_END, MAX_RESULTS, MODEL_SIZE, PROPOSAL_SIZE, S)
 from interval_cases import MODELS, narrowed
 from oracle import STANDARD, Model
 
@@ -27,7 +27,7 @@ def lipschitz(a):
     return sum(abs(c) * k * k for k, c in enumerate(a.coefficients))
 
 
-# ---- Which models are good --------------------------------------------------------------------------------------------------------
+# ---- Which models are good ---------------------------------------------------------------------------------------------------
 
 def ends_first(m):
     return right_fault(m) if o.good_ends(m) else BAD_ENDS
@@ -82,7 +82,7 @@ GOOD = [
 ]
 
 
-# ---- What comes behind 19 ---------------------------------------------------------------------------------------------------------
+# ---- What comes behind 19 ----------------------------------------------------------------------------------------------------
 
 def behind(entry, refusals, module=o):
     """A rule by which 19 comes behind these refusals of an entry of two models."""
@@ -107,7 +107,7 @@ def models_first(f, g, proposal):
     return (number, 0) if number else right_test(f, g, proposal)
 
 
-# ---- Evaluation -------------------------------------------------------------------------------------------------------------------
+# ---- Evaluation --------------------------------------------------------------------------------------------------------------
 
 def mapped_by(rounded):
     """A rule for the mapped point: it rounds a fraction."""
@@ -151,7 +151,7 @@ EVALUATION = [
 ]
 
 
-# ---- Integration ------------------------------------------------------------------------------------------------------------------
+# ---- Integration -------------------------------------------------------------------------------------------------------------
 
 def rounded_before(a):
     """Scaled after rounding."""
@@ -190,7 +190,7 @@ INTEGRATION = [
 ]
 
 
-# ---- Jobs -------------------------------------------------------------------------------------------------------------------------
+# ---- Jobs --------------------------------------------------------------------------------------------------------------------
 
 def ends_by(rule):
     """A rule for the ends that 0x14 reads, from their place behind the radius."""
@@ -234,18 +234,18 @@ JOBS = [
 ]
 
 
-# ---- Areas ------------------------------------------------------------------------------------------------------------------------
+# ---- Areas -------------------------------------------------------------------------------------------------------------------
 
 def of_size(size):
     """The areas with so many numbers for a model, and 32 times as many for the results."""
-    sizes = {MODEL_SIZE: size, o.MAX_RESULTS * MODEL_SIZE: o.MAX_RESULTS * size}
+    sizes = {MODEL_SIZE: size, MAX_RESULTS * MODEL_SIZE: MAX_RESULTS * size}
     return {entry: tuple((code, sizes.get(old, old), what) for code, old, what in areas) for entry, areas in AREAS.items()}
 
 
 SIZES = [(f'{size} in place of {MODEL_SIZE}', 'AREAS', of_size(size)) for size in (35, 36, 38)]
 
 
-# ---- Cases and answers ------------------------------------------------------------------------------------------------------------
+# ---- Cases and answers -------------------------------------------------------------------------------------------------------
 
 def calls_of(entries):
     return [call for entry in entries for call in interval_cases.interval_cases(entry)]
@@ -280,7 +280,7 @@ GROUPS = [
     (o, lambda: calls_of(('quotient',)), answer, [(f'19 after {n} of a quotient', *behind('quotient', (n,))) for n in (5, 6, 3)]),
     (o, lambda: calls_of(('add',)), answer, [('19 after 3 of a sum', *behind('add', (3,)))]),
     (p, lambda: calls_of(('make_quotient',)), answer, [(f'19 after {n}', *behind('make_quotient', (n,), p)) for n in (15, 16)]),
-    (o, lambda: calls_of(('quotient_of_two',)), answer, [("a short proposal's 1 after 2, 18 and 19", 'proposal_test', models_first)]),
+    (o, lambda: calls_of(('quotient_of_two',)), answer, [('1 of a proposal after 2, 18 and 19', 'proposal_test', models_first)]),
     (o, lambda: calls_of(('evaluate',)), answer, EVALUATION),
     (o, lambda: calls_of(('integrate',)), answer, INTEGRATION),
     (o, lambda: list(interval_jobs.fixed_jobs()), answer, JOBS),
