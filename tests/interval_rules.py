@@ -1,4 +1,5 @@
-"""Are the fixed cases of document 02's S-24 sharp?  One wrong rule at a time in the oracle must change the answers to some of them.
+"""Are the fixed cases of document 02's S-24 sharp?  One wrong rule at a time in the oracle must change the answers to some of them;
+and the soundness checks must find those that make an answer too small, or put it on another interval.
 
   interval_rules.py [part of a rule's name]
 """
@@ -6,14 +7,16 @@
 import sys
 from contextlib import contextmanager
 from fractions import Fraction
+from random import Random
 
 import compare
 import interval_cases
 import interval_jobs
 import oracle as o
 import proposal_oracle as p
+import soundness
 from area_cases import AREAS, area_cases
-from cases import LOWEST, on
+from cases import LOWEST, Case, on
 from header import (ACCEPTED, BAD_ENDS, BAD_MODEL, BAD_VALUE, BLOCK_BYTES, COEFFICIENTS, DEFAULT_KEPT, DIFFERENT_INTERVALS,
                     MAX_DEGREE, MAX_END, MAX_RESULTS, MODEL_SIZE, PROPOSAL_SIZE, S)
 from interval_cases import MODELS, narrowed
@@ -273,6 +276,44 @@ def short_answer(call):
     return compare.answer_to(call, [told.get(i, size) for i, (_, size, _) in enumerate(AREAS[call.entry])])[0]
 
 
+VOUCHED = 'add', 'subtract', 'multiply', 'integrate', 'evaluate', 'quotient', 'root'
+# Wrong rules by which what was accepted does not hold.
+UNSOUND = [
+    ("not sound: a result's ends -S and S", 'result_ends', lambda operand: STANDARD),
+    ("not sound: a result's ends moved by one", 'result_ends', lambda operand: (operand.lower + 1, operand.upper + 1)),
+    ('not sound: position with the ends exchanged', 'position', lambda a, x: (2 * S * x - a.lower - a.upper) / (a.lower - a.upper)),
+    ('not sound: integral not scaled', 'half_extent', lambda a: (1, 1)),
+    ('not sound: integral from u/S', 'integral_constant', lambda a, terms: -sum(terms)),
+    ('not sound: radius with e', *radius_by(lambda e, extent: min(e, o.up(e * extent, S)))),
+    ('not sound: W not grown', *grown_by(lambda a: 0)),
+]
+UNSOUND_JOBS = [
+    ("not sound in a job: a result's ends -S and S", 'result_ends', lambda operand: STANDARD),
+    ("not sound in a job: a result's ends exchanged", 'result_ends', lambda operand: (operand.upper, operand.lower)),
+]
+
+
+def soundness_of(call):
+    """Whether a call, or a job, that is accepted is sound at a few fractions."""
+    case, rng = Case('check', (call,)) if isinstance(call, bytes) else call, Random(24)
+    found = answer(call)
+    try:
+        for _ in range(3 if is_accepted(found) else 0):
+            soundness.check(rng, case)
+        return found if isinstance(found, type) else 'sound'
+    except AssertionError as failure:
+        return type(failure)
+
+
+def is_accepted(found):
+    return not isinstance(found, type) and found[0] in (ACCEPTED, 'accepted')
+
+
+def accepted(calls):
+    """Every so many-th call that the oracle accepts."""
+    return [call for call in calls if is_accepted(answer(call))][::20]
+
+
 # Where the rule stands, the calls, how they are answered, the rules.
 GROUPS = [
     (o, few_calls, answer, GOOD),
@@ -284,6 +325,8 @@ GROUPS = [
     (o, lambda: calls_of(('evaluate',)), answer, EVALUATION),
     (o, lambda: calls_of(('integrate',)), answer, INTEGRATION),
     (o, lambda: list(interval_jobs.fixed_jobs()), answer, JOBS),
+    (o, lambda: accepted(calls_of(VOUCHED)), soundness_of, UNSOUND),
+    (o, lambda: accepted(interval_jobs.fixed_jobs()), soundness_of, UNSOUND_JOBS),
     (compare, lambda: [call for entry in AREAS for call in area_cases(entry)], short_answer, SIZES),
 ]
 

@@ -236,7 +236,7 @@ def kinds(drawn, lengths, number):
     found = [(entry, number), *((entry, f'{name} of {length}') for name, length in zip(sizes, lengths))]
     if number in (SHORT_AREA, BAD_MODEL, BAD_ENDS, DIFFERENT_INTERVALS):
         return found
-    found.append((entry, 'model', drawn.inputs))
+    found.append((entry, 'model', tuple((m.coefficients, m.radius) for m in drawn.inputs)))     # on whatever interval
     if g.coefficients[0] == 0:
         return [*found, (entry, '15, g_0 is zero')]
     made = p.made_reciprocal(g.coefficients)
