@@ -2,14 +2,15 @@
 (S-22), asserted against the oracle.  compare.py runs them before every comparison."""
 
 import oracle as o
+import power_basis
 from oracle import S, constant, model, power, term
 
 
 def check_tables():
     """The two conversions of the power basis undo each other for every T_k."""
-    for k in range(o.TOP + 1):
+    for k in range(power_basis.TOP + 1):
         unit = [0] * k + [1]
-        assert o.chebyshev_form(o.power_form(unit)) == [0] * k + [1 << o.SCALE]
+        assert o.chebyshev_form(power_basis.power_form(unit)) == [0] * k + [1 << o.SCALE]
 
 
 def check_ties():

@@ -4,11 +4,12 @@ gives the places of the altered ones in the batch, none if the batch has no answ
 from array import array
 
 from area_cases import ANSWERS, AREAS
-from header import PLACE_RADIUS, SCRATCH_SIZE, SHORT_AREA
+from header import PLACE_LOWER, PLACE_RADIUS, PLACE_UPPER, SCRATCH_SIZE, SHORT_AREA
 
-# Which numbers of an area are spoiled, each in an answer of its own: the radius, the high bound, m, the radius of the first
-# result; of a proposal the first value or coefficient, the change and the outcome.
-SPOILED = {'out': (PLACE_RADIUS,), 'work': (PLACE_RADIUS,), 'bounds': (1,), 'answer': (1,), 'numbers': (0,),
+# Which numbers of an area are spoiled, each in an answer of its own: the radius and the ends, of the first result in a job, the
+# high bound, m; of a proposal the first value or coefficient, the change and the outcome.
+MODEL_PLACES = PLACE_RADIUS, PLACE_LOWER, PLACE_UPPER
+SPOILED = {'out': MODEL_PLACES, 'work': MODEL_PLACES, 'bounds': (1,), 'answer': (1,), 'numbers': (0,),
            'record': (0, -1), 'h': (1,), 'w': (1,), 'units': (1,), 'outcome': (0,)}
 
 
