@@ -5,6 +5,7 @@
   compare.py --plant multiply           planted wrong answers must be found, one in each area answered in
   compare.py --plant quotient_of_two --exchange   so must the other proposal, chosen
   compare.py --plant root --cleared 17  so must a scratch of which 17 numbers are cleared
+  compare.py --plant add --former       so must a model that is written in 35 numbers
   compare.py --leave multiply           areas left as they were by refusal 1 must be found
 
 Exits with 0 when all answers agree, 1 when any answer differs, 2 when something
@@ -299,6 +300,8 @@ def plant_fault(options, batch, answers):
         return faults.leave(batch, answers, options.leave)
     if options.exchange:
         return faults.exchange(batch, answers)
+    if options.former:
+        return faults.former(batch, answers, options.plant)
     return faults.plant(batch, answers, options.plant) if options.plant else set()
 
 
@@ -312,6 +315,7 @@ def main():
     parser.add_argument('--plant', choices=ENTRIES, help='spoil answers of this entry')
     parser.add_argument('--exchange', action='store_true', help='with --plant quotient_of_two: the other proposal chosen')
     parser.add_argument('--cleared', type=int, help='with --plant: so many numbers of the scratch cleared, for 16')
+    parser.add_argument('--former', action='store_true', help='with --plant: a model written in 35 numbers')
     parser.add_argument('--leave', choices=ENTRIES, help='leave the areas of this entry on refusal 1')
     parser.add_argument('--link', default='', help='more flags for the compiler and linker, separated by blanks')
     parser.add_argument('--runner', default='', help='run the harness under this command')
@@ -324,6 +328,8 @@ def main():
         parser.error('the planted entry is not among the entries')
     if options.exchange and options.plant != 'quotient_of_two':
         parser.error('only the chosen proposal can be exchanged')
+    if options.former and options.plant not in faults.WITH_MODELS:
+        parser.error(f'--former goes with --plant of {",".join(faults.WITH_MODELS)}')
     if options.cleared is not None and options.plant not in scratch_cases.PLACES:
         parser.error(f'--cleared goes with --plant of {",".join(scratch_cases.PLACES)}')
     check_header()

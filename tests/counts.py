@@ -81,15 +81,16 @@ def check_proposals(made, units, entries, total):
 
 
 def check_intervals(calls, jobs, entries, total):
-    """The counts of calls with models on other intervals and of jobs with 0x14, in words: each kind, enough in the whole comparison."""
-    whole, on_intervals = set(entries) == set(ENTRIES), ''
+    """The counts of calls on other intervals and of jobs with 0x14, in words: each kind, enough in the whole comparison."""
+    whole, texts = set(entries) == set(ENTRIES), []
     if set(entries) & set(interval_cases.MODELS):
-        placed, on_intervals = interval_cases.counted(calls, entries)
-        enough = placed * WHOLE >= PLACED * min(total, WHOLE) and calls['sound'] * WHOLE >= SOUND_PLACED * min(total, WHOLE)
-        assert not whole or enough, f'{placed} calls on intervals, {calls["sound"]} checked for soundness'
-        yield f'intervals: {on_intervals}; checked for soundness: {calls["sound"]}'
+        texts.append(f'intervals: {interval_cases.counted(calls, entries)}; checked for soundness: {calls["sound"]}')
     if 'check' in entries:
-        enough = (jobs['jobs'] * WHOLE >= PLACED_JOBS * min(total, WHOLE)
-                  and jobs['checked for soundness'] * WHOLE >= SOUND_PLACED_JOBS * min(total, WHOLE))
-        assert not whole or enough, f'{jobs["jobs"]} jobs with 0x14, {jobs["checked for soundness"]} checked for soundness'
-        yield f'intervals in jobs: {interval_jobs.counted_jobs(jobs)}'
+        texts.append(f'intervals in jobs: {interval_jobs.counted_jobs(jobs)}')
+    for what, wanted, count in (
+            ('calls on other intervals', PLACED, calls['calls']),
+            ('such calls checked for soundness', SOUND_PLACED, calls['sound']),
+            ('jobs with 0x14', PLACED_JOBS, jobs['jobs']),
+            ('jobs with 0x14 checked for soundness', SOUND_PLACED_JOBS, jobs['checked for soundness'])):
+        assert not whole or count * WHOLE >= wanted * min(total, WHOLE), f'{count} {what}'
+    return texts

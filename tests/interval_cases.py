@@ -27,26 +27,28 @@ CANDIDATES = {entry: AREAS[entry].count(CANDIDATE_IN) for entry in MODELS}
 LEAST, GREATEST = -MAX_END, MAX_END
 EXTENTS = (1, 2, 3, S, 2 * S, 4 * S, MAX_END, 2 * MAX_END)
 INTERVALS = [
-    (0, 1), (GREATEST - 1, GREATEST), (LEAST, LEAST + 1), (-1, 0), (0, 2), (-1, 1), (6, 8), (0, 3), (-2, 1), (GREATEST - 3, GREATEST),
-    (0, S), (-S, 0), (0, 2 * S), (1 - S, 1 + S), (LEAST, LEAST + 2 * S), (GREATEST - 2 * S, GREATEST), (-2 * S, 2 * S), (S, 5 * S),
-    (-S, 2 * S), (-S - 1, S), (0, GREATEST), (LEAST, 0), (LEAST, GREATEST), (LEAST + 1, GREATEST), (LEAST, GREATEST - 1),
-    (7, 1000003), (-123456789, 98765432), (3 * S + 1, 3 * S + 12345),
+    (0, 1), (GREATEST - 1, GREATEST), (LEAST, LEAST + 1), (-1, 0), (0, 2), (-1, 1), (6, 8), (0, 3), (-2, 1),
+    (GREATEST - 3, GREATEST), (0, S), (-S, 0), (0, 2 * S), (1 - S, 1 + S), (LEAST, LEAST + 2 * S), (GREATEST - 2 * S, GREATEST),
+    (-2 * S, 2 * S), (S, 5 * S), (-S, 2 * S), (-S - 1, S), (0, GREATEST), (LEAST, 0), (LEAST, GREATEST),
+    (LEAST + 1, GREATEST), (LEAST, GREATEST - 1), (7, 1000003), (-123456789, 98765432), (3 * S + 1, 3 * S + 12345),
 ]
 WRONG_ENDS = [
     (0, 0), (S, S), (-S, -S), (LEAST, LEAST), (GREATEST, GREATEST), (1, 0), (S, -S), (GREATEST, LEAST), (2 * S, 0),
     (LEAST - 1, 0), (LEAST - 1, LEAST), (LEAST - 1, GREATEST), (0, GREATEST + 1), (GREATEST, GREATEST + 1), (LEAST, GREATEST + 1),
-    (LEAST - 1, GREATEST + 1), (LOWEST, HIGHEST), (HIGHEST, LOWEST), (LOWEST, 0), (0, HIGHEST), (LOWEST, LOWEST), (HIGHEST, HIGHEST),
-    (LOWEST, LOWEST + 1), (HIGHEST - 1, HIGHEST), (-1 << 29, 0), (0, 1 << 29), (GREATEST + 1, 0), (0, LEAST - 1),
+    (LEAST - 1, GREATEST + 1), (LOWEST, HIGHEST), (HIGHEST, LOWEST), (LOWEST, 0), (0, HIGHEST), (LOWEST, LOWEST),
+    (HIGHEST, HIGHEST), (LOWEST, LOWEST + 1), (HIGHEST - 1, HIGHEST), (-1 << 29, 0), (0, 1 << 29),
+    (GREATEST + 1, 0), (0, LEAST - 1),
 ]
 DIFFERENT = [
-    (STANDARD, (0, 2 * S)), (STANDARD, (1 - S, 1 + S)), ((0, 1), (1, 2)), ((LEAST, LEAST + 7), (GREATEST - 7, GREATEST)),   # one extent
-    (STANDARD, (-S, S + 1)), (STANDARD, (-S, 0)), ((LEAST, GREATEST), (LEAST, LEAST + 1)), ((0, 1), (0, 2)),                # one lower end
-    (STANDARD, (1 - S, S)), (STANDARD, (0, S)), ((LEAST, GREATEST), (GREATEST - 1, GREATEST)), ((-1, 0), (-2, 0)),          # one upper end
+    # The same extent, the same l, the same u, nothing.
+    (STANDARD, (0, 2 * S)), (STANDARD, (1 - S, 1 + S)), ((0, 1), (1, 2)), ((LEAST, LEAST + 7), (GREATEST - 7, GREATEST)),
+    (STANDARD, (-S, S + 1)), (STANDARD, (-S, 0)), ((LEAST, GREATEST), (LEAST, LEAST + 1)), ((0, 1), (0, 2)),
+    (STANDARD, (1 - S, S)), (STANDARD, (0, S)), ((LEAST, GREATEST), (GREATEST - 1, GREATEST)), ((-1, 0), (-2, 0)),
     (STANDARD, (0, 1)), ((LEAST, 0), (0, GREATEST)), ((-3, 5), (-5, 3)), (STANDARD, (-2 * S, 2 * S)),
 ]
 
 
-# ---- Calls on intervals -----------------------------------------------------------------------------------------------------
+# ---- Calls on intervals ------------------------------------------------------------------------------------------------------
 
 def moved_point(p, lower, upper):
     """The point of these ends that p is of -S and S; outside as far outside."""
@@ -124,7 +126,8 @@ def fixed_moved(entry):
 # ---- Points ------------------------------------------------------------------------------------------------------------------
 
 CURVES = (model([0, LIMIT]), term(2, LIMIT), term(MAX_DEGREE, LIMIT, 3), term(MAX_DEGREE - 1, -LIMIT),
-          model([S // 3] * (MAX_DEGREE + 1), LIMIT), model([5, -1, 7]), constant(LIMIT, 1), model([], 3, MAX_DEGREE))
+          model([S // 3] * (MAX_DEGREE + 1), LIMIT), model([(-1) ** k * (LIMIT // 33) for k in range(MAX_DEGREE + 1)]),
+          model([5, -1, 7]), constant(LIMIT, 1), model([], 3, MAX_DEGREE))
 
 
 def points(lower, upper):
@@ -153,12 +156,12 @@ def fixed_points():
         for p in points(lower, upper):
             yield Case('evaluate', (on(CURVES[0], lower, upper),), p)
     rng = Random(24)
-    for m in islice(cycle(CURVES[:5]), 300):
+    for m in islice(cycle(CURVES[:6]), 300):
         lower, upper, p = tied_point(rng)
         yield Case('evaluate', (on(m, lower, upper),), p)
 
 
-# ---- Integrals ----------------------------------------------------------------------------------------------------------------
+# ---- Integrals ---------------------------------------------------------------------------------------------------------------
 
 def wide_integrals():
     """On 2^29 units: coefficients that come back to small numbers in 32 bits, and up to 2^36."""
@@ -211,7 +214,7 @@ def interval_cases(entry):
     yield from OF_ENTRY.get(entry, tuple)()
 
 
-# ---- Random -----------------------------------------------------------------------------------------------------------------
+# ---- Random ------------------------------------------------------------------------------------------------------------------
 
 def beside(rng, lower, upper):
     """Other ends: both moved, one of them, the standard ones or any."""
@@ -247,7 +250,7 @@ def on_some_interval(rng, case):
     return case
 
 
-# ---- What the calls are ---------------------------------------------------------------------------------------------------------
+# ---- What the calls are ------------------------------------------------------------------------------------------------------
 
 def answer(case):
     """The oracle's number."""
@@ -307,13 +310,14 @@ def point_kinds(m, p, number):
 
 def integral_kinds(m, number):
     """What is said of an integral of a good model."""
-    largest = 0 if m.degree == MAX_DEGREE else max(map(abs, o.integral_terms(m)))
+    terms = [0] if m.degree == MAX_DEGREE else o.integral_terms(m)
+    largest, left = (max(map(abs, row)) for row in (terms, map(narrowed, terms)))
     if number == ACCEPTED:
         yield from ["'up' of the radius shows"] * (m.radius * (m.upper - m.lower) % S != 0)
         yield from ['e = 1 on an extent of 1'] * (m.radius == m.upper - m.lower == 1)
     elif m.degree < MAX_DEGREE:
         yield from ['3, a coefficient of 2^36'] * (largest == 1 << 36) + ['3, a coefficient beyond 32 bits'] * (largest >= 1 << 31)
-        yield from ['3, all back within 2^28 in 32 bits'] * (largest >= 1 << 31 and max(map(abs, map(narrowed, o.integral_terms(m)))) < 1 << 26)
+        yield from ['3, all within 2^26 in 32 bits'] * (largest >= 1 << 31 and left < 1 << 26)
         yield from ['3 by the radius'] * (largest < LIMIT // 80 and o.integral_radius(m) > LIMIT)
 
 
@@ -332,7 +336,7 @@ def kinds(case, lengths, number):
     if not is_placed(case) or any(lengths[i] < size for i, size in sized(case.entry)):
         return []
     models = case.inputs[:MODELS[case.entry]]
-    found = ['calls', number]
+    found = [number]
     good = all(map(o.good, models)) and o.same_interval(models[0], models[-1])
     if not good:
         found += refused_kinds(case, models, number)
@@ -344,14 +348,14 @@ def kinds(case, lengths, number):
         lower, upper = o.interval(models[0])
         found += [('extent', upper - lower)] * (upper - lower in EXTENTS)
         found += ['l = -2^28'] * (lower == LEAST) + ['u = 2^28'] * (upper == GREATEST)
-    return [(case.entry, kind) for kind in found]
+    return ['calls', *((case.entry, kind) for kind in found)]
 
 
 OWN = {
     'evaluate': ['mapped exactly', 'mapped inexactly', 'mapped by a tie', 'p = l', 'p = u', 'accepted beyond -S..S', '4, p = l - 1',
                  '4, p = u + 1', '4 within -S..S'],
-    'integrate': ["'up' of the radius shows", 'e = 1 on an extent of 1', '3, a coefficient of 2^36', '3, a coefficient beyond 32 bits',
-                  '3, all back within 2^28 in 32 bits', '3 by the radius'],
+    'integrate': ["'up' of the radius shows", 'e = 1 on an extent of 1', '3, a coefficient of 2^36',
+                  '3, a coefficient beyond 32 bits', '3, all within 2^26 in 32 bits', '3 by the radius'],
     'quotient_of_two': ['1 of a proposal before 2', '1 of a proposal before 18',
                         *(f'{number} of a candidate, different intervals' for number in (SHORT_AREA, BAD_MODEL))],
 }
@@ -376,15 +380,14 @@ def demanded(entry):
 
 
 def counted(found, entries):
-    """How many calls there are, and the counts in words; each kind must be there."""
+    """The counts in words; each kind must be there."""
     entries = [entry for entry in MODELS if entry in entries]
     missing = [(entry, kind) for entry in entries for kind in demanded(entry) if not found[entry, kind]]
     assert not missing, f'no call with an interval: {missing}'
-    calls = sum(found[entry, 'calls'] for entry in entries)
     rows, together = [], Counter()
     for entry in entries:
         numbers = ' '.join(f'{n}:{found[entry, n]}' for n in sorted(WITNESSES[entry]))
-        rows.append(f'{entry} {found[entry, "calls"]} (number:calls {numbers})')
+        rows.append(f'{entry} {sum(found[entry, n] for n in WITNESSES[entry])} (number:calls {numbers})')
         together.update({kind: found[entry, kind] for kind in demanded(entry) if not isinstance(kind, int)})
     rest = ', '.join(f'{kind if isinstance(kind, str) else " ".join(map(str, kind))}: {count}' for kind, count in together.items())
-    return calls, '\n  '.join([f'{calls} calls', ', '.join(rows), f'of all entries {rest}'])
+    return '\n  '.join([f'{found["calls"]} calls', ', '.join(rows), f'of all entries {rest}'])

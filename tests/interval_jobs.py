@@ -7,13 +7,12 @@ from itertools import product
 
 import jobs
 import oracle as o
-from candidates import root_candidates
 from cases import BORDER_MODELS, HIGHEST, LOWEST, on, random_interval, random_model
 from header import (ACCEPTED, BAD_ENDS, BAD_MODEL, BAD_VALUE, BYTES_AFTER_END, DIFFERENT_INTERVALS, JOB_ENDS, MAX_DEGREE,
                     MAX_JOB_BYTES, MAX_RESULTS, S, TOO_MANY_RESULTS)
-from interval_cases import (DIFFERENT, GREATEST, INTERVALS, LEAST, MODELS, STATES, WRONG_ENDS, beside, fixed_moved, fixed_orders,
+from interval_cases import (DIFFERENT, GREATEST, INTERVALS, LEAST, MODELS, WRONG_ENDS, beside, fixed_moved, fixed_orders,
                             fixed_placed)
-from oracle import LIMIT, LOAD_ON, STANDARD, constant, model
+from oracle import LIMIT, LOAD_ON, STANDARD, constant
 
 FOUR, TWO, ONE, QUARTER = constant(4 * S), constant(2 * S), constant(S), constant(S // 4)
 COMMANDS = ('add', 'subtract', 'multiply', 'quotient', 'root', 'tight_root')
@@ -22,7 +21,7 @@ SHIFTED = on(FOUR, 0, 2 * S)
 UNKNOWN = (0x0F, 0x15, 0x16, 0x1F)
 
 
-# ---- Fixed ----------------------------------------------------------------------------------------------------------------------
+# ---- Fixed -------------------------------------------------------------------------------------------------------------------
 
 def start(count, first=SHIFTED):
     """A job of so many results, the first of which is 4 on its interval."""
@@ -133,7 +132,7 @@ def fixed_jobs():
         yield jobs.EDITION_1 + bytes([byte]) + jobs.load_on(SHIFTED)[1:] + jobs.END
 
 
-# ---- Random -------------------------------------------------------------------------------------------------------------------------
+# ---- Random ------------------------------------------------------------------------------------------------------------------
 
 def faulty_load(rng):
     m = random_model(rng, rng.choice((S, 4 * S, None)))
@@ -160,7 +159,7 @@ def random_job(rng):
     return builder.prefix() + (tail[:rng.randrange(len(tail))] if kind < 0.6 else tail)
 
 
-# ---- What the jobs are ------------------------------------------------------------------------------------------------------------
+# ---- What the jobs are -------------------------------------------------------------------------------------------------------
 
 def job_kinds(job, number, command, results):
     """What is said of one job, which is accepted with these results, or refused at this command."""
@@ -178,7 +177,7 @@ def job_kinds(job, number, command, results):
         found += [('used by', byte, place) for place, name in enumerate(names) if name in loaded]
     if number == ACCEPTED:
         intervals = len(set(map(o.interval, results)))
-        found += ['accepted', f'{min(intervals, 2)} or more intervals' if intervals > 1 else '1 interval']
+        found += ['accepted', '2 or more intervals' if intervals > 1 else '1 interval']
         found += [f'{MAX_RESULTS} intervals'] * (intervals == MAX_RESULTS) + ['the longest'] * (len(job) == MAX_JOB_BYTES)
     found += ['11 behind 0x14'] * (number == BYTES_AFTER_END)
     if number == DIFFERENT_INTERVALS:
@@ -198,8 +197,8 @@ def job_kinds(job, number, command, results):
 
 
 JOBS_DEMANDED = [
-    'accepted', 'checked for soundness', '1 interval', '2 or more intervals', f'{MAX_RESULTS} intervals', 'the longest', 'beside 0x10',
-    '11 behind 0x14', '2 before 18', '18, l = u', '18, l > u', '18, l = -2^28 - 1', '18, u = 2^28 + 1',
+    'accepted', 'checked for soundness', '1 interval', '2 or more intervals', f'{MAX_RESULTS} intervals', 'the longest',
+    'beside 0x10', '11 behind 0x14', '2 before 18', '18, l = u', '18, l > u', '18, l = -2^28 - 1', '18, u = 2^28 + 1',
     '2 of a candidate, different intervals',
     *(f'{number} at 0x14' for number in (BAD_MODEL, BAD_ENDS, JOB_ENDS, TOO_MANY_RESULTS)),
     *(f'{number} in all' for number in (BAD_MODEL, BAD_VALUE, BAD_ENDS, DIFFERENT_INTERVALS)),
@@ -218,5 +217,5 @@ def counted_jobs(found):
     assert not missing, f'no job with 0x14: {missing}'
     rest = ', '.join(f'{kind}: {found[kind]}' for kind in JOBS_DEMANDED if isinstance(kind, str))
     used = ', '.join(f'{count} at 0x{kind[1]:02x}' for kind, count in found.items() if kind[0] == '19 at')
-    return (f'{found["jobs"]} jobs with 0x14; {rest}; 19: {used}; as each result, 18 at each command from 1 to {MAX_RESULTS}, 19 from 3 '
-            f'to {MAX_RESULTS}, cut off at every byte, its result used by every command, bytes 0x15 and others unknown')
+    return (f'{found["jobs"]} jobs with 0x14; {rest}; 19: {used}; as each result, 18 at each command from 1 to {MAX_RESULTS}, '
+            f'19 from 3 to {MAX_RESULTS}, cut off at every byte, its result used by every command, bytes 0x15 and others unknown')

@@ -211,6 +211,11 @@ def integral_terms(a):
     return row
 
 
+def integral_constant(a, terms):
+    """c_0 for these c_1 .. c_(n+1): the value at l/S, where T_k is taken at -1, is exactly 0."""
+    return -sum(c if k % 2 == 0 else -c for k, c in enumerate(terms, 1))
+
+
 def integral_radius(a):
     return up(a.radius * (a.upper - a.lower), S) + a.degree + 1
 
@@ -221,8 +226,8 @@ def integrate(a):
     if a.degree == MAX_DEGREE:
         return refused(LARGE_RESULT)
     terms = integral_terms(a)
-    row = [sum(c if k % 2 == 0 else -c for k, c in enumerate(terms)), *terms]
-    assert value_numerator(row, -1, 1) == 0         # at l/S
+    row = [integral_constant(a, terms), *terms]
+    assert value_numerator(row, -1, 1) == 0
     return finished(a.degree + 1, row, integral_radius(a), result_ends(a))
 
 
@@ -240,6 +245,11 @@ def mapped_point(a, p):
     return near(exact.numerator, exact.denominator), exact.denominator == 1
 
 
+def outside(a, p):
+    """What 4 is for."""
+    return not a.lower <= p <= a.upper
+
+
 def growth(a, exact):
     """By which W grows where the mapped point is not exact."""
     return 0 if exact else sum(abs(c) * k * k for k, c in enumerate(a.coefficients)) << 11
@@ -249,7 +259,7 @@ def evaluate(a, p):
     """Number, low, high."""
     if number := first_fault((a,)):
         return number, 0, 0
-    if not a.lower <= p <= a.upper:
+    if outside(a, p):
         return POINT_OUTSIDE, 0, 0
     mapped, exact = mapped_point(a, p)
     t = [1 << 30, mapped * ((1 << 30) // MAP_SCALE)]

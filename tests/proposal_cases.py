@@ -15,8 +15,8 @@ from cases import (BORDER_MODELS, Case, on, perhaps_spoiled, random_degree, rand
                    spread)
 from certificate_cases import divisor
 from header import (ACCEPTED, BAD_ENDS, BAD_MODEL, CANDIDATE_SIZE, COEFFICIENTS, DIFFERENT_INTERVALS, GIVEN_UP, LARGE_PROPOSAL,
-                    MAX_DEGREE, MODEL_SIZE, NOT_CONTRACTING, NOT_FINITE, OUTCOME_SIZE, QUOTIENT_RECORD_SIZE, RECIPROCAL_RECORD_SIZE, S, SETTLED,
-                    SHORT_AREA)
+                    MAX_DEGREE, MODEL_SIZE, NOT_CONTRACTING, NOT_FINITE, OUTCOME_SIZE, QUOTIENT_RECORD_SIZE,
+                    RECIPROCAL_RECORD_SIZE, S, SETTLED, SHORT_AREA)
 from oracle import LIMIT, Model, constant, model, term
 
 # What each entry writes, in the order of the oracle's answer.
@@ -236,7 +236,7 @@ def kinds(drawn, lengths, number):
     found = [(entry, number), *((entry, f'{name} of {length}') for name, length in zip(sizes, lengths))]
     if number in (SHORT_AREA, BAD_MODEL, BAD_ENDS, DIFFERENT_INTERVALS):
         return found
-    found.append((entry, 'model', drawn.inputs))
+    found.append((entry, 'model', tuple((m.coefficients, m.radius) for m in drawn.inputs)))     # on whatever interval
     if g.coefficients[0] == 0:
         return [*found, (entry, '15, g_0 is zero')]
     made = p.made_reciprocal(g.coefficients)

@@ -10,9 +10,10 @@ from math import isfinite
 from struct import pack, unpack
 from typing import NamedTuple
 
+import oracle as o
 from header import (ACCEPTED, COEFFICIENTS, GIVEN_UP, LARGE_PROPOSAL, MAX_DEGREE, MAX_WEIGHT, NOT_FINITE,
                     QUOTIENT_RECORD_SIZE, RECIPROCAL_RECORD_SIZE, S, SETTLED)
-from oracle import first_fault, weight
+from oracle import weight
 
 ROUNDS = 12
 SMALL = 2.0 ** -24          # a change of at most this has settled
@@ -116,7 +117,7 @@ def refused_reciprocal(number):
 
 def make_reciprocal(g):
     """Number, record, w in units, outcome, which is a list of one number."""
-    if number := first_fault((g,)):
+    if number := o.first_fault((g,)):
         return refused_reciprocal(number)
     made = made_reciprocal(g.coefficients) if g.coefficients[0] else None
     if made is None or made.outcome is None:
@@ -133,7 +134,7 @@ def refused_quotient(number):
 
 def make_quotient(f, g):
     """Number, record, h and w in units, outcome."""
-    if number := first_fault((f, g)):
+    if number := o.first_fault((f, g)):
         return refused_quotient(number)
     made = made_reciprocal(g.coefficients) if g.coefficients[0] else None
     if made is None or made.outcome is None:

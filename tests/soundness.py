@@ -14,7 +14,6 @@ from math import isqrt
 import oracle as o
 from header import S
 from jobs import read_commands
-from oracle import LIMIT
 
 FINE = 1 << 96              # boxes that may be wider are rounded out to 1/FINE
 ROOTS = (o.ROOT, o.TIGHT_ROOT)      # one rule of boxes for both
@@ -234,6 +233,7 @@ def next_box(rng, byte, operands, boxes, x):
 def soundness_job(rng, job, results):
     """Requirement 3 at one fraction of each interval that results have, for one choice of permitted boxes.
     Returns how many results had a box."""
+    assert all(map(o.good, results)), 'a result that is not good'
     points = {o.interval(m): random_point(rng, m) for m in results}
     boxes = []
     for (byte, operands), result in zip(commands_of(job), results, strict=True):
@@ -250,7 +250,6 @@ def soundness_job(rng, job, results):
             middle = value(result, x)
             assert max(box[0], middle - radius(result)) <= min(box[1], middle + radius(result)), \
                 'box and model do not overlap'
-        assert 0 <= result.radius <= LIMIT
     return sum(box is not None for box in boxes)
 
 

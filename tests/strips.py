@@ -14,13 +14,14 @@ from header import LARGE_RESULT, MAX_END, S
 from oracle import constant, model, term
 
 COUNTS = (1, 2, 3, 7, 64, 1000)
-# The integral of S T_1 has whole coefficients on the first five.
-INTERVALS = (o.STANDARD, (0, 4 * S), (-3 * S, 5 * S), (7 * S + 2, 8 * S - 2), (-MAX_END, MAX_END), (0, 1), (-S // 3, 5))
+# The integral of S T_1 has whole coefficients on the first.
+WHOLE = o.STANDARD, (0, 4 * S), (-3 * S, 5 * S), (7 * S + 2, 8 * S - 6), (-MAX_END, MAX_END)
+INTERVALS = *WHOLE, (0, 1), (-S // 3, 5)
 
 
 def attained():
     """S T_1 with radius 0 at x = u/S: the sum is the whole term below the polynomial."""
-    for lower, upper in INTERVALS[:5]:
+    for lower, upper in WHOLE:
         a = on(term(1, S), lower, upper)
         number, result = o.integrate(a)
         assert number == 0 and result.radius == 2
@@ -108,7 +109,7 @@ def main():
     for name, lost in (('radius with half of e', lambda a: a.radius * (a.upper - a.lower) // (2 * S)),
                        ('radius 2e on every interval', lambda a: a.radius * (a.upper - a.lower - 2 * S) // S)):
         assert found(lost), f'not found: {name}'
-    print(f'strips: the bound is attained on {len(INTERVALS[:5])} intervals with {COUNTS} strips; {len(WRONG) + 2} wrong rules found')
+    print(f'strips: the bound is attained on {len(WHOLE)} intervals with {COUNTS} strips; {len(WRONG) + 2} wrong rules found')
 
 
 if __name__ == '__main__':
