@@ -154,16 +154,16 @@ def pages(expect, run, folder):
                 expect('numbers below a drawing', len(numbers) > 1
                        and all(lower / S - 1e-9 <= float(word) <= upper / S + 1e-9 for _, word in numbers)
                        and 2 * (float(numbers[-1][1]) - float(numbers[0][1])) > (upper - lower) / S, f'{lower} {upper} {numbers}')
-                expect('room for the numbers', all(v - u >= 5 * len(word) for (u, word), (v, _) in zip(numbers, numbers[1:]))
+                expect('room for the numbers', all(v - u >= 7 * len(word) for (u, word), (v, _) in zip(numbers, numbers[1:]))
                        and all(3 * len(word) <= x <= 560 - 3 * len(word) for x, word in numbers), str(numbers))
         different = pairs[0] != pairs[1]
         expect('a path only on one interval', ('class="path"' in text) != different
                and ('are on different intervals' in text) == different, str(pairs))
     time = page_of(run, folder, (ROOT / 'examples/machine_time.job').read_bytes())[1]
     expect('the page of machine time', all(words in time for words in (
-        '>x = 12.5<', '>x = 15.80000019<', '<th scope="col">x from, to</th>', '<td>12.5, 15.80000019</td>')))
+        '>x = 12.5<', '>x = 15.80000019<', '<th scope="col">x</th>', '<td>12.5&#160;to&#160;15.80000019</td>')))
     plain = page_of(run, folder, (ROOT / 'examples/stretch.job').read_bytes())[1]
-    expect('no intervals on a standard page', 'x from, to' not in plain and '>x = -1<' in plain)
+    expect('no intervals on a standard page', '<th scope="col">x</th>' not in plain and '>x = -1<' in plain)
 
 
 # ---- Curves on their own interval ----

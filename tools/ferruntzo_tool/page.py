@@ -86,7 +86,7 @@ def table(checked, ends):
     # The interval is shown where it is not the same for all jobs.
     own = any(m.interval != STANDARD for m in checked.results)
     yield ('<div class="scroll"><table><thead><tr><th scope="col">result</th><th scope="col">made by</th>'
-           + ('<th scope="col">x from, to</th>' if own else '')
+           + ('<th scope="col">x</th>' if own else '')
            + '<th scope="col">degree</th><th scope="col">radius, units</th><th scope="col">radius, µm</th>'
            '<th scope="col">remark</th></tr></thead><tbody>')
     suspects = {i for i, m in covered.loads(checked.job) if covered.cut(m)}
@@ -94,13 +94,13 @@ def table(checked, ends):
         i, m = outcome.result, outcome.model
         if i is None:
             continue
-        words = explain.head(outcome).split(': ', 1)[1].split(' makes ')[0]
+        words = 'load' if is_load(outcome.step) else explain.head(outcome).split(': ', 1)[1].split(' makes ')[0]
         remarks = (['read this one'] if i in ends else []) + (['may have been cut'] if i in suspects else [])
         if is_load(outcome.step) and m.radius == 0:
             remarks.append('taken as exact')
         yield (f'<tr{" class=" + chr(34) + "end" + chr(34) if i in ends else ""}><td>{i}</td>'
                f'<td>{escape(words)}</td>'
-               + (f'<td>{argument(m.interval.lower)}, {argument(m.interval.upper)}</td>' if own else '')
+               + (f'<td>{argument(m.interval.lower)}&#160;to&#160;{argument(m.interval.upper)}</td>' if own else '')
                + f'<td>{m.degree}</td><td>{m.radius:,}</td>'
                f'<td>{escape(in_micrometres(m.radius)[:-3])}</td><td>{escape(", ".join(remarks))}</td></tr>')
     yield '</tbody></table></div>'

@@ -22,6 +22,12 @@ def ticks(low, high, wanted=6):
         yield i * step, f'{i * step + 0.0:.{digits}f}'
 
 
+def within(x, text):
+    """The place nearest to x for the middle of a text that keeps within the drawing."""
+    half = LETTER * len(text) / 2
+    return min(max(x, half), WIDTH - half)
+
+
 class Frame:
     """Axes from x_low..x_high and y_low..y_high in a drawing."""
 
@@ -48,22 +54,20 @@ class Frame:
             y = self.y(v)
             yield f'<line class="grid" x1="{LEFT}" x2="{right}" y1="{y:.1f}" y2="{y:.1f}"/>'
             yield f'<text class="left" x="{LEFT - 6}" y="{y + 4:.1f}">{text}</text>'
-        for v, text in self.below():
-            x = self.x(v)
+        for x, at, text in self.below():
             yield f'<line class="grid" x1="{x:.1f}" x2="{x:.1f}" y1="{TOP}" y2="{floor_y}"/>'
-            # A long number at the right end keeps within the drawing.
-            yield f'<text class="below" x="{min(x, WIDTH - 3 * len(text)):.1f}" y="{floor_y + 14}">{text}</text>'
+            yield f'<text class="below" x="{at:.1f}" y="{floor_y + 14}">{text}</text>'
         yield f'<text class="below" x="{(LEFT + right) / 2:.0f}" y="{self.height - 3}">{escape(x_name)}</text>'
         yield (f'<text class="below" transform="translate(12 {(TOP + floor_y) / 2:.0f}) rotate(-90)">'
                f'{escape(y_name)}</text>')
 
     def below(self):
-        """Numbers below the frame, as many as stand beside one another."""
+        """Places of round numbers, with their text and its own place: as many as stand beside one another."""
         found = []
         for wanted in (6, 4, 3, 2, 1):
-            found = list(ticks(self.x_low, self.x_high, wanted))
-            room = LETTER * max((len(text) for _, text in found), default=0)
-            if all(self.x(v) - self.x(u) >= room for (u, _), (v, _) in zip(found, found[1:])):
+            found = [(self.x(v), within(self.x(v), text), text) for v, text in ticks(self.x_low, self.x_high, wanted)]
+            longest = max((len(text) for _, _, text in found), default=0)
+            if all(right[1] - left[1] >= LETTER * longest for left, right in zip(found, found[1:])):
                 break
         return found
 
@@ -132,7 +136,9 @@ def path(first, second, title):
     for at, end, inner in ((first.interval.lower, pairs[0], pairs[3]), (first.interval.upper, pairs[-1], pairs[-4])):
         x, y = frame.x(end[0]), frame.y(end[1])
         dx, dy = x - frame.x(inner[0]), y - frame.y(inner[1])
-        far = 22 / (hypot(dx, dy) or 1)         # the name stands beyond the end, away from the curve
+        name, length = f'x = {argument(at)}', hypot(dx, dy) or 1
+        # The name stands beyond the end, away from the curve; a long one further off where that is sideways.
+        far = (22 + LETTER / 2 * max(len(name) - 6, 0) * abs(dx) / length) / length
         parts.append(f'<circle class="dot" cx="{x:.1f}" cy="{y:.1f}" r="3"/>'
-                     f'<text class="word below" x="{x + far * dx:.1f}" y="{y + far * dy + 4:.1f}">x = {argument(at)}</text>')
+                     f'<text class="word below" x="{within(x + far * dx, name):.1f}" y="{y + far * dy + 4:.1f}">{name}</text>')
     return frame.drawing(title, parts)
