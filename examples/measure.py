@@ -233,8 +233,8 @@ def extents():
     """The integral of the same coefficients on intervals of other extents."""
     first = plain(next(stretches(1))).results[8]
     rows = [(k, *integral_radii(first._replace(interval=Interval(0, S << k if k > 0 else S >> -k)))) for k in range(-5, 6, 2)]
-    print(f'| extent over S, of result 8 with degree {first.degree}, radius {first.radius} | integral on the interval | rescaled, '
-          'times half the extent |')
+    print(f'| extent over S, of result 8 with degree {first.degree}, radius {first.radius} | integral on the interval | '
+          'rescaled, times half the extent |')
     print('|-|-|-|')
     for k, own, other in rows:
         print(f'| 2^{k} | {own} | {other} |')

@@ -144,7 +144,8 @@ def page_of(run, folder, job):
 
 def pages(expect, run, folder):
     """Each drawing has x of its own interval below it, and room for the numbers; results on two intervals make no path."""
-    for pairs in (((0, 1), (LIMIT - 1, LIMIT)), ((-LIMIT, LIMIT), (-S, S)), ((-LIMIT, 1 - LIMIT), (0, 3 * S + 1)), ((7, 10),) * 2):
+    for pairs in (((0, 1), (LIMIT - 1, LIMIT)), ((-LIMIT, LIMIT), (-S, S)), ((-LIMIT, 1 - LIMIT), (0, 3 * S + 1)),
+                  ((7, 10), (7, 10))):
         job = EDITION_1 + b''.join(load_on(on(model([S, S // 3], 9), *pair)) for pair in pairs) + END
         status, text, tree = page_of(run, folder, job)
         figures = [node for node in tree.iter('figure') if node.get('id', '').startswith('result-')]
@@ -231,8 +232,8 @@ def curves(expect, run, folder, rng, draw, samples, options, count):
     example, out = ROOT / 'examples/machine_time.json', folder / 'on_time'
     done = run('solve', example, '-o', out, '--verify', '10')
     expect('machine time', done.returncode == 0 and all(text in done.stdout for text in (
-        'x from 12.5 to 15.80000019\n', 'x from 15.80000019 to 19\n', 'have the same radii', 'moves the path by up to 1.972 units '
-        '(0.00188 µm), which no radius covers')), done.stdout + done.stderr)
+        'x from 12.5 to 15.80000019\n', 'x from 15.80000019 to 19\n', 'have the same radii',
+        'moves the path by up to 1.972 units (0.00188 µm), which no radius covers')), done.stdout + done.stderr)
     expect('the job of machine time is the example', (out / 'machine_time_0000.job').read_bytes()
            == (ROOT / 'examples/machine_time.job').read_bytes())
     given = {'bur_mm': 0.3, 'series_mm': [{'x': [0, 1], 'y': [0, 0, 0.1]}]}

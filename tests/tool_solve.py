@@ -1,6 +1,7 @@
 """Tests of `ferruntzo solve`: every radius covers the error against the margin itself, sampled in exact
 arithmetic, for each shipped stretch and for random margins; mirrored margins give mirrored paths; a root is the command with
-the smaller radius; a curve on its own interval gives stretches on it (tool_intervals.py); and curves that cannot be used are named.
+the smaller radius; a curve on its own interval gives stretches on it (tool_intervals.py); and curves that cannot be used are
+named.
 
   tool_solve.py [--tool tools/ferruntzo] [--jobcheck target/bin/jobcheck] [--samples K] [--seed N]
 """

@@ -83,7 +83,7 @@ def verdict_part(checked, options):
 
 
 def table(checked, ends):
-    # The interval is shown where it is not the same for all jobs.
+    # A job on the standard interval alone has no column for it.
     own = any(m.interval != STANDARD for m in checked.results)
     yield ('<div class="scroll"><table><thead><tr><th scope="col">result</th><th scope="col">made by</th>'
            + ('<th scope="col">x</th>' if own else '')
