@@ -11,7 +11,7 @@ import unit_cases
 from area_cases import AREAS
 
 ENTRIES = list(AREAS)
-WHOLE = 230000              # calls of the whole comparison; at least so many of them
+WHOLE = 240000              # calls of the whole comparison; at least so many of them
 TIED = 2000                 # are accepted where some near rounds a tie
 PAIRS, CHOSEN = 7000, 4000  # have two proposals; have one chosen and put to random fractions
 TIGHT, TIGHT_JOBS = 4000, 3000      # are tighter root tests on areas long enough; are jobs with 0x22
