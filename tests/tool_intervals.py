@@ -92,7 +92,7 @@ def explained(expect, jobs, rng):
                     for end in checked.results[step.values[name]].interval]
             expect('19 with both intervals', re.findall(r'on ([-\d,]+) to ([-\d,]+)', checked.cause)
                    == [tuple(ends[:2]), tuple(ends[2:])], checked.cause)
-    expect('jobs on intervals are explained', min(kinds.values()) >= 20, str(kinds))
+    expect('jobs on intervals are explained', min(kinds.values()) >= 10, str(kinds))
 
 
 def words(expect, run, folder):
