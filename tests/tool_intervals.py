@@ -249,6 +249,11 @@ def curves(expect, run, folder, rng, draw, samples, options, count):
         done = run('solve', path)
         expect('an interval of a curve', done.returncode == status and wanted in done.stdout + done.stderr
                and 'Traceback' not in done.stderr, f'{pair}: {done.returncode} {done.stdout[-300:]} {done.stderr[-300:]}')
+    former = folder / 'former_jobcheck'
+    former.write_text('#!/bin/sh\ncat >/dev/null; echo refused 9 1\n')
+    former.chmod(0o755)
+    done = run('solve', example, '--jobcheck', former)
+    expect('a jobcheck before 0x14', done.returncode == 2 and 'an own interval needs 4.0.0' in done.stderr, done.stderr)
     path.write_text(json.dumps(with_interval(given, [[0, 3]])))
     done = run('solve', path, '--stretches', '4')
     expect('more stretches than units', done.returncode == 2 and 'has fewer units than 4 stretches' in done.stderr, done.stderr)
