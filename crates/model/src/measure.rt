@@ -66,14 +66,14 @@ fn measure_limits(m: Model) -> Measured
 pub fn measure(m: Model) -> Measured
     ensures { λ (r : Measured). ⌜ (r .good ≡ good m) × (r .weight ≡ weight (m .coefficients)) ⌝ }
 {
-    let size = measure_limits(m);
-    if size.good {
-        Measured {
-            good: Interval::is_good(m.interval),
-            weight: size.weight,
-        }
+    let limits = measure_limits(m);
+    if Interval::is_good(m.interval) {
+        limits
     } else {
-        size
+        Measured {
+            good: false,
+            weight: limits.weight,
+        }
     }
 }
 
@@ -92,10 +92,13 @@ pub fn is_good(m: Model) -> bool
     measure(m).good
 }
 
-// Why a model is not good: its ends count only where nothing else is wrong.
+// Why a model is not good: its ends count only where nothing else is wrong. Where they are good, it is not measured again.
 pub fn fault_of(m: Model) -> Refusal
     ensures { λ (r : Refusal). ⌜ numberOf r ≡ fault m ⌝ }
 {
+    if Interval::is_good(m.interval) {
+        return Refusal::BadModel;
+    }
     if measure_limits(m).good {
         Refusal::BadEnds
     } else {

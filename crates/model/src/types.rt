@@ -109,7 +109,9 @@ pub fn verdict_number(verdict: Verdict) -> u32
 }
 
 impl Interval {
-    pub const MAX_END: u64 = 268435456;
+    pub const MIN_END: i32 = -268435456;
+
+    pub const MAX_END: i32 = 268435456;
 
     // From -1 to 1.
     pub fn standard() -> Interval
@@ -133,9 +135,7 @@ impl Interval {
     {
         let lower = i.lower;
         let upper = i.upper;
-        let low = integer::absolute::magnitude(lower as i64);
-        let high = integer::absolute::magnitude(upper as i64);
-        (lower < upper) & (low <= Interval::MAX_END) & (high <= Interval::MAX_END)
+        (Interval::MIN_END <= lower) & (lower < upper) & (upper <= Interval::MAX_END)
     }
 
     // u - l

@@ -116,7 +116,11 @@ unfolding good goodEnds
 standard-good i c e = candidate-good standardInterval c refl ∙ both-true (partsWithinLimits (c .degree) (c .coefficients) 0) _ e .0
 
 pub candidate-fault : (i : Interval) (c : Candidate) → partsWithinLimits (c .degree) (c .coefficients) 0 ≡ false → 2 ≡ fault (candidateModel i c)
-candidate-fault i c e = rw e
+candidate-fault i c e = rw e (by (goodEnds i))
+  where
+    by : (t : Bool) → 2 ≡ cond t 2 2
+    by true = refl
+    by false = refl
 
 pub fault-not : (m : Model) (n : ℕ) → 2 ≢ n → 18 ≢ n → fault m ≢ n
 fault-not m n h k = by (withinLimits m)

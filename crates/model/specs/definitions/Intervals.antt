@@ -1,7 +1,7 @@
 -- Document 02, S-24: "Each model records two signed ends l < u in units, each from −2^28 to 2^28".
 use mathlib.Core.Bool.{Bool, _&&_}
 use Prim.Native.Nat.{ℕ, _^_}
-use lib.Dec.{leb, eqb}
+use lib.Dec.{eqb}
 use lib.IntN.{ℤ, pos, negℤ, natAbs, _-ℤ_}
 use lib.Signed.{ltZ, leZ}
 use Rattle.model.specs.declared.types.Interval.{Interval}
@@ -13,7 +13,7 @@ abbrev pub makeInterval : ℤ → ℤ → Interval
 makeInterval l u = record { lower = l; upper = u }
 
 unfoldable pub goodEnds : Interval → Bool
-goodEnds i = (ltZ (i .lower) (i .upper) && leb (natAbs (i .lower)) maxEnd) && leb (natAbs (i .upper)) maxEnd
+goodEnds i = (leZ (negℤ (pos maxEnd)) (i .lower) && ltZ (i .lower) (i .upper)) && leZ (i .upper) (pos maxEnd)
 
 -- u − l, which is positive where the ends are good
 unfoldable pub extent : Interval → ℕ

@@ -53,9 +53,9 @@ withinLimits m = partsWithinLimits (m .degree) (m .coefficients) (m .radius)
 unfoldable pub good : Model → Bool
 good m = withinLimits m && goodEnds (m .interval)
 
--- "Number 18: ends wrong, straight after number 2 for the same model."
+-- "Number 18: ends wrong, straight after number 2 for the same model.": where nothing but the ends is wrong
 abbrev pub fault : Model → ℕ
-fault m = cond (withinLimits m) 18 2
+fault m = cond (goodEnds (m .interval)) 2 (cond (withinLimits m) 18 2)
 
 -- Refusal 3, of a result: "weight or radius above 2^28, degree above 32".
 unfoldable pub tooLarge : Model → Bool

@@ -74,11 +74,7 @@ module _ {ps qs : List (Bool × ℕ)} (rest : SameRefusal ps qs) where
   -- a model's place refuses with 2 alone
   pub place-former : (m : Model) → m .interval ≡ standardInterval → SameRefusal (badPlace m ∷ ps) (formerPlace m ∷ qs)
   unfolding passing
-  place-former m on = record { outcomes = λ A a z. rw (good-former m on, rest .outcomes A a z) (by A z (outcome qs a z) (withinLimits m)) }
-    where
-      by : (A : Type 0) (z : A) (o : Outcome A) (t : Bool) → cond (not t) (refused (cond t 18 2) z) o ≡ cond (not t) (refused 2 z) o
-      by A z o true = refl
-      by A z o false = refl
+  place-former m on = record { outcomes = λ A a z. rw (good-former m on, on, standard-good, rest .outcomes A a z) }
 
   -- and 19 never refuses
   pub different-former : (f g : Model) → f .interval ≡ standardInterval → g .interval ≡ standardInterval → SameRefusal (differentPlace f g ∷ ps) qs

@@ -4,20 +4,20 @@ use mathlib.Core.Bool.{Bool, true, false, _&&_}
 use mathlib.Core.List.{[], _∷_}
 use Prim.Native.Nat.{_*_, _^_, _≤_, _<_}
 use native.Mathlib.Omega.{arith}
-use borrow.Author.Tests.{leb-true, eqb-true}
-use lib.Dec.{leb, eqb}
+use borrow.Author.Tests.{eqb-true}
+use lib.Dec.{eqb}
 use lib.IntN.{ℤ, pos, negℤ, natAbs, _-ℤ_}
-use lib.Signed.{ltZ, _<ℤ_}
+use lib.Signed.{ltZ, leZ, _<ℤ_}
 use Rattle.integer.specs.definitions.Fraction.{ℚ, whole, _+ℚ_, _-ℚ_, -ℚ_, _*ℚ_, _/ℚ_, _≤ℚ_, ∣_∣ℚ, inverse}
-use Rattle.integer.specs.laws.Difference.{<-parts}
-use Rattle.integer.specs.laws.FractionInverse.{quotient-mul, inverse-right, *ℚ-cancel}
+use Rattle.integer.specs.laws.Difference.{≤-parts, <-parts}
+use Rattle.integer.specs.laws.FractionInverse.{quotient-mul, *ℚ-cancel}
 use Rattle.integer.specs.laws.FractionLaws.{whole-add, *ℚ-comm, one-*ℚ}
 use Rattle.integer.specs.laws.FractionOrder.{ℚ-ordered, ≤ℚ-cancel, whole-neg}
 use Rattle.integer.specs.laws.FractionRounding.{natural-positive, natural-nonzero}
 use Rattle.integer.specs.laws.FractionSolver.{reifyℚ, solveℚ}
-use Rattle.integer.specs.laws.Machine.{lt-true, both-true}
+use Rattle.integer.specs.laws.Machine.{le-true, lt-true, both-true}
 use Rattle.integer.specs.laws.OrderedRingLaws.{abs-le, by-certificate, gap, _⊞_}
-use Rattle.integer.specs.laws.Parts.{abs, apart, difference, same, abs-sub}
+use Rattle.integer.specs.laws.Parts.{abs, apart, difference, opposite, same, abs-sub}
 use Rattle.model.specs.definitions.Allowed.{position, start, OnInterval}
 use Rattle.model.specs.definitions.Intervals.{maxEnd, makeInterval, goodEnds, extent, sameInterval}
 use Rattle.model.specs.definitions.Models.{scale}
@@ -33,11 +33,15 @@ pub record GoodEnds (i : Interval) : Type 0 where
 pub ends-are : (i : Interval) → goodEnds i ≡ true → GoodEnds i
 unfolding goodEnds
 ends-are i e =
-    let p = both-true (ltZ (i .lower) (i .upper) && leb (natAbs (i .lower)) maxEnd) _ e in
-    let q = both-true (ltZ (i .lower) (i .upper)) _ (p .0) in record {
-      ordered = lt-true (i .lower) (i .upper) (q .0);
-      lower-fits = leb-true (natAbs (i .lower)) maxEnd (q .1);
-      upper-fits = leb-true (natAbs (i .upper)) maxEnd (p .1);
+    let p = both-true (leZ (negℤ (pos maxEnd)) (i .lower) && ltZ (i .lower) (i .upper)) _ e in
+    let q = both-true (leZ (negℤ (pos maxEnd)) (i .lower)) _ (p .0) in
+    let least = ≤-parts (negℤ (pos maxEnd)) (i .lower) .0 (le-true (negℤ (pos maxEnd)) (i .lower) (q .0)) in
+    let ordered = lt-true (i .lower) (i .upper) (q .1) in
+    let between = <-parts (i .lower) (i .upper) .0 ordered in
+    let greatest = ≤-parts (i .upper) (pos maxEnd) .0 (le-true (i .upper) (pos maxEnd) (p .1)) in record {
+      ordered = ordered;
+      lower-fits = omega (arith, least, between, greatest, opposite (pos maxEnd), abs (i .lower), apart (i .lower));
+      upper-fits = omega (arith, least, between, greatest, opposite (pos maxEnd), abs (i .upper), apart (i .upper));
     }
 
 module _ {i : Interval} (g : GoodEnds i) where

@@ -53,5 +53,5 @@ Lowest =
     × (evaluation (mirrored lowest) (negsuc 0) ≡ refused 2 zeroBounds)
 
 pub lowest-refused : Lowest
-unfolding multiplication integration evaluation partsWithinLimits passing good weight odd negatedFrom
+unfolding multiplication integration evaluation partsWithinLimits passing good weight odd negatedFrom goodEnds
 lowest-refused = (refl, refl, refl, refl, refl, refl)

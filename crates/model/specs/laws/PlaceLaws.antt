@@ -123,10 +123,11 @@ module _ {A : Type 0} (m : Model) (a : A) (r : ℕ → A) where
   unfolding passing good
   model-places [] qs = by (withinLimits m) (goodEnds (m .interval)) (passing qs a r)
     where
-      by : (s t : Bool) (rest : A) → cond (not (s && t)) (r (cond s 18 2)) rest ≡ cond (not s) (r 2) (cond (not t) (r 18) rest)
+      by : (s t : Bool) (rest : A) → cond (not (s && t)) (r (cond t 2 (cond s 18 2))) rest ≡ cond (not s) (r 2) (cond (not t) (r 18) rest)
       by true true rest = refl
       by true false rest = refl
-      by false t rest = refl
+      by false true rest = refl
+      by false false rest = refl
   model-places (p ∷ ps) qs = ap (cond (p .0) (r (p .1))) (model-places ps qs)
 
 -- the place "not (good m)" passes
