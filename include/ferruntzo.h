@@ -403,7 +403,7 @@ uint32_t ferruntzo_quotient_of_two(const int32_t *f, size_t f_len,
    and invalid operations are how 15 arises: with exceptions enabled (feenableexcept) a
    call may trap, and exception flags may be set after a call.
    An area of doubles that is written may hold any bits before, signalling NaNs too.
-   About 5.5 kB of stack.  There is no maker for roots; 15 and 16 never come of a job. */
+   About 6 kB of stack.  There is no maker for roots; 15 and 16 never come of a job. */
 
 /* w for 1/g.  Sizes: g 37, record 34, w 34, outcome 1.
    Refusals: 1 (any area), 2 or 18 (g), 15 (g_0 is zero, or a value is not finite in
