@@ -61,7 +61,7 @@ SHARE = {'add': 2, 'subtract': 2, 'multiply': 3, 'integrate': 3, 'evaluate': 3,
          'make_reciprocal': 1, 'make_quotient': 1, 'to_units': 60, 'tight_root': 4}
 BATCH = 2000
 SOUNDNESS_SAMPLE = 0.04
-SAMPLE_ON_INTERVALS = 0.3   # of the accepted cases without a scratch that have another interval than the standard one
+SAMPLE_ON_INTERVALS = 0.3   # of the accepted cases on another interval than the standard one, and of jobs with 0x14
 SAMPLE_OF_16 = 0.25         # of the accepted cases that have a scratch, of 16 numbers
 ANSWERED = ('from_series', 'quotient_of_two', 'tight_root')     # checked for soundness as the library answered, each of them
 UNVOUCHED = tuple(proposal_cases.WRITTEN)           # nothing holds of what they answer but its bits
@@ -408,8 +408,9 @@ def main():
                     counter.update(found)
                     of_job += [counter] * ('jobs' in found)
             batch.append((case, areas, number, expected))
-            without = SAMPLE_ON_INTERVALS if interval_cases.is_placed(case) else SOUNDNESS_SAMPLE
-            share = {None: without, SCRATCH_SIZE: SAMPLE_OF_16}.get(scratch_of(case, areas), 0)
+            on_interval = interval_cases.is_placed(case) or any(counter is placed_jobs for counter in of_job)
+            share = max({None: SOUNDNESS_SAMPLE, SCRATCH_SIZE: SAMPLE_OF_16}.get(scratch_of(case, areas), 0),
+                        SAMPLE_ON_INTERVALS * on_interval)
             if number == 0 and case.entry not in (*ANSWERED, *UNVOUCHED) and (sound_rng.random() < share or case.made):
                 soundness.check(sound_rng, case)
                 count_sound(case, areas, of_job)

@@ -169,8 +169,7 @@ def wide_integrals():
         for size in (1 << 23, 1 << 24, 1 << 25, 3 << 24, 1 << 27, LIMIT):
             for extra in (-1, 0, 1):
                 for sign in (1, -1):
-                    value = sign * min(LIMIT, size * max(1, degree + 1) + extra)
-                    yield on(term(degree, max(-LIMIT, value), 0), LEAST, GREATEST)
+                    yield on(term(degree, sign * min(LIMIT, size * (degree + 1) + extra)), LEAST, GREATEST)
     yield from (on(constant(LIMIT, LIMIT), LEAST, GREATEST), on(constant(-LIMIT), LEAST, GREATEST - 1))
 
 

@@ -214,17 +214,13 @@ def one_interval(job, right=o.check_job):
     return ('refused', DIFFERENT_INTERVALS, 0) if apart else answer
 
 
-def number_at(operands, at, signed=True):
-    return o.read_number(operands, at, signed)
-
-
 JOBS = [
-    ("0x14's ends exchanged", *ends_by(lambda data, at: (number_at(data, at + 4), number_at(data, at)))),
-    ("0x14's ends unsigned", *ends_by(lambda data, at: (number_at(data, at, False), number_at(data, at + 4, False)))),
+    ("0x14's ends exchanged", *ends_by(lambda data, at: (o.read_number(data, at + 4), o.read_number(data, at)))),
+    ("0x14's ends unsigned", *ends_by(lambda data, at: (o.read_number(data, at, False), o.read_number(data, at + 4, False)))),
     ("0x14's ends before the radius", 'read_load', ends_before_radius),
     ("0x14's ends left unread", *ends_by(lambda data, at: STANDARD)),
-    ('0x14 with its u alone', *ends_by(lambda data, at: (-S, number_at(data, at + 4)))),
-    ('0x14 with its l alone', *ends_by(lambda data, at: (number_at(data, at), S))),
+    ('0x14 with its u alone', *ends_by(lambda data, at: (-S, o.read_number(data, at + 4)))),
+    ('0x14 with its l alone', *ends_by(lambda data, at: (o.read_number(data, at), S))),
     ('0x10 on 0..2S', 'read_ends', lambda byte, data, right=o.read_ends: (0, 2 * S) if byte == o.LOAD else right(byte, data)),
     ('0x14 of the width of 0x10', 'OPERAND_WIDTH', {**o.OPERAND_WIDTH, o.LOAD_ON: o.OPERAND_WIDTH[o.LOAD]}),
     ('0x14 unknown', 'OPERAND_WIDTH', {byte: width for byte, width in o.OPERAND_WIDTH.items() if byte != o.LOAD_ON}),

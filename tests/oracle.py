@@ -6,8 +6,8 @@ neither the pair walk nor the primitive rule of the product is used to get
 them.  Power series (document 02, S-3) are expanded by binomials, not by the
 rule of the product's table.  The least radius of the tighter root test (S-22) comes
 from a whole square root, not from a search.  Integrals on an interval (S-24) are the
-power basis' primitives times the interval's half, and every evaluation is put beside the
-exact value at its point.  Only the rounding is taken over from document 01 as it stands
+power basis' primitives times half the extent, and every evaluation is put beside the exact
+value at its point.  Only the rounding is taken over from document 01 as it stands
 there, with the ties of document 02 (S-11) and the mapped point of S-24.
 Areas, and refusal 1 for a short one, are compare.py's; a short proposal (S-14) is tested here.
 
