@@ -366,8 +366,8 @@ uint32_t ferruntzo_quotient_of_two(const int32_t *f, size_t f_len,
    For a mill without a desktop: h and w for f/g, or w for 1/g alone, made from the
    models in double arithmetic.  Nothing that is made is trusted, and no radius comes
    with it: only the ordinary test, ferruntzo_quotient, vouches for h and w.  The radii
-   of f and g play no part in making; the test counts them.  Nor do their ends, once
-   18 and 19 are not given.
+   of f and g play no part in making; the test counts them.  Their ends play none
+   beyond 18 and 19.
 
    A value is a coefficient in units over S, as a double.  w starts as the constant
    1 / g_0.  A round makes w times (2 - g times w) of it, the constant 2 being zero
@@ -391,8 +391,8 @@ uint32_t ferruntzo_quotient_of_two(const int32_t *f, size_t f_len,
    Settled proves nothing: g = S + S T_31 vanishes at its lower end, where y = -1, and
    settles in round 7, and ferruntzo_quotient then refuses it with 5.  (A lone w is
    tested as the quotient of the constant S, with the ends of g, by g, with w as both h
-   and w.)  Given up need not fail the test.  Where
-   g has a zero in its interval no proposal passes.
+   and w.)  Given up need not fail the test.  Where g has a zero in its interval no
+   proposal passes.
 
    Refused, 1 included: each area that is written is zero, if it has its numbers:
    record is +0.0, h, w and units have degree 0, outcome[0] is 0 (given up).
@@ -403,7 +403,7 @@ uint32_t ferruntzo_quotient_of_two(const int32_t *f, size_t f_len,
    and invalid operations are how 15 arises: with exceptions enabled (feenableexcept) a
    call may trap, and exception flags may be set after a call.
    An area of doubles that is written may hold any bits before, signalling NaNs too.
-   About 5.5 kB of stack.  There is no maker for roots; 15 and 16 never come of a job. */
+   About 6 kB of stack.  There is no maker for roots; 15 and 16 never come of a job. */
 
 /* w for 1/g.  Sizes: g 37, record 34, w 34, outcome 1.
    Refusals: 1 (any area), 2 or 18 (g), 15 (g_0 is zero, or a value is not finite in

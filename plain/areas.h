@@ -29,7 +29,8 @@ static int64_t model_weight(const int32_t *a)
     return sum;
 }
 
-static int good_candidate(const int32_t *a)
+/* inline: also -O2 puts it, and model_fault, into their callers. */
+static inline int good_candidate(const int32_t *a)
 {
     if (a[0] < 0 || a[0] > MAX_DEGREE)
         return 0;
@@ -40,7 +41,7 @@ static int good_candidate(const int32_t *a)
 }
 
 /* The refusal that a model gives, 0 if it is good. */
-static uint32_t model_fault(const int32_t *a)
+static inline uint32_t model_fault(const int32_t *a)
 {
     if (!good_candidate(a) || a[RADIUS] < 0 || a[RADIUS] > LIMIT)
         return BAD_MODEL;

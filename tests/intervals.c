@@ -104,6 +104,13 @@ static void different_intervals(void)
            == FERRUNTZO_BAD_MODEL);
     EXPECT(ferruntzo_quotient(WHOLE(f), WHOLE(g), WHOLE(zero), WHOLE(bad), WHOLE(scratch), WHOLE(out), WHOLE(numbers))
            == FERRUNTZO_BAD_MODEL);
+    for (int place = 0; place <= FERRUNTZO_CANDIDATE_SIZE; place += FERRUNTZO_CANDIDATE_SIZE) {
+        int32_t spoiled[FERRUNTZO_PROPOSAL_SIZE];
+        memcpy(spoiled, proposal, sizeof spoiled);
+        spoiled[place] = -1;                    /* h, then w */
+        EXPECT(ferruntzo_quotient_of_two(WHOLE(f), WHOLE(g), WHOLE(spoiled), WHOLE(proposal), WHOLE(scratch), WHOLE(selected))
+               == FERRUNTZO_BAD_MODEL);
+    }
     g[1] = 0;
     EXPECT(ferruntzo_make_quotient(WHOLE(f), WHOLE(g), WHOLE(records), WHOLE(h), WHOLE(w), WHOLE(outcome))
            == FERRUNTZO_DIFFERENT_INTERVALS);   /* before 15 */
