@@ -1,8 +1,9 @@
 // Integrate from the lower end: the coefficients are formed from the highest down, so that c_0 = c_1 - (c_2 - (c_3 - ..))
 // needs no signs.
+ghost use mathlib.Core.Bool.{false};
 ghost use mathlib.Core.Path.{_≡_};
-ghost use Prim.Native.Nat.{suc, _*_, _≤_};
-ghost use lib.IntN.{pos, _-ℤ_, _*ℤ_};
+ghost use Prim.Native.Nat.{suc, _*_, _^_, _≤_};
+ghost use lib.IntN.{pos, natAbs, _-ℤ_, _*ℤ_};
 ghost use lib.ListN.{take};
 ghost use Rattle.chebyshev.specs.definitions.Coefficients.{weight};
 ghost use Rattle.integer.specs.definitions.Rounding.{near};
@@ -22,6 +23,9 @@ use integer::rounding::up_unsigned;
 // 4S, of the divisors 4S·k.
 const DIVISOR: i64 = 4 * Model::SCALE;
 
+// 4S: up to this extent every coefficient fits 32 bits.
+const NARROW: u64 = 4194304;
+
 // The coefficients count only where their weight is within its limit.
 struct Integral {
     coefficients: [i32; COEFFICIENTS],
@@ -36,6 +40,23 @@ fn rounded_coefficient(below: i64, above: i64, extent: u64, k: usize) -> i64
     integer::rounding::near((below - above) * (extent as i64), DIVISOR * (k as i64))
 }
 
+// c in 32 bits. On an extent above 4S it may not fit: then the weight is too large, and no coefficient counts.
+fn narrowed(c: i64, size: u64, wide: bool) -> i32
+    requires { ⌜ size ≡ natAbs c ⌝ }
+    requires { ⌜ (wide ≡ false → size ≤ 2 ^ 30) ⌝ }
+    ensures { λ r. ⌜ (size ≤ maxWeight → r ≡ c) ⌝ }
+{
+    if wide {
+        if Model::MAX_WEIGHT < size {
+            0
+        } else {
+            c as i32
+        }
+    } else {
+        c as i32
+    }
+}
+
 // The integral of 2·a_0, a_1, .., a_n, 0, .. over an interval of that extent, and its weight. On the way `above`, `here` and
 // `below` are the numbers of that list at places k + 1, k and k - 1.
 fn rounded_integral(degree: u32, doubled: &[i32; COEFFICIENTS], extent: u64) -> Integral
@@ -44,6 +65,7 @@ fn rounded_integral(degree: u32, doubled: &[i32; COEFFICIENTS], extent: u64) -> 
     ensures { λ (r : Integral).
         ⌜ (r .weight ≤ maxWeight → r .coefficients ≡ roundedIntegral extent (take (suc degree) (now (doubled .entry)))) ⌝ }
 {
+    let wide = NARROW < extent;
     let mut coefficients = [0i32; COEFFICIENTS];
     let mut weight: u64 = 0;
     let mut first: i64 = 0;
@@ -53,10 +75,9 @@ fn rounded_integral(degree: u32, doubled: &[i32; COEFFICIENTS], extent: u64) -> 
     while 0 < k {
         let below = doubled[k - 1] as i64;
         let c = rounded_coefficient(below, above, extent, k);
-        weight += integer::absolute::magnitude(c);
-        if weight <= Model::MAX_WEIGHT {
-            coefficients[k] = c as i32;
-        }
+        let size = integer::absolute::magnitude(c);
+        weight += size;
+        coefficients[k] = narrowed(c, size, wide);
         first = c - first;
         above = here;
         here = below;
