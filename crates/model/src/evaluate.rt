@@ -2,15 +2,14 @@
 ghost use mathlib.Core.Path.{_≡_};
 ghost use Prim.Native.Nat.{suc};
 ghost use lib.ListN.{take};
-ghost use Rattle.model.specs.definitions.InnerContracts.{Evaluable};
-ghost use mathlib.Core.Bool.{true, cond};
-ghost use Prim.Native.Nat.{_≤_, _*_, _^_};
-ghost use Rattle.chebyshev.specs.definitions.Coefficients.{lipschitzWeight};
+ghost use Rattle.model.specs.definitions.InnerContracts.{Evaluable, Weighable};
+ghost use mathlib.Core.Bool.{true};
 ghost use Rattle.model.specs.definitions.Intervals.{goodEnds};
-ghost use Rattle.model.specs.definitions.Evaluate.{pointSum, pointError, mappedPoint, mapsExactly};
+ghost use Rattle.model.specs.definitions.Evaluate.{pointSum, pointError, mappedPoint, mapsExactly, growth as growthOf};
 ghost use Rattle.model.specs.definitions.Evaluate.{boundsOf, evaluation};
 use crate::measure::fault_of;
 use crate::measure::is_good;
+use crate::measure::lipschitz;
 use crate::types::BoundsOutcome;
 use crate::types::COEFFICIENTS;
 use crate::types::Interval;
@@ -25,11 +24,10 @@ const POINT_FACTOR: i64 = 1024;
 // 2^32 = 4·2^30, the scale of 4V and W.
 const SUM_SCALE: i64 = 4294967296;
 
-// V and W of document 01, and the sum of |a_k|·k².
+// V and W of document 01, at the mapped point.
 struct PointSums {
     value: i64,
     error: u64,
-    lipschitz: u64,
 }
 
 // A point of an interval taken to one from -1 to 1, and whether that is exact.
@@ -58,11 +56,14 @@ fn map_point(i: Interval, p: i32) -> MappedPoint
 }
 
 // What W grows by.
-fn growth(exact: bool, lipschitz: u64) -> u64
-    requires { ⌜ lipschitz ≤ 2 ^ 40 ⌝ }
-    ensures { λ r. ⌜ r ≡ cond exact 0 (2 ^ 11 * lipschitz) ⌝ }
+fn growth(exact: bool, degree: u32, coefficients: &[i32; COEFFICIENTS]) -> u64
+    requires { ⌜ Weighable degree (now coefficients) ⌝ }
+    ensures { λ r. ⌜ r ≡ growthOf exact (take (suc degree) (now (coefficients .entry))) ⌝ }
 {
-    if exact { 0 } else { 2048 * lipschitz }
+    if exact {
+        return 0;
+    }
+    2048 * lipschitz(degree, coefficients)
 }
 
 // One pass over the coefficients up to the degree, with t_k and t_(k+1) at hand.
@@ -70,12 +71,10 @@ fn point_sums(degree: u32, coefficients: &[i32; COEFFICIENTS], p: i64) -> PointS
     requires { ⌜ Evaluable degree (now coefficients) p ⌝ }
     ensures { λ (r : PointSums). ⌜ r .value ≡ pointSum p 0 (take (suc degree) (now (coefficients .entry))) ⌝ }
     ensures { λ (r : PointSums). ⌜ r .error ≡ pointError 0 (take (suc degree) (now (coefficients .entry))) ⌝ }
-    ensures { λ (r : PointSums). ⌜ r .lipschitz ≡ lipschitzWeight 0 (take (suc degree) (now (coefficients .entry))) ⌝ }
 {
     let n = degree as usize;
     let mut value: i64 = 0;
     let mut error: u64 = 0;
-    let mut lipschitz: u64 = 0;
     let mut t = TERM_SCALE;
     let mut next = POINT_FACTOR * p;
     let mut k: usize = 0;
@@ -84,17 +83,12 @@ fn point_sums(degree: u32, coefficients: &[i32; COEFFICIENTS], p: i64) -> PointS
         value += c * t;
         let size = integer::absolute::magnitude(c);
         error += size * ((k * k - k) as u64);
-        lipschitz += size * ((k * k) as u64);
         let after = integer::rounding::near(2 * p * next, Model::SCALE) - t;
         t = next;
         next = after;
         k += 1;
     }
-    PointSums {
-        value,
-        error,
-        lipschitz,
-    }
+    PointSums { value, error }
 }
 
 pub fn evaluate(a: Model, p: i32) -> BoundsOutcome
@@ -105,7 +99,8 @@ pub fn evaluate(a: Model, p: i32) -> BoundsOutcome
             let mapped = map_point(a.interval, p);
             let sums = point_sums(a.degree, &a.coefficients, mapped.point);
             let value = 4 * sums.value;
-            let error = (sums.error + growth(mapped.exact, sums.lipschitz)) as i64;
+            let more = growth(mapped.exact, a.degree, &a.coefficients);
+            let error = (sums.error + more) as i64;
             let radius = a.radius as i64;
             let low = integer::rounding::floor(value - error, SUM_SCALE) - radius;
             let high = integer::rounding::up(value + error, SUM_SCALE) + radius;

@@ -57,6 +57,12 @@ pub record Evaluable (degree : ℕ) (coefficients : List ℤ) (p : ℤ) : Type 0
   pub light : weight coefficients ≤ maxWeight
   pub inside : natAbs p ≤ scale
 
+-- a degree and coefficients of a good model
+pub record Weighable (degree : ℕ) (coefficients : List ℤ) : Type 0 where
+  pub all : length coefficients ≡ coefficientCount
+  pub degree-fits : degree ≤ maxDegree
+  pub light : weight coefficients ≤ maxWeight
+
 -- the list 2·a_0, a_1, … of a model that has an integral, and the extent of its interval
 pub record Integrable (degree : ℕ) (doubled : List ℤ) (extent : ℕ) : Type 0 where
   pub all : length doubled ≡ coefficientCount

@@ -18,7 +18,7 @@ use Rattle.model.specs.laws.ModelLaws.{good-ends}
 use Rattle.model.specs.definitions.Evaluate.{mappedPoint, mapsExactly, growth, pointSum, errorSum, evaluation}
 use Rattle.model.specs.laws.EvaluationLaws.{evaluation-accepted}
 use Rattle.model.specs.declared.types.Model.{Model}
-use Rattle.model.proofs.EvaluationBounds.{fits-mapped, evaluable, lipschitz-small, Sums, error-small, error-word, radius-word, fits-value, fits-fourfold, fits-below, fits-above, low, high}
+use Rattle.model.proofs.EvaluationBounds.{fits-mapped, evaluable, weighable, Sums, error-small, error-word, radius-word, fits-value, fits-fourfold, fits-below, fits-above, low, high}
 use Rattle.model.proofs.evaluate.evaluate.Statement.{statement}
 use Rattle.model.proofs.evaluate.evaluate.Tie as tie
 
@@ -79,14 +79,13 @@ module _ (k : tie.After-point-sums) where
 
 module _ (g : tie.After-growth) where
   abbrev k : tie.After-point-sums
-  k = g .before .before .before
+  k = g .before .before .before .before .before
 
   abbrev w : ℕ
   w = k .point-sums .result .error + g .growth .result
 
   sums : Sums (a (c (m k))) (p (c (m k))) (v k) w
-  unfolding growth
-  sums = summed k w (ap₂ _+_ (k .point-sums .ensures .1 .0) (g .growth .ensures ∙ ap₂ (λ e (n : ℕ). cond e 0 (2 ^ 11 * n)) (exact-is (m k)) (k .point-sums .ensures .1 .1)))
+  sums = summed k w (ap₂ _+_ (k .point-sums .ensures .1) (g .growth .ensures ∙ ap (λ e. growth e (terms (a (c (m k))))) (exact-is (m k))))
 
 module _ (f : tie.After-floor) where
   abbrev g₁ : tie.After-growth
@@ -138,7 +137,7 @@ evaluate-spec =
     (λ k κs. let m = k .before .before .before in
     let x = c m in simp (toZ-ofZ (fits-q m)) (evaluable (a x) (passed x) (p x) (q m) (inside m) (point-is m) (search needs)))
     (λ d. let n = summed (d .before .before) _ refl in simp (toZ-ofZ (fits-value n)) (fits-fourfold n))
-    (λ d κs. let k = d .before .before in omega (arith, k .point-sums .ensures .1 .1, lipschitz-small (a (c (m k))) (passed (c (m k)))))
+    (λ d κs. let x = c (m (d .before .before .before .before)) in weighable (a x) (passed x) (search needs))
     (λ c. omega (arith, error-small (sums (c .before)))) (λ c. abs-fits w64 _ (omega (arith, error-small (sums (c .before))))) (λ c. search needs)
     (λ c. let n = sums (c .before) in simp (toZ-ofZ (fits-value n), toZ-ofZ (fits-fourfold n), error-word n) (fits-below n))
     (λ c κs. search needs) sub-low

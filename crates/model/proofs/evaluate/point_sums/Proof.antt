@@ -19,11 +19,11 @@ use Rattle.model.proofs.evaluate.point_sums.Statement.{statement}
 use Rattle.model.proofs.evaluate.point_sums.Tie as tie
 
 abbrev Inv-loop : tie.InvT-loop
-Inv-loop degree coefficients p n value₀ error₀ lipschitz₀ t₀ next₀ k₀ value error lipschitz t next k =
-    (n ≡ degree) × Walk (toZ w64 p) (take (suc degree) coefficients) (toZ w64 value) error lipschitz (toZ w64 t) (toZ w64 next) k
+Inv-loop degree coefficients p n value₀ error₀ t₀ next₀ k₀ value error t next k =
+    (n ≡ degree) × Walk (toZ w64 p) (take (suc degree) coefficients) (toZ w64 value) error (toZ w64 t) (toZ w64 next) k
 
 abbrev μ-loop : tie.MeasureT-loop
-μ-loop degree coefficients p n value₀ error₀ lipschitz₀ t₀ next₀ k₀ value error lipschitz t next k = suc degree - k
+μ-loop degree coefficients p n value₀ error₀ t₀ next₀ k₀ value error t next k = suc degree - k
 
 -- the terms up to the degree, and 2^10·p
 module _ (s : tie.Start Inv-loop μ-loop) where
@@ -59,7 +59,7 @@ module _ (l : tie.At-loop Inv-loop μ-loop) where
   fits-p : SFits w64 p
   fits-p = s .fits .p
 
-  walk : Walk p (cs s) value (l .loop .error) (l .loop .lipschitz) t next k
+  walk : Walk p (cs s) value (l .loop .error) t next k
   walk = simp (toZ-ofZ fits-p) at (l .loop .inv .1)
 
   inside : k ≤ suc (s .args .degree)
@@ -82,7 +82,7 @@ module _ (c : tie.After-c Inv-loop μ-loop) where
   x-is : x ≡ getD (cs (s l)) (k l) (pos 0)
   x-is = sym (getD-take (suc (s l .args .degree)) (s l .args .coefficients .now) (k l) (pos 0) (omega arith))
 
-  after : (m : ℕ) (u : ℤ) → m ≡ natAbs x → u ≡ near (pos 2 *ℤ p l *ℤ next l) scale → Walk (p l) (cs (s l)) (value l +ℤ x *ℤ t l) (l .loop .error + m * (k l * k l - k l)) (l .loop .lipschitz + m * (k l * k l)) (next l) (u -ℤ t l) (k l + 1)
+  after : (m : ℕ) (u : ℤ) → m ≡ natAbs x → u ≡ near (pos 2 *ℤ p l *ℤ next l) scale → Walk (p l) (cs (s l)) (value l +ℤ x *ℤ t l) (l .loop .error + m * (k l * k l - k l)) (next l) (u -ℤ t l) (k l + 1)
   after m u = turn x m u (walk l) (omega (arith, length-cs (s l))) x-is
 
   fits : Turn (p l) (value l) (t l) (next l) x
@@ -94,9 +94,6 @@ module _ (m : tie.After-magnitude Inv-loop μ-loop) where
 
   error-small : let l = l (m .before) in l .loop .error + m .magnitude .result * (k l * k l - k l) < 2 ^ 40
   error-small = bounded (s (l (m .before)) .pre) (after (m .before) (m .magnitude .result) _ x-abs refl) .error-small
-
-  lipschitz-small : let l = l (m .before) in l .loop .lipschitz + m .magnitude .result * (k l * k l) ≤ 2 ^ 40
-  lipschitz-small = bounded (s (l (m .before)) .pre) (after (m .before) (m .magnitude .result) _ x-abs refl) .lipschitz-small
 
 module _ (n : tie.After-near Inv-loop μ-loop) where
   abbrev m : tie.After-magnitude Inv-loop μ-loop
@@ -123,7 +120,7 @@ loop-again n =
     simp (toZ-ofZ (fits-32 c), toZ-ofZ (fits-64 c), toZ-ofZ (fits c .term-fits), toZ-ofZ (fits c .sum-fits), toZ-ofZ (fits-p (l c)), toZ-ofZ (fits-near n), toZ-ofZ (fits-after n)) (refl, after c _ _ (x-abs (m n)) (near-is n))
 
 returns : tie.Need-returns Inv-loop μ-loop
-returns c = let (v, e, w) = ends (walk (c .before)) (omega (arith, length-cs (s (c .before)))) in (v, (e, w))
+returns c = ends (walk (c .before)) (omega (arith, length-cs (s (c .before))))
 
 pub point-sums-spec : {M : Type 1} → statement M
 point-sums-spec =
@@ -134,8 +131,6 @@ point-sums-spec =
     (λ c. simp (toZ-ofZ (fits-32 c), toZ-ofZ (fits-64 c), toZ-ofZ (fits c .term-fits)) (fits c .sum-fits)) (λ c κs. tt)
     (λ m. let l = l (m .before) in omega (arith, square-small (k l) (omega (arith, inside l, s l .pre))))
     (λ c. pairs-is (k (l (c .before))) .0) (λ m. omega (arith, error-small m)) (λ m. omega (arith, error-small m))
-    (λ m. let l = l (m .before) in omega (arith, square-small (k l) (omega (arith, inside l, s l .pre))))
-    (λ m. omega (arith, lipschitz-small m)) (λ m. omega (arith, lipschitz-small m))
     (λ m. simp (toZ-ofZ (fits-p (l (m .before)))) (fits (m .before) .double-fits))
     (λ m. simp (toZ-ofZ (fits-p (l (m .before))), toZ-ofZ (fits (m .before) .double-fits)) (fits (m .before) .numerator-fits))
     (λ c κs. ltZ-yes tt) (λ n. simp (toZ-ofZ (fits-near n)) (fits-after n))
