@@ -47,10 +47,10 @@ fn narrowed(c: i64, size: u64, wide: bool) -> i32
     ensures { λ r. ⌜ (size ≤ maxWeight → r ≡ c) ⌝ }
 {
     if wide {
-        if Model::MAX_WEIGHT < size {
-            0
-        } else {
+        if size <= Model::MAX_WEIGHT {
             c as i32
+        } else {
+            0
         }
     } else {
         c as i32

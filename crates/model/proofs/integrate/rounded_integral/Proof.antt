@@ -1,5 +1,4 @@
--- `integrate::rounded_integral` meets its contract: a turn is that of the walk (IntegralWalk.antt), whose sizes keep every number
--- within its width.
+-- `integrate::rounded_integral` meets its contract: a turn is that of the walk (IntegralWalk.antt).
 use mathlib.Core.Path.{_≡_, refl, sym, _∙_, ap}
 use mathlib.Core.Bool.{false}
 use mathlib.Core.List.{List}
@@ -146,11 +145,8 @@ returns-2 t =
 pub rounded-integral-spec : {M : Type 1} → statement M
 rounded-integral-spec =
     tie.close (tie.spec
-    Inv-loop μ-loop (λ c. omega (arith, c .pre)) loop-holds (λ c. omega arith)
-    (λ c. omega (arith, place-fits (c .before), s (c .before) .pre)) (λ c. omega (arith, place-fits (c .before), s (c .before) .pre))
+    Inv-loop μ-loop (λ c. omega (arith, c .pre)) loop-holds (λ c. omega arith) (λ c. omega (arith, place-fits (c .before), s (c .before) .pre)) (λ c. omega (arith, place-fits (c .before), s (c .before) .pre))
     (λ c. search signed-needs) rounded-coefficient-requires (λ c κs. tt) (λ m. omega (arith, total-small m)) narrowed-requires
-    (λ t. let l = at (t .before .before) in omega (arith, place-fits l, s l .pre))
-    (λ t. let l = at (t .before .before) in omega (arith, place-fits l, s l .pre))
+    (λ t. let l = at (t .before .before) in omega (arith, place-fits l, s l .pre)) (λ t. let l = at (t .before .before) in omega (arith, place-fits l, s l .pre))
     (λ t. simp (toZ-ofZ (fits-c (t .before .before))) (fits-first (t .before .before))) (λ t. omega arith) (λ t. omega arith) loop-again
-    (λ c κs. tt) (λ m. omega (arith, bounded (s (last m) .pre) (walk (last m)), m .magnitude2 .ensures))
-    (λ t. last-narrows (t .before) (t .if1 .taken)) (λ t. omega arith) returns returns-2)
+    (λ c κs. tt) (λ m. omega (arith, bounded (s (last m) .pre) (walk (last m)), m .magnitude2 .ensures)) (λ t. last-narrows (t .before) (t .if1 .taken)) (λ t. omega arith) returns returns-2)
