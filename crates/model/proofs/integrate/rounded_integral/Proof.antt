@@ -34,7 +34,6 @@ module _ (s : tie.Start Inv-loop μ-loop) where
   abbrev d : ℕ
   d = s .args .extent
 
--- at the loop's head
 module _ (l : tie.At-loop Inv-loop μ-loop) where
   abbrev s : tie.Start Inv-loop μ-loop
   s = l .before
@@ -124,7 +123,6 @@ loop-again t =
     simp (toZ-ofZ fits-stored, toZ-ofZ (fits-c n), toZ-ofZ (fits-first n), toZ-ofZ (fits-32 b), toZ-ofZ (fits-64 b))
     (at n .loop .inv .0, after n (m .magnitude .result) _ (size-is m) (λ h. ap (set (at n .loop .coefficients) (k (at n))) (stored (omega arith))))
 
--- after the loop
 module _ (m : tie.After-magnitude2 Inv-loop μ-loop) where
   abbrev last : tie.At-loop Inv-loop μ-loop
   last = m .before .before
