@@ -2,3 +2,4 @@ pub mod ProposalLaws
 pub mod SelectLaws
 pub mod SelectSound
 pub mod Examples
+pub mod IntervalExamples

@@ -253,7 +253,7 @@ module _ (a : Model) (g : good a ≡ true) (choice : ℚ → ℚ) (chosen : Choo
   unfolding stripSum
   strips-are =
       ap₂ (λ p h. leftSum choice p h k) (begin (start (a .interval)) (ratio (a .interval)))
-      (ap (λ z. z /ℚ whole (pos k)) (from-start (a .interval) ends x) ∙ width-is (ratio (a .interval)) y (inverse (whole (pos k))))
+      (ap (λ z. z /ℚ whole (pos k)) (from-start a ends x) ∙ width-is (ratio (a .interval)) y (inverse (whole (pos k))))
       ∙ strips-back a ends choice k (-ℚ whole (pos 1)) width
     where
       begin : (p r : ℚ) → p ≡ p +ℚ r *ℚ (-ℚ whole (pos 1) +ℚ whole (pos 1))
