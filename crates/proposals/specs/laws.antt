@@ -15,3 +15,4 @@ pub mod FiniteLaws
 pub mod EndingLaws
 pub mod FiniteMaking
 pub mod Examples
+pub mod IntervalExamples
