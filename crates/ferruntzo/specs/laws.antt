@@ -1,3 +1,4 @@
 pub mod ScratchLaws
 pub mod TightLaws
 pub mod Examples
+pub mod IntervalExamples
