@@ -2,3 +2,4 @@ pub mod ScratchLaws
 pub mod TightLaws
 pub mod Examples
 pub mod FormerAnswers
+pub mod IntervalExamples

@@ -16,3 +16,4 @@ pub mod EndingLaws
 pub mod FiniteMaking
 pub mod Examples
 pub mod FormerProposals
+pub mod IntervalExamples

@@ -3,3 +3,4 @@ pub mod SelectLaws
 pub mod SelectSound
 pub mod Examples
 pub mod FormerSelection
+pub mod IntervalExamples

@@ -24,7 +24,7 @@ use Rattle.certificate.specs.declared.types.RootRule.the-variants.{ByDis
 use Rattle.certificate.specs.laws.Examples.{candidate}
 
 -- the test where the search answers e
-abbrev answering : Model → Candidate → Candidate → FoundRadius → Outcome Certificate
+abbrev pub answering : Model → Candidate → Candidate → FoundRadius → Outcome Certificate
 answering f h w e =
     let r = withRadius (placed f h) (radiusOf e) in
     let n = rootResidual f (placed f h) in

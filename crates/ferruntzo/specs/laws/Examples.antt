@@ -42,21 +42,21 @@ use Rattle.ferruntzo.specs.definitions.Conversions.{seriesAnswer}
 use Rattle.ferruntzo.specs.definitions.Selections.{selectionAnswer, selectionIn, quotientOfTwoAnswer}
 
 -- the numbers of a model, or of a candidate, from its degree, its first coefficients and how many numbers follow
-abbrev area : ℕ → List ℤ → ℕ → List ℤ
+abbrev pub area : ℕ → List ℤ → ℕ → List ℤ
 area n cs size = pos n ∷ (cs ++ replicate (size - 1 - length cs) (pos 0))
 
 -- −S and S
-abbrev standardEnds : List ℤ
+abbrev pub standardEnds : List ℤ
 standardEnds = negsuc 1048575 ∷ pos 1048576 ∷ []
 
 -- a model with radius 0 on them
-abbrev modelArea : ℕ → List ℤ → List ℤ
+abbrev pub modelArea : ℕ → List ℤ → List ℤ
 modelArea n cs = area n cs 35 ++ standardEnds
 
-abbrev nines : ℕ → List ℤ
+abbrev pub nines : ℕ → List ℤ
 nines n = replicate n (pos 9)
 
-abbrev one : List ℤ
+abbrev pub one : List ℤ
 one = modelArea 0 (pos 1048576 ∷ [])
 
 -- 1 + 1 with a number behind the area; an area of 36 numbers for the result, and for an operand

@@ -1,6 +1,6 @@
 -- "At x = p/q with q ≥ 1 and |p| ≤ q everything is cross-multiplied into whole numbers": what a good model allows, with S-24 at
 -- (2·S·p−(l+u)·q)/((u−l)·q).
-use mathlib.Core.Path.{_≡_, _∙_, ap}
+use mathlib.Core.Path.{_≡_, _∙_, ap, subst⁻¹}
 use mathlib.Core.Logic.{_↔_}
 use mathlib.Core.Bool.{true}
 use mathlib.Core.List.{[], _∷_}
@@ -14,10 +14,11 @@ use Rattle.integer.specs.laws.FractionRounding.{natural-mul}
 use Rattle.integer.specs.laws.FractionSolver.{reifyℚ, solveℚ}
 use Rattle.chebyshev.specs.definitions.Homogeneous.{IsFraction, allowsWhole}
 use Rattle.chebyshev.specs.laws.AllowsLaws.{allows-whole}
-use Rattle.model.specs.definitions.Intervals.{extent}
+use Rattle.model.specs.definitions.Intervals.{extent, standardInterval}
 use Rattle.model.specs.definitions.Models.{scale, good}
 use Rattle.model.specs.laws.IntervalLaws.{GoodEnds, extent-positive, position-times}
 use Rattle.model.specs.laws.ModelLaws.{good-is}
+use Rattle.model.specs.laws.StandardInterval.{position-standard}
 use Rattle.model.specs.definitions.Allowed.{position, AllowsAt, Allows}
 use Rattle.model.specs.declared.types.Interval.{Interval}
 use Rattle.model.specs.declared.types.Model.{Model}
@@ -49,3 +50,11 @@ pub allows-cross : (m : Model) {x v : ℚ} {p u : ℤ} {q d : ℕ} → good m �
     → Allows m x v ↔ allowsWhole scale (m .coefficients) (m .radius) (m .degree) (pos 2 *ℤ pos scale *ℤ p -ℤ (m .interval .lower +ℤ m .interval .upper) *ℤ pos q) (extent (m .interval) * q) u d
 unfolding AllowsAt
 allows-cross m h fx fv = allows-whole scale (m .coefficients) (m .radius) (m .degree) (position-fraction (good-is m h .ends) fx) fv (good-is m h .beyond-zero)
+
+-- on −S..S at p/q itself, as 01 says
+pub allows-cross-standard : (m : Model) {x v : ℚ} {p u : ℤ} {q d : ℕ} → good m ≡ true → m .interval ≡ standardInterval → IsFraction x p q → IsFraction v u d
+    → Allows m x v ↔ allowsWhole scale (m .coefficients) (m .radius) (m .degree) p q u d
+unfolding AllowsAt
+allows-cross-standard m {x} {v} {p} {u} {q} h on fx fv =
+    let at-x = subst⁻¹ (λ y. IsFraction y p q) (position-standard x) fx in
+    allows-whole scale (m .coefficients) (m .radius) (m .degree) (subst⁻¹ (λ i. IsFraction (position i x) p q) on at-x) fv (good-is m h .beyond-zero)

@@ -18,10 +18,10 @@ use Rattle.selection.specs.definitions.Proposal.{proposalNeeding}
 use Rattle.selection.specs.definitions.Select.{selectionNeeding, Selected, makeSelected, tighter, selection, partNumbers, partPointer}
 
 -- a constant, as a candidate's 34 numbers
-abbrev constantCandidate : ℤ → List ℤ
+abbrev pub constantCandidate : ℤ → List ℤ
 constantCandidate c = pos 0 ∷ c ∷ replicate 32 (pos 0)
 
-abbrev proposal : ℕ → ℕ → List ℤ
+abbrev pub proposal : ℕ → ℕ → List ℤ
 proposal h w = constantCandidate (pos h) ++ constantCandidate (pos w)
 
 abbrev f : Model
@@ -31,7 +31,7 @@ abbrev g : Model
 g = constantModel (pos 3145728)
 
 -- a third of S
-abbrev w : ℕ
+abbrev pub w : ℕ
 w = 349525
 
 abbrev pair : List ℤ → List ℤ → Outcome Selected

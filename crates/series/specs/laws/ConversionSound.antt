@@ -9,7 +9,7 @@ use lib.ListN.{length, take, drop, replicate, length-take}
 use lib.Seq.{take-all}
 use borrow.Author.Tests.{not-false}
 use Rattle.integer.specs.definitions.Integer.{ℤ-ring}
-use Rattle.integer.specs.definitions.Fraction.{ℚ, whole, _+ℚ_, _-ℚ_, _*ℚ_, _/ℚ_, _≤ℚ_, ∣_∣ℚ}
+use Rattle.integer.specs.definitions.Fraction.{ℚ, whole, _+ℚ_, _-ℚ_, -ℚ_, _*ℚ_, _/ℚ_, _≤ℚ_, ∣_∣ℚ}
 use Rattle.integer.specs.laws.FractionInverse.{quotient-mul}
 use Rattle.integer.specs.laws.FractionRounding.{up-bound}
 use Rattle.integer.specs.laws.FractionSolver.{solveℚ, reifyℚ}
@@ -21,8 +21,8 @@ use Rattle.model.specs.definitions.Outcomes.{accepted}
 use Rattle.model.specs.definitions.Round.{rounded, roundingLoss}
 use Rattle.model.specs.definitions.Intervals.{standardInterval}
 use Rattle.model.specs.laws.IntervalLaws.{within}
-use Rattle.model.specs.laws.StandardInterval.{standard-ends, position-standard}
-use Rattle.model.specs.definitions.Allowed.{position, AllowsAt, Allows, OnInterval}
+use Rattle.model.specs.laws.StandardInterval.{standard-ends, position-standard, on-standard}
+use Rattle.model.specs.definitions.Allowed.{position, AllowsAt, Allows}
 use Rattle.model.specs.laws.PlaceLaws.{outcome-accepted}
 use Rattle.model.specs.laws.RoundingPassLaws.{rounding-value}
 use Rattle.model.specs.laws.ValueLaws.{valueAt, valueAt-add, valueAt-scale, valueAt-append-zeros, scale-nonzero}
@@ -100,11 +100,11 @@ unfolding conversion seriesModel
 conversion-interval s e = ap (λ (r : Model). r .interval) (outcome-accepted (conversionPlaces s) (seriesModel s) zeroModel e .1)
 
 pub conversion-sound : (s : Series) {m : Model} → conversion s ≡ accepted m
-    → (x : ℚ) → OnInterval standardInterval x → Allows m x (seriesValue (s .coefficients) x /ℚ whole (pos scale))
+    → (x : ℚ) → (-ℚ whole (pos 1)) ≤ℚ x → x ≤ℚ whole (pos 1) → Allows m x (seriesValue (s .coefficients) x /ℚ whole (pos scale))
 unfolding conversion
-conversion-sound s {m} e x on =
+conversion-sound s {m} e x above below =
     let p = outcome-accepted (conversionPlaces s) (seriesModel s) zeroModel e in
-    let near = subst (λ y. ∣ y ∣ℚ ≤ℚ whole (pos 1)) (position-standard x) (within standard-ends x on) in
+    let near = subst (λ y. ∣ y ∣ℚ ≤ℚ whole (pos 1)) (position-standard x) (within standard-ends x (on-standard above below)) in
     let v = seriesValue (s .coefficients) x /ℚ whole (pos scale) in
     let at-x = subst⁻¹ (λ r. AllowsAt r x v) (p .1) (series-sound s (not-false (goodSeries s) (p .0 .0)) x near) in
     subst⁻¹ (λ i. AllowsAt m (position i x) v) (conversion-interval s e) (subst⁻¹ (λ y. AllowsAt m y v) (position-standard x) at-x)
