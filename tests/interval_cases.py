@@ -100,7 +100,8 @@ def other_inputs(call):
     """What stands behind the models: good and bad candidates, or proposals of every number; as the call has it otherwise."""
     rest = call.inputs[MODELS[call.entry]:]
     if call.entry == 'quotient_of_two':
-        return product(*2 * ([tested[0] for tested in selection_cases.TESTED.values()],))
+        first = [tested[0] for tested in selection_cases.TESTED.values()]
+        return product(*2 * ((*first, selection_cases.TESTED[BAD_MODEL][1]),))      # h bad, and w alone
     return product(*((c, c._replace(degree=MAX_DEGREE + 1)) for c in rest))
 
 
@@ -202,7 +203,15 @@ def fixed_integrals():
             yield Case('integrate', (on(model(spread(rng, degree, total), rng.randint(0, 99)), lower, upper),))
 
 
-OF_ENTRY = {'evaluate': fixed_points, 'integrate': fixed_integrals}
+# ---- Makers ------------------------------------------------------------------------------------------------------------------
+
+def fixed_zero_divisors():
+    """g_0 = 0, which is refused with 15 before any round, behind 19."""
+    for first, second in DIFFERENT:
+        yield Case('make_quotient', (on(constant(S), *first), on(term(1, S), *second)))
+
+
+OF_ENTRY = {'evaluate': fixed_points, 'integrate': fixed_integrals, 'make_quotient': fixed_zero_divisors}
 
 
 def interval_cases(entry):

@@ -6,7 +6,8 @@ ghost use lib.IntN.{ℤ};
 ghost use lib.ListN.{length};
 ghost use Rattle.model.specs.definitions.Outcomes.{outcomeOf};
 ghost use Rattle.certificate.specs.definitions.Tests.{testOf};
-ghost use Rattle.job.specs.definitions.Bytes.{byteAt};
+ghost use Rattle.model.specs.definitions.Load.{loading};
+ghost use Rattle.job.specs.definitions.Bytes.{byteAt, unsignedAt, blockAt};
 ghost use Rattle.job.specs.definitions.Decode.{keptByte, makerAt};
 ghost use Rattle.job.specs.definitions.Work.{storedResult};
 ghost use Rattle.job.specs.definitions.InnerContracts.{untestedOutcome, Performs, Operable, NamesOne, NamesTwo, Clear};
@@ -61,24 +62,31 @@ fn untested(o: ModelOutcome) -> TestOutcome
     }
 }
 
+// The block and the radius behind a command byte, as a model on an interval.
+fn load_block(job: &[u8], at: usize, interval: Interval) -> TestOutcome
+    requires { ⌜ at + 138 ≤ length (now job) ⌝ }
+    ensures { λ (r : TestOutcome). ⌜ testOf r
+        ≡ untestedOutcome (loading (blockAt (now (job .entry)) (at + 1) (unsignedAt (now (job .entry)) (at + 134)) interval)) ⌝ }
+{
+    let radius = read_unsigned(job, at + 134);
+    let m = read_model(job, at + 1, radius, interval);
+    untested(model::load::load(m))
+}
+
 fn load(job: &[u8], at: usize) -> TestOutcome
     requires { ⌜ at + 138 ≤ length (now job) ⌝ }
     ensures { λ (r : TestOutcome). ⌜ ((w : List ℤ) → Performs (makerAt Operation.Load (now (job .entry)) at) w (testOf r)) ⌝ }
 {
-    let radius = read_unsigned(job, at + 134);
     let interval = Interval::standard();
-    let m = read_model(job, at + 1, radius, interval);
-    untested(model::load::load(m))
+    load_block(job, at, interval)
 }
 
 fn load_on(job: &[u8], at: usize) -> TestOutcome
     requires { ⌜ at + 146 ≤ length (now job) ⌝ }
     ensures { λ (r : TestOutcome). ⌜ ((w : List ℤ) → Performs (makerAt Operation.LoadOn (now (job .entry)) at) w (testOf r)) ⌝ }
 {
-    let radius = read_unsigned(job, at + 134);
     let interval = read_interval(job, at + 138);
-    let m = read_model(job, at + 1, radius, interval);
-    untested(model::load::load(m))
+    load_block(job, at, interval)
 }
 
 fn add(job: &[u8], at: usize, work: &[i32]) -> TestOutcome

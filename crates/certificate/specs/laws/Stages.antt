@@ -118,16 +118,17 @@ standard-good i c e = candidate-good standardInterval c refl ∙ both-true (part
 pub candidate-fault : (i : Interval) (c : Candidate) → partsWithinLimits (c .degree) (c .coefficients) 0 ≡ false → 2 ≡ fault (candidateModel i c)
 candidate-fault i c e = rw e (by (goodEnds i))
   where
-    by : (t : Bool) → 2 ≡ cond t 2 2
+    by : (t : Bool) → _≡_ {A = ℕ} 2 (cond t 2 2)
     by true = refl
     by false = refl
 
 pub fault-not : (m : Model) (n : ℕ) → 2 ≢ n → 18 ≢ n → fault m ≢ n
-fault-not m n h k = by (withinLimits m)
+fault-not m n h k = by (goodEnds (m .interval)) (withinLimits m)
   where
-    by : (t : Bool) → cond t 18 2 ≢ n
-    by true = k
-    by false = h
+    by : (s t : Bool) → cond s 2 (cond t 18 2) ≢ n
+    by true t = h
+    by false true = k
+    by false false = h
 
 -- m, N and b do not ask where T_k is taken
 module _ (i : Interval) where

@@ -1,11 +1,11 @@
 -- `operations::load` meets its contract.
 use borrow.Author.Needs.{needs}
-use mathlib.Core.Path.{ap, ap₂, sym, _∙_}
+use mathlib.Core.Path.{ap, sym, _∙_}
 use Prim.Native.Nat.{_+_}
 use denote.Ref.{now}
 use Rattle.model.specs.definitions.Load.{loading}
-use Rattle.job.specs.definitions.Bytes.{blockAt, unsignedAt}
 use Rattle.model.specs.definitions.Intervals.{standardInterval}
+use Rattle.job.specs.definitions.Bytes.{blockAt, unsignedAt}
 use Rattle.job.specs.definitions.Decode.{makerAt}
 use Rattle.job.specs.definitions.InnerContracts.{untestedOutcome}
 use Rattle.job.specs.laws.MakerLaws.{load-operation}
@@ -16,16 +16,12 @@ use Rattle.job.proofs.operations.load.Tie as tie
 returns : tie.Need-returns
 unfolding makerAt
 returns c =
-    let l = c .before in
-    let r = l .before in
-    let i = r .before in
-    let u = i .before in
-    let g = u .before .before .args in
-    let job = now (g .job) in
-    let m = blockAt job (g .at + 1) (unsignedAt job (g .at + 134)) standardInterval in
-    let e = r .read-model .ensures ∙ ap₂ (blockAt job (g .at + 1)) (u .read-unsigned .ensures) (i .standard .ensures) in
-    λ w. performs-untested (loading m) (c .untested .ensures ∙ ap untestedOutcome (l .load .ensures ∙ ap loading e)) (loading-storable m)
+    let i = c .before in
+    let g = i .before .before .args in
+    let block = blockAt (now (g .job)) (g .at + 1) (unsignedAt (now (g .job)) (g .at + 134)) in
+    let m = block standardInterval in
+    λ w. performs-untested (loading m) (c .load-block .ensures ∙ ap (λ i. untestedOutcome (loading (block i))) (i .standard .ensures)) (loading-storable m)
     (λ count rs t h n. sym (load-operation m rs))
 
 pub load-spec : {M : Type 1} → statement M
-load-spec = tie.close (tie.spec (λ c. search needs) (λ c κs. search needs) (λ c κs. search needs) (λ c. search needs) (λ c κs. search needs) (λ c κs. search needs) (λ c κs. search needs) returns)
+load-spec = tie.close (tie.spec (λ c κs. search needs) (λ c κs. search needs) returns)

@@ -1,6 +1,6 @@
 -- `operations::load_on` meets its contract.
 use borrow.Author.Needs.{needs}
-use mathlib.Core.Path.{ap, ap₂, sym, _∙_}
+use mathlib.Core.Path.{ap, sym, _∙_}
 use Prim.Native.Nat.{_+_}
 use denote.Ref.{now}
 use Rattle.model.specs.definitions.Load.{loading}
@@ -15,16 +15,12 @@ use Rattle.job.proofs.operations.load_on.Tie as tie
 returns : tie.Need-returns
 unfolding makerAt
 returns c =
-    let l = c .before in
-    let r = l .before in
-    let i = r .before in
-    let u = i .before in
-    let g = u .before .before .args in
-    let job = now (g .job) in
-    let m = blockAt job (g .at + 1) (unsignedAt job (g .at + 134)) (intervalAt job (g .at + 138)) in
-    let e = r .read-model .ensures ∙ ap₂ (blockAt job (g .at + 1)) (u .read-unsigned .ensures) (i .read-interval .ensures) in
-    λ w. performs-untested (loading m) (c .untested .ensures ∙ ap untestedOutcome (l .load .ensures ∙ ap loading e)) (loading-storable m)
+    let i = c .before in
+    let g = i .before .before .args in
+    let block = blockAt (now (g .job)) (g .at + 1) (unsignedAt (now (g .job)) (g .at + 134)) in
+    let m = block (intervalAt (now (g .job)) (g .at + 138)) in
+    λ w. performs-untested (loading m) (c .load-block .ensures ∙ ap (λ i. untestedOutcome (loading (block i))) (i .read-interval .ensures)) (loading-storable m)
     (λ count rs t h n. sym (load-operation m rs))
 
 pub load-on-spec : {M : Type 1} → statement M
-load-on-spec = tie.close (tie.spec (λ c. search needs) (λ c κs. search needs) (λ c. search needs) (λ c κs. search needs) (λ c. search needs) (λ c κs. search needs) (λ c κs. search needs) (λ c κs. search needs) returns)
+load-on-spec = tie.close (tie.spec (λ c. search needs) (λ c κs. search needs) (λ c κs. search needs) returns)
