@@ -1,6 +1,6 @@
 -- The walk of `integrate::rounded_integral` over the list ds = 2·a_0, a_1, … from the highest place down, for an interval of extent d.
 -- Coefficients are written as long as their weight is within its limit.
-use mathlib.Core.Path.{_≡_, sym, _∙_, ap, ap₂, subst}
+use mathlib.Core.Path.{_≡_, sym, _∙_, ap, ap₂}
 use mathlib.Core.List.{List, [], _∷_}
 use Prim.Native.Nat.{ℕ, suc, _+_, _*_, _-_, _<_, _≤_, _^_}
 use native.Mathlib.Nat.{mul-le-mul}
@@ -13,8 +13,6 @@ use mir.Syntax.{w32}
 use mir.Val.{SFits}
 use Rattle.integer.specs.definitions.Rounding.{near}
 use Rattle.integer.specs.laws.Filling.{drop-replicate}
-use Rattle.integer.specs.laws.NearLaws.{near-within}
-use Rattle.integer.specs.laws.Parts.{abs-mul, abs-sub}
 use Rattle.integer.specs.laws.Machine.{abs-fits}
 use Rattle.chebyshev.specs.definitions.Coefficients.{weight}
 use Rattle.chebyshev.specs.laws.Weight.{weight-step, weight-take, weight-drop, weight-at}
@@ -125,14 +123,6 @@ small {d} {ds} {k = k} w l h = record {
 -- a number counted in a weight within its limit
 pub narrow : (c : ℤ) (total m : ℕ) → m ≡ natAbs c → total + m ≤ maxWeight → SFits w32 c
 narrow c total m e h = abs-fits w32 c (omega (arith, e))
-
--- on an extent up to 4S every coefficient fits 32 bits
-pub coefficient-narrow : {below above : ℤ} {d k : ℕ} → Numerator below above d k → d ≤ 4 * scale
-    → natAbs (near ((below -ℤ above) *ℤ pos d) (4 * scale * k)) ≤ 2 ^ 30
-coefficient-narrow {below} {above} {d} {k} n h =
-    near-within ((below -ℤ above) *ℤ pos d) (4 * scale * k) (2 ^ 30) (omega (arith, n .some))
-    (subst (λ (m : ℕ). m ≤ 2 ^ 30 * (4 * scale * k)) (sym (abs-mul (below -ℤ above) (pos d)))
-    (mul-le-mul (omega (arith, abs-sub below above, n)) (omega (arith, n .some))))
 
 -- ---- the list up to a degree, and a turn over it
 

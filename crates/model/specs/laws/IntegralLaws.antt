@@ -1,10 +1,10 @@
 -- The integral's numbers from the list ds = 2·a_0, a_1, …: place by place, and their sizes.
-use mathlib.Core.Path.{_≡_, refl, _∙_, ap}
+use mathlib.Core.Path.{_≡_, refl, sym, _∙_, ap, subst}
 use mathlib.Core.Bool.{true, or-true}
 use mathlib.Core.List.{List, [], _∷_, _++_}
-use Prim.Native.Nat.{ℕ, zero, suc, _+_, _*_, _-_, _<_, _≤_}
+use Prim.Native.Nat.{ℕ, zero, suc, _+_, _*_, _-_, _^_, _<_, _≤_}
 use native.Mathlib.Omega.{arith}
-use native.Mathlib.Nat.{mul-le-mul-right}
+use native.Mathlib.Nat.{mul-le-mul, mul-le-mul-right}
 use lib.IntN.{ℤ, pos, natAbs, _-ℤ_, _*ℤ_}
 use lib.ListN.{length, getD, take, drop, set, replicate, length-drop}
 use borrow.Author.Tests.{lt-ltb}
@@ -12,11 +12,12 @@ use lib.Seq.{getD-drop}
 use Rattle.integer.specs.laws.Parts.{abs-sub, abs-mul}
 use Rattle.integer.specs.definitions.Integer.{ℤ-ring}
 use Rattle.integer.specs.definitions.Rounding.{near, upℕ}
+use Rattle.integer.specs.laws.NearLaws.{near-within}
 use Rattle.integer.specs.laws.RoundingSize.{near-size}
 use Rattle.chebyshev.specs.definitions.Coefficients.{weight, subtractLists}
 use Rattle.chebyshev.specs.laws.CoefficientLaws.{length-subtract, getD-subtract}
 use Rattle.chebyshev.specs.laws.Weight.{weight-subtract, weight-drop, weight-append-zeros}
-use Rattle.model.specs.definitions.InnerContracts.{formedOutcome, roundedIntegral, roundedTail, unlessLarge}
+use Rattle.model.specs.definitions.InnerContracts.{Numerator, formedOutcome, roundedIntegral, roundedTail, unlessLarge}
 use Rattle.model.specs.definitions.Models.{scale, maxDegree, maxWeight, coefficientCount, terms, good, tooLarge, zeroModel}
 use Rattle.model.specs.definitions.Intervals.{extent}
 use Rattle.model.specs.definitions.Outcomes.{refused, passing}
@@ -118,3 +119,11 @@ integration-formed a cs w e g f =
 pub integration-degree : (a : Model) → good a ≡ true → maxDegree ≤ a .degree → refused 3 zeroModel ≡ integration a
 unfolding integration integralModel tooLarge passing
 integration-degree a e h = rw (e, lt-ltb maxDegree (a .degree + 1) (omega arith)) (simp or-true)
+
+-- on an extent up to 4S every coefficient fits 32 bits
+pub coefficient-narrow : {below above : ℤ} {d k : ℕ} → Numerator below above d k → d ≤ 4 * scale
+    → natAbs (near ((below -ℤ above) *ℤ pos d) (4 * scale * k)) ≤ 2 ^ 30
+coefficient-narrow {below} {above} {d} {k} n h =
+    near-within ((below -ℤ above) *ℤ pos d) (4 * scale * k) (2 ^ 30) (omega (arith, n .some))
+    (subst (λ (m : ℕ). m ≤ 2 ^ 30 * (4 * scale * k)) (sym (abs-mul (below -ℤ above) (pos d)))
+    (mul-le-mul (omega (arith, abs-sub below above, n)) (omega (arith, n .some))))

@@ -14,7 +14,8 @@ use borrow.Author.Tests.{ltb-false}
 use Rattle.integer.specs.definitions.Rounding.{near}
 use Rattle.model.specs.definitions.Models.{scale, maxWeight}
 use Rattle.integer.specs.laws.Machine.{abs-fits, fits-widens, signed-needs}
-use Rattle.model.proofs.IntegralWalk.{Walk, begins, turn, ends, narrow, coefficient-narrow, length-list, bounded, inside, below-is, numerator}
+use Rattle.model.specs.laws.IntegralLaws.{coefficient-narrow}
+use Rattle.model.proofs.IntegralWalk.{Walk, begins, turn, ends, narrow, length-list, bounded, inside, below-is, numerator}
 use Rattle.model.proofs.integrate.rounded_integral.Statement.{statement}
 use Rattle.model.proofs.integrate.rounded_integral.Tie as tie
 
@@ -26,7 +27,6 @@ Inv-loop degree doubled extent wide coefficients₀ weight₀ first₀ above₀ 
 abbrev μ-loop : tie.MeasureT-loop
 μ-loop degree doubled extent wide coefficients₀ weight₀ first₀ above₀ here₀ k₀ coefficients weight first above here k = k
 
--- the list that is integrated
 module _ (s : tie.Start Inv-loop μ-loop) where
   abbrev ds : List ℤ
   ds = take (suc (s .args .degree)) (s .args .doubled .now)
