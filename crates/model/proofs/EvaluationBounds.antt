@@ -12,8 +12,7 @@ use Rattle.integer.specs.laws.Parts.{abs-add, abs-sub, abs-mul}
 use Rattle.integer.specs.laws.Machine.{abs-fits}
 use Rattle.integer.specs.definitions.Rounding.{floor, up}
 use Rattle.integer.specs.laws.RoundingSize.{floor-size, up-size}
-use Rattle.chebyshev.specs.definitions.Coefficients.{lipschitzWeight}
-use Rattle.model.specs.definitions.InnerContracts.{Evaluable, Weighable}
+use Rattle.model.specs.definitions.InnerContracts.{Evaluable}
 use Rattle.model.specs.definitions.Models.{scale, coefficientCount, terms, good}
 use Rattle.model.specs.laws.ModelLaws.{Good, good-is}
 use Rattle.model.specs.laws.GoodLaws.{length-terms, weight-terms}
@@ -41,9 +40,6 @@ module _ (a : Model) (passed : good a ≡ true) where
 
     pub evaluable : length (a .coefficients) ≡ coefficientCount → Evaluable (a .degree) (a .coefficients) q
     evaluable all = record { all = all; degree-fits = good-is a passed .degree-fits; light = good-is a passed .weight-fits; inside = mapped-small }
-
-  pub weighable : length (a .coefficients) ≡ coefficientCount → Weighable (a .degree) (a .coefficients)
-  weighable all = record { all = all; degree-fits = good-is a passed .degree-fits; light = good-is a passed .weight-fits }
 
 module _ {a : Model} {p v : ℤ} {w : ℕ} (s : Sums a p v w) where
   is-good : Good a

@@ -1,15 +1,15 @@
 // Evaluate at p/S: a pass over the coefficients forms V and W, from which the bounds are taken.
 ghost use mathlib.Core.Path.{_≡_};
-ghost use Prim.Native.Nat.{suc};
+ghost use Prim.Native.Nat.{suc, _≤_};
 ghost use lib.ListN.{take};
-ghost use Rattle.model.specs.definitions.InnerContracts.{Evaluable, Weighable};
+ghost use Rattle.model.specs.definitions.InnerContracts.{Evaluable, errorFactor, errorFrom};
 ghost use mathlib.Core.Bool.{true};
 ghost use Rattle.model.specs.definitions.Intervals.{goodEnds};
-ghost use Rattle.model.specs.definitions.Evaluate.{pointSum, pointError, mappedPoint, mapsExactly, growth as growthOf};
+ghost use Rattle.model.specs.definitions.Evaluate.{pointSum, mappedPoint, mapsExactly};
+ghost use Rattle.model.specs.definitions.Models.{maxDegree};
 ghost use Rattle.model.specs.definitions.Evaluate.{boundsOf, evaluation};
 use crate::measure::fault_of;
 use crate::measure::is_good;
-use crate::measure::lipschitz;
 use crate::types::BoundsOutcome;
 use crate::types::COEFFICIENTS;
 use crate::types::Interval;
@@ -55,22 +55,24 @@ fn map_point(i: Interval, p: i32) -> MappedPoint
     }
 }
 
-// What W grows by.
-fn growth(exact: bool, degree: u32, coefficients: &[i32; COEFFICIENTS]) -> u64
-    requires { ⌜ Weighable degree (now coefficients) ⌝ }
-    ensures { λ r. ⌜ r ≡ growthOf exact (take (suc degree) (now (coefficients .entry))) ⌝ }
+// What |a_k| counts for in W.
+fn error_factor(k: usize, exact: bool) -> u64
+    requires { ⌜ k ≤ maxDegree ⌝ }
+    ensures { λ r. ⌜ r ≡ errorFactor exact k ⌝ }
 {
+    let square = k * k;
     if exact {
-        return 0;
+        (square - k) as u64
+    } else {
+        (2049 * square - k) as u64
     }
-    2048 * lipschitz(degree, coefficients)
 }
 
 // One pass over the coefficients up to the degree, with t_k and t_(k+1) at hand.
-fn point_sums(degree: u32, coefficients: &[i32; COEFFICIENTS], p: i64) -> PointSums
+fn point_sums(degree: u32, coefficients: &[i32; COEFFICIENTS], p: i64, exact: bool) -> PointSums
     requires { ⌜ Evaluable degree (now coefficients) p ⌝ }
     ensures { λ (r : PointSums). ⌜ r .value ≡ pointSum p 0 (take (suc degree) (now (coefficients .entry))) ⌝ }
-    ensures { λ (r : PointSums). ⌜ r .error ≡ pointError 0 (take (suc degree) (now (coefficients .entry))) ⌝ }
+    ensures { λ (r : PointSums). ⌜ r .error ≡ errorFrom exact 0 (take (suc degree) (now (coefficients .entry))) ⌝ }
 {
     let n = degree as usize;
     let mut value: i64 = 0;
@@ -82,7 +84,7 @@ fn point_sums(degree: u32, coefficients: &[i32; COEFFICIENTS], p: i64) -> PointS
         let c = coefficients[k] as i64;
         value += c * t;
         let size = integer::absolute::magnitude(c);
-        error += size * ((k * k - k) as u64);
+        error += size * error_factor(k, exact);
         let after = integer::rounding::near(2 * p * next, Model::SCALE) - t;
         t = next;
         next = after;
@@ -97,10 +99,9 @@ pub fn evaluate(a: Model, p: i32) -> BoundsOutcome
     if is_good(a) {
         if Interval::contains(a.interval, p) {
             let mapped = map_point(a.interval, p);
-            let sums = point_sums(a.degree, &a.coefficients, mapped.point);
+            let sums = point_sums(a.degree, &a.coefficients, mapped.point, mapped.exact);
             let value = 4 * sums.value;
-            let more = growth(mapped.exact, a.degree, &a.coefficients);
-            let error = (sums.error + more) as i64;
+            let error = sums.error as i64;
             let radius = a.radius as i64;
             let low = integer::rounding::floor(value - error, SUM_SCALE) - radius;
             let high = integer::rounding::up(value + error, SUM_SCALE) + radius;

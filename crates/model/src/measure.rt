@@ -1,9 +1,8 @@
 // The test for a good model, and the weight, in one pass over the coefficients.
 ghost use mathlib.Core.Path.{_≡_};
-ghost use Prim.Native.Nat.{suc, _<_, _^_};
-ghost use lib.ListN.{length, take};
-ghost use Rattle.chebyshev.specs.definitions.Coefficients.{weight, lipschitzWeight};
-ghost use Rattle.model.specs.definitions.InnerContracts.{Weighable};
+ghost use Prim.Native.Nat.{_<_, _^_};
+ghost use lib.ListN.{length};
+ghost use Rattle.chebyshev.specs.definitions.Coefficients.{weight};
 ghost use Rattle.model.specs.definitions.Models.{coefficientCount, partsWithinLimits, withinLimits, good, fault};
 ghost use Rattle.model.specs.definitions.Outcomes.{numberOf};
 use crate::types::COEFFICIENTS;
@@ -105,21 +104,6 @@ pub fn fault_of(m: Model) -> Refusal
     } else {
         Refusal::BadModel
     }
-}
-
-// The sum of |a_k|·k² up to the degree.
-pub(crate) fn lipschitz(degree: u32, coefficients: &[i32; COEFFICIENTS]) -> u64
-    requires { ⌜ Weighable degree (now coefficients) ⌝ }
-    ensures { λ r. ⌜ r ≡ lipschitzWeight 0 (take (suc degree) (now (coefficients .entry))) ⌝ }
-{
-    let n = degree as usize;
-    let mut total: u64 = 0;
-    let mut k: usize = 0;
-    while k <= n {
-        total += integer::absolute::magnitude(coefficients[k] as i64) * ((k * k) as u64);
-        k += 1;
-    }
-    total
 }
 
 // The sum of the absolute values of a list.

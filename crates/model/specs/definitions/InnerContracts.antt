@@ -1,6 +1,6 @@
 -- What inner functions ask of their callers and answer to them. The contracts of the entries do not speak of this.
 use mathlib.Core.Path.{_≡_}
-use mathlib.Core.Bool.{true, _||_}
+use mathlib.Core.Bool.{Bool, true, cond, _||_}
 use mathlib.Core.List.{List, [], _∷_, _++_}
 use Prim.Native.Nat.{ℕ, suc, _+_, _*_, _-_, _^_, _≤_, _<_, max}
 use lib.Dec.{ltb}
@@ -57,12 +57,6 @@ pub record Evaluable (degree : ℕ) (coefficients : List ℤ) (p : ℤ) : Type 0
   pub light : weight coefficients ≤ maxWeight
   pub inside : natAbs p ≤ scale
 
--- a degree and coefficients of a good model
-pub record Weighable (degree : ℕ) (coefficients : List ℤ) : Type 0 where
-  pub all : length coefficients ≡ coefficientCount
-  pub degree-fits : degree ≤ maxDegree
-  pub light : weight coefficients ≤ maxWeight
-
 -- the list 2·a_0, a_1, … of a model that has an integral, and the extent of its interval
 pub record Integrable (degree : ℕ) (doubled : List ℤ) (extent : ℕ) : Type 0 where
   pub all : length doubled ≡ coefficientCount
@@ -118,6 +112,16 @@ pub record RoundedFrom (d : ℕ) (c : List ℤ) (n : ℕ) (r : Rounded) : Type 0
   pub loss-is : r .loss ≡ roundingLoss d (take n c) + weight (drop n c)
   pub coefficients-are : r .weight ≤ maxWeight
       → r .coefficients ≡ rounded d (take n c) ++ replicate (coefficientCount - n) (pos 0)
+
+-- ---- W in one sum, whether the point was mapped exactly or not
+
+-- what |a_k| counts for
+abbrev pub errorFactor : Bool → ℕ → ℕ
+errorFactor exact k = k * (k - 1) + cond exact 0 (2 ^ 11 * (k * k))
+
+unfoldable pub errorFrom : Bool → ℕ → List ℤ → ℕ
+errorFrom exact k [] = 0
+errorFrom exact k (a ∷ rest) = natAbs a * errorFactor exact k + errorFrom exact (suc k) rest
 
 -- ---- the integral from the list ds = 2·a_0, a_1, …
 

@@ -1,6 +1,6 @@
 -- Sizes of t_k, V and W of an evaluation, and a point that is accepted.
 use mathlib.Core.Path.{_≡_}
-use mathlib.Core.Bool.{Bool, true, false}
+use mathlib.Core.Bool.{Bool, true, false, cond}
 use mathlib.Core.List.{List, [], _∷_}
 use Prim.Native.Nat.{ℕ, suc, _+_, _*_, _-_, _^_, _≤_}
 use native.Mathlib.Nat.{mul-le-mul, mul-le-mul-left}
@@ -9,6 +9,7 @@ use lib.IntN.{ℤ, natAbs, _*ℤ_}
 use lib.ListN.{length}
 use Rattle.integer.specs.laws.Parts.{abs-add, abs-mul}
 use Rattle.chebyshev.specs.definitions.Coefficients.{weight, lipschitzWeight}
+use Rattle.model.specs.definitions.InnerContracts.{errorFrom}
 use Rattle.model.specs.definitions.Intervals.{contains}
 use Rattle.model.specs.definitions.Models.{scale, good}
 use Rattle.model.specs.definitions.Outcomes.{accepted, passing}
@@ -61,6 +62,23 @@ pub growth-size : (exact : Bool) (a : List ℤ) → growth exact a ≤ 2 ^ 11 * 
 unfolding growth
 growth-size true a = omega arith
 growth-size false a = omega arith
+
+-- W in one sum
+pub errors-are : (exact : Bool) (a : List ℤ) → errorFrom exact 0 a ≡ pointError 0 a + growth exact a
+unfolding growth errorFrom pointError lipschitzWeight
+errors-are exact a = from exact 0 a
+  where
+    from : (exact : Bool) (k : ℕ) (a : List ℤ) → errorFrom exact k a ≡ pointError k a + cond exact 0 (2 ^ 11 * lipschitzWeight k a)
+    from true k [] = omega arith
+    from false k [] = omega arith
+    from true k (c ∷ a) = omega (arith, from true (suc k) a)
+    from false k (c ∷ a) = go (natAbs c) (k * (k - 1)) (k * k) _ _ _ (from false (suc k) a)
+      where
+        go : (c t s e p l : ℕ) → e ≡ p + 2 ^ 11 * l → c * (t + 2 ^ 11 * s) + e ≡ c * t + p + 2 ^ 11 * (c * s + l)
+        go c t s e p l h = omega arith
+
+pub errors-size : (exact : Bool) (m : ℕ) (a : List ℤ) → length a ≤ suc m → errorFrom exact 0 a ≤ (m * (m - 1) + 2 ^ 11 * (m * m)) * weight a
+errors-size exact m a h = omega (arith, errors-are exact a, error-size 0 m a (omega arith), lipschitz-size 0 m a (omega arith), growth-size exact a)
 
 -- ---- a point that is accepted
 

@@ -15,10 +15,10 @@ use Rattle.model.specs.definitions.Intervals.{contains}
 use Rattle.model.specs.definitions.Models.{terms, good}
 use Rattle.model.specs.definitions.Outcomes.{accepted, passing}
 use Rattle.model.specs.laws.ModelLaws.{good-ends}
-use Rattle.model.specs.definitions.Evaluate.{mappedPoint, mapsExactly, growth, pointSum, errorSum, evaluation}
-use Rattle.model.specs.laws.EvaluationLaws.{evaluation-accepted}
+use Rattle.model.specs.definitions.Evaluate.{mappedPoint, mapsExactly, growth, pointSum, pointError, errorSum, evaluation}
+use Rattle.model.specs.laws.EvaluationLaws.{evaluation-accepted, errors-are}
 use Rattle.model.specs.declared.types.Model.{Model}
-use Rattle.model.proofs.EvaluationBounds.{fits-mapped, evaluable, weighable, Sums, error-small, error-word, radius-word, fits-value, fits-fourfold, fits-below, fits-above, low, high}
+use Rattle.model.proofs.EvaluationBounds.{fits-mapped, evaluable, Sums, error-small, error-word, radius-word, fits-value, fits-fourfold, fits-below, fits-above, low, high}
 use Rattle.model.proofs.evaluate.evaluate.Statement.{statement}
 use Rattle.model.proofs.evaluate.evaluate.Tie as tie
 
@@ -77,48 +77,44 @@ module _ (k : tie.After-point-sums) where
     error-is = e;
   }
 
-module _ (g : tie.After-growth) where
-  abbrev k : tie.After-point-sums
-  k = g .before .before .before .before .before
-
   abbrev w : ℕ
-  w = k .point-sums .result .error + g .growth .result
+  w = k .point-sums .result .error
 
-  sums : Sums (a (c (m k))) (p (c (m k))) (v k) w
-  sums = summed k w (ap₂ _+_ (k .point-sums .ensures .1) (g .growth .ensures ∙ ap (λ e. growth e (terms (a (c (m k))))) (exact-is (m k))))
+  sums : Sums (a (c m)) (p (c m)) v w
+  sums = summed w (k .point-sums .ensures .1 ∙ errors-are (m .map-point .result .exact) (terms (a (c m))) ∙ ap (λ e. pointError 0 (terms (a (c m))) + growth e (terms (a (c m)))) (exact-is m))
 
 module _ (f : tie.After-floor) where
-  abbrev g₁ : tie.After-growth
-  g₁ = f .before .before
+  abbrev k₁ : tie.After-point-sums
+  k₁ = f .before .before .before .before
 
   fits-floor : SFits w64 (f .floor .result)
   fits-floor = record { sfits = f .floor .ok }
 
-  floor-is : f .floor .result ≡ floor (pos 4 *ℤ v (k g₁) -ℤ pos (w g₁)) (2 ^ 32)
-  floor-is = let n = sums g₁ in simp (toZ-ofZ (fits-value n), toZ-ofZ (fits-fourfold n), error-word n, toZ-ofZ (fits-below n)) at (f .floor .ensures)
+  floor-is : f .floor .result ≡ floor (pos 4 *ℤ v k₁ -ℤ pos (w k₁)) (2 ^ 32)
+  floor-is = let n = sums k₁ in simp (toZ-ofZ (fits-value n), toZ-ofZ (fits-fourfold n), error-word n, toZ-ofZ (fits-below n)) at (f .floor .ensures)
 
 module _ (u : tie.After-up) where
-  abbrev g₂ : tie.After-growth
-  g₂ = g₁ (u .before)
+  abbrev k₂ : tie.After-point-sums
+  k₂ = k₁ (u .before)
 
   fits-up : SFits w64 (u .up .result)
   fits-up = record { sfits = u .up .ok }
 
-  up-is : u .up .result ≡ up (pos 4 *ℤ v (k g₂) +ℤ pos (w g₂)) (2 ^ 32)
-  up-is = let n = sums g₂ in simp (toZ-ofZ (fits-value n), toZ-ofZ (fits-fourfold n), error-word n, toZ-ofZ (fits-above n)) at (u .up .ensures)
+  up-is : u .up .result ≡ up (pos 4 *ℤ v k₂ +ℤ pos (w k₂)) (2 ^ 32)
+  up-is = let n = sums k₂ in simp (toZ-ofZ (fits-value n), toZ-ofZ (fits-fourfold n), error-word n, toZ-ofZ (fits-above n)) at (u .up .ensures)
 
 sub-low : tie.Need-sub-low
-sub-low c = let n = sums (g₁ c) in simp (toZ-ofZ (fits-floor c), radius-word n) (low n _ (floor-is c) .0)
+sub-low c = let n = sums (k₁ c) in simp (toZ-ofZ (fits-floor c), radius-word n) (low n _ (floor-is c) .0)
 
 add-high : tie.Need-add-high
-add-high c = let n = sums (g₂ c) in simp (toZ-ofZ (fits-up c), radius-word n) (high n _ (up-is c) .0)
+add-high c = let n = sums (k₂ c) in simp (toZ-ofZ (fits-up c), radius-word n) (high n _ (up-is c) .0)
 
 returns : tie.Need-returns
 returns u =
-    let n = sums (g₂ u) in
+    let n = sums (k₂ u) in
     let (fits-low, low-is) = low n _ (floor-is (u .before)) in
     let (fits-high, high-is) = high n _ (up-is u) in
-    let c = c (m (k (g₂ u))) in
+    let c = c (m (k₂ u)) in
     simp (toZ-ofZ (fits-floor (u .before)), toZ-ofZ (fits-up u), radius-word n, toZ-ofZ fits-low, toZ-ofZ fits-high, evaluation-accepted (a c) (p c) (passed c) (n .inside))
     (λ i. accepted (record { low = low-is i; high = high-is i }))
 
@@ -137,9 +133,8 @@ evaluate-spec =
     (λ k κs. let m = k .before .before .before in
     let x = c m in simp (toZ-ofZ (fits-q m)) (evaluable (a x) (passed x) (p x) (q m) (inside m) (point-is m) (search needs)))
     (λ d. let n = summed (d .before .before) _ refl in simp (toZ-ofZ (fits-value n)) (fits-fourfold n))
-    (λ d κs. let x = c (m (d .before .before .before .before)) in weighable (a x) (passed x) (search needs))
-    (λ c. omega (arith, error-small (sums (c .before)))) (λ c. abs-fits w64 _ (omega (arith, error-small (sums (c .before))))) (λ c. search needs)
-    (λ c. let n = sums (c .before) in simp (toZ-ofZ (fits-value n), toZ-ofZ (fits-fourfold n), error-word n) (fits-below n))
+    (λ c. abs-fits w64 _ (omega (arith, error-small (sums (c .before .before .before))))) (λ c. search needs)
+    (λ c. let n = sums (c .before .before .before) in simp (toZ-ofZ (fits-value n), toZ-ofZ (fits-fourfold n), error-word n) (fits-below n))
     (λ c κs. search needs) sub-low
-    (λ c. let n = sums (g₁ c) in simp (toZ-ofZ (fits-value n), toZ-ofZ (fits-fourfold n), error-word n) (fits-above n))
+    (λ c. let n = sums (k₁ c) in simp (toZ-ofZ (fits-value n), toZ-ofZ (fits-fourfold n), error-word n) (fits-above n))
     (λ c κs. search needs) add-high (λ c κs. search needs) returns returns-2 returns-3)
