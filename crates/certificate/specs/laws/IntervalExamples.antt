@@ -3,12 +3,12 @@
 use mathlib.Core.Path.{_≡_, refl, ap}
 use mathlib.Core.List.{_∷_}
 use Prim.Native.Nat.{ℕ}
-use lib.IntN.{pos, negsuc}
+use lib.IntN.{pos}
 use lib.ListN.{replicate}
 use Rattle.integer.specs.definitions.Rounding.{upℕ}
 use Rattle.chebyshev.specs.definitions.Coefficients.{weight, addLists, subtractLists, scaleList, coefficientSum}
 use Rattle.chebyshev.specs.definitions.Product.{product, addAtBy, addPairBy, addTermBy, addTermsBy}
-use Rattle.model.specs.definitions.Intervals.{makeInterval, goodEnds, sameInterval}
+use Rattle.model.specs.definitions.Intervals.{goodEnds, sameInterval}
 use Rattle.model.specs.definitions.Models.{partsWithinLimits, good, tooLarge, makeModel, zeroModel}
 use Rattle.model.specs.definitions.Multiply.{productList}
 use Rattle.model.specs.definitions.Outcomes.{accepted, refused, passing}
@@ -16,6 +16,7 @@ use Rattle.radius.specs.laws.SearchLaws.{no-displacement}
 use Rattle.model.specs.declared.types.Candidate.{Candidate}
 use Rattle.model.specs.declared.types.Interval.{Interval}
 use Rattle.model.specs.declared.types.Model.{Model}
+use Rattle.model.specs.laws.IntervalExamples.{stretch, shifted, onePoint}
 use Rattle.certificate.specs.definitions.Tests.{makeCertificate, zeroCertificate, displacement}
 use Rattle.certificate.specs.definitions.Root.{rootTest, rootNeeding, rootPlaces, rootContraction, rootResidual, rootModel}
 use Rattle.certificate.specs.definitions.Quotient.{quotientTest, quotientNeeding, quotientContraction, quotientResidual, quotientModel}
@@ -26,16 +27,6 @@ use Rattle.certificate.specs.laws.TightExamples.{answering}
 -- a constant with a radius on an interval
 abbrev constantOn : ℕ → ℕ → Interval → Model
 constantOn c e i = makeModel 0 (pos c ∷ replicate 32 (pos 0)) e i
-
--- −1 and 7, the same length shifted, and ends that are equal
-abbrev stretch : Interval
-stretch = makeInterval (negsuc 0) (pos 7)
-
-abbrev shifted : Interval
-shifted = makeInterval (pos 0) (pos 8)
-
-abbrev onePoint : Interval
-onePoint = makeInterval (pos 5) (pos 5)
 
 -- of degree 33
 abbrev bad : Candidate

@@ -15,7 +15,18 @@ use Rattle.model.specs.definitions.Models.{partsWithinLimits, good, tooL
 use Rattle.model.specs.definitions.Multiply.{multiplication}
 use Rattle.model.specs.definitions.Outcomes.{accepted, refused, passing}
 use Rattle.model.specs.laws.Examples.{padded}
+use Rattle.model.specs.declared.types.Interval.{Interval}
 use Rattle.model.specs.declared.types.Model.{Model}
+
+-- −1 and 7, the same extent shifted, and ends that are equal: for the examples of other crates too
+abbrev pub stretch : Interval
+stretch = makeInterval (negsuc 0) (pos 7)
+
+abbrev pub shifted : Interval
+shifted = makeInterval (pos 0) (pos 8)
+
+abbrev pub onePoint : Interval
+onePoint = makeInterval (pos 5) (pos 5)
 
 -- a constant, and S·T_1, on an interval
 abbrev constantOn : ℤ → ℤ → ℤ → Model
@@ -39,14 +50,14 @@ unfolding loading passing good partsWithinLimits goodEnds zeroModel weight
 ends-tested = (refl, refl, refl, refl, refl, refl)
 
 -- 19, behind every model's 2 and 18, and before the kept degree's 9
-abbrev pub Apart : Type 0
-Apart =
+abbrev pub Different : Type 0
+Different =
     (addition (constantOn (pos 1) (pos 0) (pos 9)) (constantOn (pos 1) (pos 0) (pos 8)) ≡ refused 19 zeroModel)
     × (addition (constantOn (pos 1) (pos 0) (pos 9)) (constantOn (pos 1) (pos 8) (pos 8)) ≡ refused 18 zeroModel)
     × (multiplication 40 (constantOn (pos 1) (pos 0) (pos 9)) (constantOn (pos 1) (pos 1) (pos 9)) ≡ refused 19 zeroModel)
     × (multiplication 40 (constantOn (pos 1) (pos 0) (pos 9)) (constantOn (pos 1) (pos 0) (pos 9)) ≡ refused 9 zeroModel)
 
-pub different-refused : Apart
+pub different-refused : Different
 unfolding addition multiplication passing good partsWithinLimits goodEnds sameInterval zeroModel weight
 different-refused = (refl, refl, refl, refl)
 

@@ -1,14 +1,15 @@
 -- Document 02, S-24, in the makers, computed from the definitions: 18 and 19, before 15.
 use mathlib.Core.Path.{_≡_, refl}
-use lib.IntN.{pos, negsuc}
+use lib.IntN.{pos}
 use lib.ListN.{replicate}
 use lib.Ieee.{div, round, eq, ofInt}
 use Rattle.chebyshev.specs.definitions.Coefficients.{weight}
-use Rattle.model.specs.definitions.Intervals.{makeInterval, goodEnds, sameInterval}
+use Rattle.model.specs.definitions.Intervals.{goodEnds, sameInterval}
 use Rattle.model.specs.definitions.Models.{partsWithinLimits, good, makeModel}
 use Rattle.model.specs.definitions.Outcomes.{refused, passing}
 use Rattle.model.specs.declared.types.Interval.{Interval}
 use Rattle.model.specs.declared.types.Model.{Model}
+use Rattle.model.specs.laws.IntervalExamples.{stretch, shifted, onePoint}
 use Rattle.proposals.specs.definitions.Values.{valueOf}
 use Rattle.proposals.specs.definitions.Reciprocal.{reciprocalRounds, refusedReciprocal, reciprocalProposal}
 use Rattle.proposals.specs.definitions.Quotient.{refusedQuotient, quotientProposal}
@@ -16,16 +17,6 @@ use Rattle.proposals.specs.definitions.Quotient.{refusedQuotient, quotie
 -- the model 0, of which no reciprocal is made
 abbrev zeroOn : Interval → Model
 zeroOn i = makeModel 0 (replicate 33 (pos 0)) 0 i
-
--- −1 and 7, the same length shifted, and ends that are equal
-abbrev stretch : Interval
-stretch = makeInterval (negsuc 0) (pos 7)
-
-abbrev shifted : Interval
-shifted = makeInterval (pos 0) (pos 8)
-
-abbrev onePoint : Interval
-onePoint = makeInterval (pos 5) (pos 5)
 
 -- 18 before 15, and 15 on an interval whose ends are good
 abbrev pub Reciprocals : Type 0

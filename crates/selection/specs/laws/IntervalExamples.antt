@@ -7,7 +7,7 @@ use lib.ListN.{replicate, take}
 use Rattle.integer.specs.definitions.Rounding.{upℕ}
 use Rattle.chebyshev.specs.definitions.Coefficients.{weight, addLists, subtractLists, scaleList}
 use Rattle.chebyshev.specs.definitions.Product.{product, addAtBy, addPairBy, addTermBy, addTermsBy}
-use Rattle.model.specs.definitions.Intervals.{makeInterval, goodEnds, sameInterval}
+use Rattle.model.specs.definitions.Intervals.{goodEnds, sameInterval}
 use Rattle.model.specs.definitions.Models.{partsWithinLimits, good, tooLarge, makeModel, zeroModel}
 use Rattle.model.specs.definitions.Multiply.{productList}
 use Rattle.model.specs.definitions.Outcomes.{accepted, refused, passing}
@@ -15,19 +15,10 @@ use Rattle.model.specs.declared.types.Interval.{Interval}
 use Rattle.model.specs.declared.types.Model.{Model}
 use Rattle.certificate.specs.definitions.Tests.{displacement}
 use Rattle.certificate.specs.definitions.Quotient.{quotientNeeding, quotientContraction, quotientResidual, quotientModel}
+use Rattle.model.specs.laws.IntervalExamples.{stretch, shifted, onePoint}
 use Rattle.selection.specs.definitions.Proposal.{proposalNeeding}
 use Rattle.selection.specs.definitions.Select.{makeSelected, tighter, selection}
 use Rattle.selection.specs.laws.Examples.{proposal, w}
-
--- −1 and 7, the same length shifted, and ends that are equal
-abbrev stretch : Interval
-stretch = makeInterval (negsuc 0) (pos 7)
-
-abbrev shifted : Interval
-shifted = makeInterval (pos 0) (pos 8)
-
-abbrev onePoint : Interval
-onePoint = makeInterval (pos 5) (pos 5)
 
 -- 2 and 3 on an interval
 abbrev f : Interval → Model
