@@ -1,13 +1,12 @@
 // Evaluate at p/S: a pass over the coefficients forms V and W, from which the bounds are taken.
 ghost use mathlib.Core.Path.{_≡_};
+ghost use mathlib.Core.Bool.{true};
 ghost use Prim.Native.Nat.{suc, _≤_};
 ghost use lib.ListN.{take};
 ghost use Rattle.model.specs.definitions.InnerContracts.{Evaluable, errorFactor, errorFrom};
-ghost use mathlib.Core.Bool.{true};
 ghost use Rattle.model.specs.definitions.Intervals.{goodEnds};
-ghost use Rattle.model.specs.definitions.Evaluate.{pointSum, mappedPoint, mapsExactly};
 ghost use Rattle.model.specs.definitions.Models.{maxDegree};
-ghost use Rattle.model.specs.definitions.Evaluate.{boundsOf, evaluation};
+ghost use Rattle.model.specs.definitions.Evaluate.{pointSum, mappedPoint, mapsExactly, boundsOf, evaluation};
 use crate::measure::fault_of;
 use crate::measure::is_good;
 use crate::types::BoundsOutcome;
@@ -55,7 +54,7 @@ fn map_point(i: Interval, p: i32) -> MappedPoint
     }
 }
 
-// What |a_k| counts for in W.
+// What |a_k| counts for in W: k·(k-1), and 2^11·k² more where the point was rounded.
 fn error_factor(k: usize, exact: bool) -> u64
     requires { ⌜ k ≤ maxDegree ⌝ }
     ensures { λ r. ⌜ r ≡ errorFactor exact k ⌝ }
@@ -68,7 +67,7 @@ fn error_factor(k: usize, exact: bool) -> u64
     }
 }
 
-// One pass over the coefficients up to the degree, with t_k and t_(k+1) at hand.
+// One pass over the coefficients up to the degree, with t_k and t_(k+1) at hand; `exact` is whether p is the mapped point exactly.
 fn point_sums(degree: u32, coefficients: &[i32; COEFFICIENTS], p: i64, exact: bool) -> PointSums
     requires { ⌜ Evaluable degree (now coefficients) p ⌝ }
     ensures { λ (r : PointSums). ⌜ r .value ≡ pointSum p 0 (take (suc degree) (now (coefficients .entry))) ⌝ }
