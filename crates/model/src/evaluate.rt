@@ -67,7 +67,7 @@ fn error_factor(k: usize, exact: bool) -> u64
     }
 }
 
-// One pass over the coefficients up to the degree, with t_k and t_(k+1) at hand; `exact` is whether p is the mapped point exactly.
+// One pass over the coefficients up to the degree, with t_k and t_(k+1) at hand; `exact` is whether nothing was rounded in p.
 fn point_sums(degree: u32, coefficients: &[i32; COEFFICIENTS], p: i64, exact: bool) -> PointSums
     requires { ⌜ Evaluable degree (now coefficients) p ⌝ }
     ensures { λ (r : PointSums). ⌜ r .value ≡ pointSum p 0 (take (suc degree) (now (coefficients .entry))) ⌝ }
