@@ -6,14 +6,17 @@
                                 call (entry, case, version); for callgrind
      bench alone JOB..          the same with the library only, which may be an earlier one
                                 with other answers: it is compared with nothing.  Built with
-                                -DWITHOUT_QUOTIENT_OF_TWO, .. for one that has no such function
+                                -DWITHOUT_QUOTIENT_OF_TWO, .. for one that has no such function;
+                                one whose models have no ends takes the first 35 of their numbers,
+                                and has no case on another interval than the standard one
      bench time MILLISECONDS JOB..   best time of a call, versions taken in turn
      bench stack JOB..          bytes of stack that a call writes to
      bench former JOB..         the largest deviation that the former check finds
 
    count, time and stack first compare all answers and areas of the versions.  count and
    alone have the tests of every degree from 4 to 32, time and stack of 4, 8, 16 and 32.
-   The last JOB must hold a load and 31 roots; its first 1, 4 and 16 results are cases too. */
+   The last JOB must hold a load and 31 roots; its first 1, 4 and 16 results are cases too, and
+   so is the first JOB with its loads on another interval. */
 #define _POSIX_C_SOURCE 200809L
 #include "ferruntzo.h"
 #include "former.h"
@@ -130,12 +133,28 @@ static void fail(const char *what, const char *name)
     exit(1);
 }
 
+struct interval {
+    int32_t lower, upper;
+};
+
+static const struct interval standard = {-FERRUNTZO_S, FERRUNTZO_S};
+/* Seven seconds of machine time, on which the point of an evaluation is rounded. */
+static const struct interval seconds = {0, 7 * FERRUNTZO_S};
+
+static void put_ends(int32_t *model, const struct interval *interval)
+{
+    model[FERRUNTZO_PLACE_LOWER] = interval->lower;
+    model[FERRUNTZO_PLACE_UPPER] = interval->upper;
+}
+
 static struct bench_case *new_case(enum kind kind, const char *name, int number)
 {
     struct bench_case *one = &cases[case_count++];
     if (case_count == MAX_CASES)
         fail("too many cases", name);
     one->kind = kind;
+    put_ends(one->f, &standard);
+    put_ends(one->g, &standard);
     snprintf(one->name, sizeof one->name, number < 0 ? "%s" : "%s %d", name, number);
     return one;
 }
@@ -248,6 +267,17 @@ static void add_degree(int degree)
     geometric(series->series, degree, 4.0, 0.8, -0.7);
 }
 
+/* Integrate and evaluate on another interval. */
+static void add_degree_on(int degree)
+{
+    struct bench_case *integral = new_case(INTEGRATE, "integrate_on", degree);
+    geometric(integral->f, degree - 1, 4.0, 0.8, -0.7);
+    put_ends(integral->f, &seconds);
+    struct bench_case *value = new_case(EVALUATE, "evaluate_on", degree);
+    geometric(value->f, degree, 4.0, 0.8, -0.7);
+    put_ends(value->f, &seconds);
+}
+
 /* Both makers: a divisor of degree 32, a power of two, and one that is given up after 12 rounds. */
 static void add_makers(void)
 {
@@ -260,6 +290,7 @@ static void add_makers(void)
             if (i >= 0) {
                 memset(made->g, 0, sizeof made->g);
                 memcpy(made->g, divisors[i], sizeof divisors[i]);
+                put_ends(made->g, &standard);
             }
         }
     }
@@ -278,6 +309,51 @@ static struct bench_case *add_job(const char *path)
     job->with_former = 1;
     fclose(file);
     return job;
+}
+
+/* Bytes of a command that makes a result, its own byte included. */
+static size_t command_bytes(uint8_t byte)
+{
+    switch (byte) {
+    case FERRUNTZO_COMMAND_LOAD: return 1 + FERRUNTZO_BLOCK_BYTES + 4;
+    case FERRUNTZO_COMMAND_ADD:
+    case FERRUNTZO_COMMAND_SUBTRACT: return 3;
+    case FERRUNTZO_COMMAND_MULTIPLY: return 4;
+    case FERRUNTZO_COMMAND_QUOTIENT: return 3 + 2 * FERRUNTZO_BLOCK_BYTES;
+    default: return 2 + 2 * FERRUNTZO_BLOCK_BYTES;
+    }
+}
+
+/* The 4 bytes of an end. */
+static uint8_t *put_end(uint8_t *to, int32_t end)
+{
+    for (int shift = 0; shift < 32; shift += 8)
+        *to++ = (uint8_t)((uint32_t)end >> shift);
+    return to;
+}
+
+/* A job with each load by 0x14, on another interval. */
+static void add_job_on(const struct bench_case *job)
+{
+    uint8_t *bytes = malloc(job->job_len + 8 * FERRUNTZO_MAX_RESULTS), *to = bytes;
+    if (bytes == NULL)
+        fail("no memory", job->name);
+    memcpy(to, job->job, 2);
+    to += 2;
+    for (size_t at = 2; at < job->job_len;) {
+        uint8_t byte = job->job[at];
+        size_t length = byte == FERRUNTZO_COMMAND_END ? 1 : command_bytes(byte);
+        memcpy(to, job->job + at, length);
+        if (byte == FERRUNTZO_COMMAND_LOAD)
+            *to = FERRUNTZO_COMMAND_LOAD_ON;
+        to += length;
+        at += length;
+        if (byte == FERRUNTZO_COMMAND_LOAD)
+            to = put_end(put_end(to, seconds.lower), seconds.upper);
+    }
+    struct bench_case *changed = new_case(CHECK, "job_on", -1);
+    changed->job = bytes;
+    changed->job_len = (size_t)(to - bytes);
 }
 
 /* The first results of a job of a load and roots, and an end. */
@@ -408,6 +484,13 @@ static void compare_versions(void)
                 fail("the versions differ", cases[i].name);
         }
     }
+}
+
+/* Whether a model has ends: whether 36 numbers are too few for one. */
+static int has_ends(void)
+{
+    const struct bench_case *c = &cases[0];
+    return ferruntzo_add(c->f, FERRUNTZO_MODEL_SIZE - 1, WHOLE(c->g), WHOLE(lent.out)) == FERRUNTZO_SHORT_AREA;
 }
 
 /* ---- Modes ---- */
@@ -562,11 +645,16 @@ int main(int argc, char **argv)
     }
     add_longest_search();
     add_makers();
-    const struct bench_case *last = NULL;
+    const struct bench_case *job = &cases[case_count], *last = NULL;
     for (int i = first; i < argc; i++)
         last = add_job(argv[i]);
     for (int results = 1; results <= 16; results *= 4)
         add_prefix(last, results);
+    if (has_ends()) {
+        for (int degree = 4; degree <= FERRUNTZO_MAX_DEGREE; degree *= 2)
+            add_degree_on(degree);
+        add_job_on(job);
+    }
     if (!alone)
         compare_versions();
     if (logged)

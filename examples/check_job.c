@@ -47,8 +47,9 @@ static void put_block(struct job *job, unsigned degree, const int32_t *coefficie
         put_number(job, k <= degree ? (uint32_t)coefficients[k] : 0);
 }
 
-/* The square root of 4.  The loaded curve is the constant 4, exactly (radius 0);
-   it becomes result 0.  The solver proposes h = 2 for its root, and the helper
+/* The square root of 4.  The loaded curve is the constant 4, exactly (radius 0), for
+   x from -1 to 1 (FERRUNTZO_COMMAND_LOAD_ON loads a curve with other ends, as two
+   numbers behind the radius); it becomes result 0.  The solver proposes h = 2 for its root, and the helper
    w = 1/(2h) = 1/4.  The root becomes result 1. */
 static void write_example(struct job *job)
 {
@@ -88,7 +89,9 @@ static const char *const reasons[] = {
     "accepted", "an area is too short", "bad model or candidate", "result too large",
     "point outside", "helper too far from the inverse (m >= S)", "residual too large (N > 2^28)",
     "helper not positive", "no root radius ((S-m)^2 < 8bM)", "unknown command or value",
-    "the job ends early", "bytes after the end", "not yet a result", "more than 32 results"
+    "the job ends early", "bytes after the end", "not yet a result", "more than 32 results",
+    "bad series", "a value is not finite", "proposal too large", "no radius of the tighter root test",
+    "wrong ends of a model", "operands on different intervals"
 };
 
 /* The check writes into areas that the caller lends. */
@@ -109,7 +112,8 @@ static int check(const struct job *job)
     }
     for (uint32_t i = 0; i < answer[0]; i++) {
         const int32_t *result = work + FERRUNTZO_MODEL_SIZE * i;
-        /* Coefficient k of the result is result[FERRUNTZO_PLACE_COEFFICIENTS + k]. */
+        /* Coefficient k of the result is result[FERRUNTZO_PLACE_COEFFICIENTS + k], its ends are
+           result[FERRUNTZO_PLACE_LOWER] and result[FERRUNTZO_PLACE_UPPER]. */
         printf("%u %d %d\n", (unsigned)i, (int)result[FERRUNTZO_PLACE_DEGREE],
                (int)result[FERRUNTZO_PLACE_RADIUS]);
     }

@@ -1,5 +1,7 @@
 /* Integrates a feed that is itself a certified quotient, so that no list of
-   coefficients describes it: 1/(2 + x) from -1 to 1, which is the logarithm of 3.
+   coefficients describes it: 1/(2 + y) over two intervals, of which y goes from -1
+   to 1.  With the ends -S and S y is x, and the integral is the logarithm of 3; with
+   the ends 0 and 10 S, ten seconds of machine time, it is 5 times that.
 
    Build and run it in the repository root:
 
@@ -7,17 +9,17 @@
      cc -std=c99 -Iinclude examples/integrate_quotient.c target/staticlib/libferruntzo.a -o integrate_quotient
      ./integrate_quotient
 
-   It prints the radii of the quotient and of its integral, then for some numbers k
-   of strips how far the sum of the quotient itself, left-end value times width,
-   lies from the integral's polynomial at 1, and how far it may: the radius plus
-   2 L/k units, where L is the sum of |a_k| k^2 of the quotient's model.  Exit
-   status: 0 all within, 1 refused or beyond. */
+   For each interval it prints the ends, the radii of the quotient and of its integral,
+   then for some numbers k of strips how far the sum of the quotient itself, left-end
+   value times width, lies from the integral's polynomial at the upper end, and how
+   far it may: the radius plus L (u - l)/(S k) units, where L is the sum of |a_k| k^2 of
+   the quotient's model.  Exit status: 0 all within, 1 refused or beyond. */
 #include "ferruntzo.h"
 
 #include <stdio.h>
 
-/* The polynomial at 1, where every T_k is 1, in units. */
-static double value_at_one(const int32_t *model)
+/* The polynomial at the upper end, where y and every T_k is 1, in units. */
+static double value_at_upper_end(const int32_t *model)
 {
     double sum = 0;
     for (int k = 0; k < FERRUNTZO_COEFFICIENTS; k++)
@@ -36,21 +38,23 @@ static double lipschitz(const int32_t *model)
     return sum;
 }
 
-/* From -1 to 1 in k equal strips: 1/(2 + x) at each left end times the width. */
-static double strip_sum(int k)
+/* From l/S to u/S, that is y from -1 to 1, in k equal strips: 1/(2 + y) at each left end times
+   the width in x. */
+static double strip_sum(double length, int k)
 {
     double width = 2.0 / k, sum = 0;
     for (int i = 0; i < k; i++)
-        sum += 1 / (2 + (-1 + i * width)) * width;
+        sum += 1 / (2 + (-1 + i * width)) * (length / k);
     return sum;
 }
 
-int main(void)
+/* Whether all is accepted on the interval with these ends, and every sum within its bound. */
+static int integrate_on(int32_t lower, int32_t upper)
 {
     const int32_t s = FERRUNTZO_S;
-    /* f = 1 and g = 2 + x, both exact: degree, coefficients, radius 0. */
-    const int32_t f[FERRUNTZO_MODEL_SIZE] = {0, s};
-    const int32_t g[FERRUNTZO_MODEL_SIZE] = {1, 2 * s, s};
+    /* f = 1 and g = 2 + y, both exact: degree, coefficients, radius 0, ends. */
+    const int32_t f[FERRUNTZO_MODEL_SIZE] = {0, s, [FERRUNTZO_PLACE_LOWER] = lower, upper};
+    const int32_t g[FERRUNTZO_MODEL_SIZE] = {1, 2 * s, s, [FERRUNTZO_PLACE_LOWER] = lower, upper};
     /* A solver's proposal for f/g, which is near 1/g too. */
     const int32_t h[FERRUNTZO_CANDIDATE_SIZE] = {
         11, 605396, -324431, 86931, -23293, 6241, -1672, 448, -120, 32, -9, 2, -1};
@@ -67,16 +71,24 @@ int main(void)
         refusal = ferruntzo_integrate(quotient, FERRUNTZO_MODEL_SIZE, integral, FERRUNTZO_MODEL_SIZE);
     if (refusal != 0) {
         printf("refused %u\n", (unsigned)refusal);
-        return 1;
+        return 0;
     }
     const int32_t radius = integral[FERRUNTZO_PLACE_RADIUS];
-    printf("quotient %d, integral %d\n", (int)quotient[FERRUNTZO_PLACE_RADIUS], (int)radius);
-    int beyond = 0;
+    const double length = ((double)integral[FERRUNTZO_PLACE_UPPER] - integral[FERRUNTZO_PLACE_LOWER]) / s;
+    printf("from %d to %d: quotient %d, integral %d\n", (int)lower, (int)upper,
+           (int)quotient[FERRUNTZO_PLACE_RADIUS], (int)radius);
+    int within = 1;
     for (int k = 1; k <= 1000000; k *= 100) {
-        double far = strip_sum(k) * s - value_at_one(integral);
-        double most = radius + 2 * lipschitz(quotient) / k;
+        double far = strip_sum(length, k) * s - value_at_upper_end(integral);
+        double most = radius + lipschitz(quotient) * length / k;
         printf("k = %d: %.0f of at most %.0f\n", k, far, most);
-        beyond |= far > most || -far > most;
+        within &= far <= most && -far <= most;
     }
-    return beyond;
+    return within;
+}
+
+int main(void)
+{
+    const int standard = integrate_on(-FERRUNTZO_S, FERRUNTZO_S), timed = integrate_on(0, 10 * FERRUNTZO_S);
+    return !(standard && timed);
 }

@@ -2,8 +2,8 @@
 
   make.py [folder]        default: the folder of this file
 
-The stretches are made with the reference solver (tools/ferruntzo solve) from margin.json and
-accident.json; tests/oracle.py, which shares nothing with it, gives the texts.
+The stretches are made with the reference solver (tools/ferruntzo solve) from margin.json, accident.json
+and machine_time.json; tests/oracle.py, which shares nothing with it, gives the texts.
 """
 
 import sys
@@ -15,6 +15,7 @@ sys.path[:0] = [str(HERE.parent / 'tests'), str(HERE.parent / 'tools')]
 import jobs                                                             # noqa: E402
 import oracle as o                                                      # noqa: E402
 from candidates import from_samples, quotient_candidates, root_candidates, samples  # noqa: E402
+from cases import on                                                    # noqa: E402
 from examples_of_01 import example_job                                  # noqa: E402
 from ferruntzo_tool import exact                                        # noqa: E402
 from ferruntzo_tool import solve as solver                              # noqa: E402
@@ -24,6 +25,7 @@ from oracle import S, constant, model                                   # noqa: 
 
 ACCIDENT_DEGREE = 12        # to which the margin of the accident was cut
 FORMER = ('root',)          # the commands for roots before 0x22; the examples of that time stay as they are
+MACHINE_TIME = 2 * S, 5 * S     # from 2 s to 5 s, in units of 2^-20 s
 
 
 def margin_stretches():
@@ -59,10 +61,20 @@ def stretch32():
     return job.ended()
 
 
-def accident_stretch():
-    curve = read_curve(str(HERE / 'accident.json'))
+def first_piece(name):
+    curve = read_curve(str(HERE / name))
     run = curve.runs[0]
     return solver.cut_out(run, run[0].low, run[0].high), curve
+
+
+def accident_stretch():
+    return first_piece('accident.json')
+
+
+def machine_time():
+    """The first stretch of a margin on machine time: every load by 0x14, with the ends of the stretch."""
+    whole, curve = first_piece('machine_time.json')
+    return solver.solve_stretch(whole, curve.bur, curve.side).job.ended()
 
 
 def accident():
@@ -113,8 +125,8 @@ def most_work():
 
 
 def most_quotients():
-    """A load and 31 quotients by it, every block of degree 32 and without a zero: the longest job that
-    can be accepted."""
+    """A load and 31 quotients by it, every block of degree 32 and without a zero: the longest job without 0x14
+    that can be accepted."""
     f = model([4 * S] + [round(0.8 * S * (-0.7) ** k) for k in range(1, 33)])
     builder = Builder()
     must(builder.load(f))
@@ -137,6 +149,18 @@ def no_radius():
             + jobs.tight_root(0, constant(16 * S), constant(S // 32)) + jobs.END)
 
 
+def different_intervals():
+    """A usual mistake: the bur's radius is loaded by 0x10, so on the standard interval, and multiplied by a curve on machine
+    time. The curve itself is loaded well; a constant needs the same ends."""
+    return (jobs.EDITION_1 + jobs.load(constant(S // 2)) + jobs.load_on(on(model([S, S // 2, S // 8]), *MACHINE_TIME))
+            + jobs.multiply(0, 1, o.DEFAULT_KEPT) + jobs.END)
+
+
+def bad_ends():
+    """The curve of different_intervals with its ends exchanged."""
+    return jobs.EDITION_1 + jobs.load_on(on(model([S, S // 2, S // 8]), *MACHINE_TIME[::-1])) + jobs.END
+
+
 def between_instants():
     """The owner's accident: g = 227 x^2 + 50 units, f = g + 2 units, h = 1. Of 500 equidistant
     instants the two nearest to 0 see f/g deviate from h by 2,085 units (2 micrometres); at 0
@@ -152,7 +176,8 @@ EXAMPLES = {'root_of_4': example_job, 'stretch': stretch, 'stretch32': stretch32
             'accident_covered': accident_covered, 'accident_degree_12': accident_degree_12,
             'most_work': most_work, 'most_quotients': most_quotients, 'refused': refused,
             'between_instants': between_instants, 'stretch_tight': stretch_tight, 'accident_tight': accident_tight,
-            'no_radius': no_radius}
+            'no_radius': no_radius, 'machine_time': machine_time, 'different_intervals': different_intervals,
+            'bad_ends': bad_ends}
 
 
 def main():

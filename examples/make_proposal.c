@@ -17,9 +17,9 @@
 int main(void)
 {
     const int32_t s = FERRUNTZO_S;
-    /* f = 3 - x and g = 2 + x, both exact: degree, coefficients, radius 0. */
-    const int32_t f[FERRUNTZO_MODEL_SIZE] = {1, 3 * s, -s};
-    const int32_t g[FERRUNTZO_MODEL_SIZE] = {1, 2 * s, s};
+    /* f = 3 - x and g = 2 + x, both exact, for x from -1 to 1: degree, coefficients, radius 0, ends. */
+    const int32_t f[FERRUNTZO_MODEL_SIZE] = {1, 3 * s, -s, [FERRUNTZO_PLACE_LOWER] = -s, s};
+    const int32_t g[FERRUNTZO_MODEL_SIZE] = {1, 2 * s, s, [FERRUNTZO_PLACE_LOWER] = -s, s};
     double record[FERRUNTZO_QUOTIENT_RECORD_SIZE];
     int32_t h[FERRUNTZO_CANDIDATE_SIZE], w[FERRUNTZO_CANDIDATE_SIZE];
     uint32_t outcome[FERRUNTZO_OUTCOME_SIZE];

@@ -4,6 +4,8 @@ docs/MEANING.md. Nothing here is a test.
   measure.py [margin.json]
   measure.py --roots [margin.json]        instead: radii by 0x21 and by 0x22, of each root of the example jobs and of the
                                           stretches of the margin
+  measure.py --intervals [curve.json]     instead: a curve on its own interval (machine_time.json) beside the same rescaled
+                                          to -1..1: radii of the path and of an integral, evaluation at points of the interval
 
 Numbers are units of 2^-20 mm, of the worst stretch; errors are against the margin, at 13 points of each stretch.
 """
@@ -13,17 +15,19 @@ from pathlib import Path
 from random import Random
 
 HERE = Path(__file__).resolve().parent
-sys.path.insert(0, str(HERE.parent / 'tools'))
+sys.path[:0] = [str(HERE.parent / 'tests'), str(HERE.parent / 'tools')]
 
-from ferruntzo_tool import candidates, covered, exact                   # noqa: E402
+import oracle as o                                                      # noqa: E402
+from ferruntzo_tool import candidates, covered, exact, saving           # noqa: E402
 from ferruntzo_tool import solve as solver                              # noqa: E402
 from ferruntzo_tool.arithmetic import Refused, model, up                # noqa: E402
 from ferruntzo_tool.curve import read_curve                             # noqa: E402
 from ferruntzo_tool.reading import Checked, split                       # noqa: E402
-from ferruntzo_tool.tables import BY_NAME, MAX_DEGREE, S, is_root       # noqa: E402
+from ferruntzo_tool.tables import BY_NAME, MAX_DEGREE, S, Interval, is_root     # noqa: E402
 
-NAMED = [word for word in sys.argv[1:] if word != '--roots']
-CURVE = read_curve(NAMED[0] if NAMED else str(HERE / 'margin.json'))
+NAMED = [word for word in sys.argv[1:] if not word.startswith('--')]
+USUAL = 'machine_time.json' if '--intervals' in sys.argv else 'margin.json'
+CURVE = read_curve(NAMED[0] if NAMED else str(HERE / USUAL))
 SIGN = 1 if CURVE.side == 'left' else -1
 POINTS = 12
 
@@ -179,7 +183,68 @@ def roots_of_stretches():
               f'{ends[3]:,} | {share(ends[3], ends[2])} |')
 
 
+# ---- A curve on its own interval, and rescaled ----
+
+def on_interval(m):
+    """A result as a model of the oracle, on its own interval and on the standard one."""
+    made = o.Model(m.degree, tuple(m.coefficients), m.radius, *m.interval)
+    return made, made._replace(lower=-S, upper=S)
+
+
+def integral_radii(m):
+    """Radius of the integral on the interval; and of the rescaled one, times half the extent."""
+    own, standard = on_interval(m)
+    extent = own.upper - own.lower
+    factor = o.constant(extent // 2, extent % 2)        # in units; half of an odd extent is rounded
+    return o.integrate(own)[1].radius, o.multiply(o.integrate(standard)[1], factor, MAX_DEGREE)[1].radius
+
+
+def half_width(bounds):
+    return (bounds[2] - bounds[1]) / 2
+
+
+def evaluations(m):
+    """At whole points of the interval: the largest half width of the bounds there, and at the rescaled points, rounded."""
+    own, standard = on_interval(m)
+    extent = own.upper - own.lower
+    points = [own.lower + extent * i // saving.POINTS for i in range(saving.POINTS + 1)]
+    mapped = [o.near(S * (2 * p - own.lower - own.upper), extent) for p in points]
+    return (max(half_width(o.evaluate(own, p)) for p in points),
+            max(half_width(o.evaluate(standard, p)) for p in mapped))
+
+
+def intervals():
+    """A row for each count of stretches: the worst of all."""
+    print('| stretches | path by 0x14 | rescaled, by 0x10 | integral of the length of the normal | rescaled, times half the '
+          'extent | bounds of the path at its points | at rescaled points | which move it by, not covered |')
+    print('|-|-|-|-|-|-|-|-|')
+    for n in (1, 2, 4, 8, 16):
+        solved = [plain(s) for s in stretches(n)]
+        former = [Checked(saving.rescaled(one.job.ended())) for one in solved]
+        integrals = [integral_radii(one.results[8]) for one in solved]
+        bounds = [evaluations(m) for one in solved for m in one.results[-2:]]
+        moved = max(map(saving.largest_point_error, solved))
+        print(f'| {len(solved)} | {path(solved)} | {max(map(largest_end, former))} | {max(own for own, _ in integrals)} | '
+              f'{max(other for _, other in integrals)} | ± {max(own for own, _ in bounds):.1f} | '
+              f'± {max(other for _, other in bounds):.1f} | {float(moved):.1f} |')
+
+
+def extents():
+    """The integral of the same coefficients on intervals of other extents."""
+    first = plain(next(stretches(1))).results[8]
+    rows = [(k, *integral_radii(first._replace(interval=Interval(0, S << k if k > 0 else S >> -k)))) for k in range(-5, 6, 2)]
+    print(f'| extent over S, of result 8 with degree {first.degree}, radius {first.radius} | integral on the interval | '
+          'rescaled, times half the extent |')
+    print('|-|-|-|')
+    for k, own, other in rows:
+        print(f'| 2^{k} | {own} | {other} |')
+
+
 def main():
+    if '--intervals' in sys.argv:
+        intervals()
+        print()
+        return extents()
     if '--roots' in sys.argv:
         roots_of_examples()
         print()

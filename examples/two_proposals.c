@@ -18,9 +18,9 @@ int main(void)
 {
     enum { W = FERRUNTZO_CANDIDATE_SIZE };          /* where w stands in a proposal */
     const int32_t s = FERRUNTZO_S;
-    /* f = 1 and g = 2 + x, both exact: degree, coefficients, radius 0. */
-    const int32_t f[FERRUNTZO_MODEL_SIZE] = {0, s};
-    const int32_t g[FERRUNTZO_MODEL_SIZE] = {1, 2 * s, s};
+    /* f = 1 and g = 2 + x, both exact, for x from -1 to 1: degree, coefficients, radius 0, ends. */
+    const int32_t f[FERRUNTZO_MODEL_SIZE] = {0, s, [FERRUNTZO_PLACE_LOWER] = -s, s};
+    const int32_t g[FERRUNTZO_MODEL_SIZE] = {1, 2 * s, s, [FERRUNTZO_PLACE_LOWER] = -s, s};
     /* Degree and coefficients of h, then of w; here both are near 1/g. */
     const int32_t first[FERRUNTZO_PROPOSAL_SIZE] = {
         7, 605396, -324431, 86931, -23293, 6241, -1672, 448, -120,

@@ -1,12 +1,12 @@
 /* ferruntzo.h: the Ferruntzo library for C99 and C++.
 
    The library checks Chebyshev certificates.  Polynomials in the Chebyshev
-   basis are added, subtracted, multiplied, integrated and evaluated with a
-   proved error radius; models are made of power series; a proposed quotient or
-   square root is accepted with a proved radius or refused, a root by either of two
-   tests; of two proposals for one quotient the tighter is chosen; proposals for
-   reciprocals and quotients are made in double arithmetic, for these tests to judge;
-   and a whole job of such commands is checked.
+   basis, each on its own interval, are added, subtracted, multiplied, integrated
+   and evaluated with a proved error radius; models are made of power series; a
+   proposed quotient or square root is accepted with a proved radius or refused, a
+   root by either of two tests; of two proposals for one quotient the tighter is
+   chosen; proposals for reciprocals and quotients are made in double arithmetic, for
+   these tests to judge; and a whole job of such commands is checked.
 
    Link with libferruntzo.a, which scripts/build_library makes (x86-64, System V
    calling convention):
@@ -16,22 +16,28 @@
    examples/check_job.c, examples/two_proposals.c and examples/make_proposal.c are
    programs to copy, docs/FORMAT.md the format of jobs.  "01" below is the scope
    document that fixes every number but those of power series, of two proposals, of
-   the scratch, of made proposals and of the tighter root test, which change requests
-   S-3, S-14, S-17, S-19 and S-22 fix.
+   the scratch, of made proposals, of the tighter root test and of intervals, which
+   change requests S-3, S-14, S-17, S-19, S-22 and S-24 fix.
 
    NUMBERS
 
-   S = 2^20.  Coefficients, radii and bounds are whole numbers of units, one
+   S = 2^20.  Coefficients, radii, ends and bounds are whole numbers of units, one
    unit being 1/S.  T_0 = 1, T_1 = x, T_(k+2) = 2 x T_(k+1) - T_k.
 
-   A model area holds 35 numbers: the degree n (0 to 32), 33 coefficients
-   a_0 .. a_32 and the radius e.  Coefficients beyond the degree are zero.  The
-   weight, |a_0| + .. + |a_32|, and the radius are each at most 2^28.  The
-   model allows the value v at x, where -1 <= x <= 1, when
+   A model area holds 37 numbers: the degree n (0 to 32), 33 coefficients
+   a_0 .. a_32, the radius e, and the ends of its interval, the lower l and the
+   upper u.  Coefficients beyond the degree are zero.  The weight,
+   |a_0| + .. + |a_32|, the radius, |l| and |u| are each at most 2^28, and l < u.
+   The interval is every x with l <= S x <= u.  There the model allows the value v
+   when, with y = (2 S x - l - u) / (u - l), which is from -1 to 1,
 
-     | v - (a_0 T_0(x) + .. + a_n T_n(x)) / S |  <=  e / S.
+     | v - (a_0 T_0(y) + .. + a_n T_n(y)) / S |  <=  e / S.
 
-   A candidate area holds 34 numbers: a model without its radius.
+   With the ends -S and S (the standard interval) y is x, from -1 to 1.  Two operands
+   of one call must have the same ends, and a result has its operands' ends.
+
+   A candidate area holds 34 numbers: a model without its radius and its ends.  It is
+   on the interval of its operands.
 
    A proposal holds 68 numbers: a candidate h for a quotient and, from place
    FERRUNTZO_CANDIDATE_SIZE on, its helper w.
@@ -41,15 +47,16 @@
    Coefficients beyond the degree are zero, the weight |p_0| + .. + |p_32| is at
    most 2^28.
 
-   The coefficients of products, integrals and models of series, and the T_k(x)
-   inside an evaluation, are rounded to the nearest whole number, a tie to the even
-   one; bounds are rounded outwards.  So a mirrored curve has mirrored answers:
+   The coefficients of products, integrals and models of series, and inside an
+   evaluation S y and the T_k(y), are rounded to the nearest whole number, a tie to
+   the even one; bounds are rounded outwards.  So a mirrored curve has mirrored answers:
    negating every coefficient of one factor, of an integrand or of a series negates
-   those of the result and keeps its radius, its degree and the number answered;
-   negating the odd coefficients of both factors or of a series (-x for x) negates
-   the odd ones of the result; and negating p and the odd coefficients keeps both
-   bounds of an evaluation.  (-2^31 has no negation; a model or series with it, and
-   a point of it, is refused.)
+   those of the result and keeps its radius, its degree, its ends and the number
+   answered; negating the odd coefficients of both factors ((l + u)/S - x for x) or of
+   a series (-x for x) negates the odd ones of the result; and with l + u - p for p and
+   the odd coefficients negated an evaluation keeps both bounds.  (-2^31 has no
+   negation; a model or series with it is refused.  A point outside l to u is refused,
+   and l + u - p then is outside too.)
 
    AREAS
 
@@ -75,18 +82,35 @@
    lists its refusals in the order in which they are tested; the first that
    applies is returned.  FERRUNTZO_SHORT_AREA (1), an area shorter than needed,
    comes before everything else.  A short proposal is not such an area: it fails
-   with 1 by itself, and the other proposal is tested nonetheless.
+   with 1 by itself, and the other proposal is tested nonetheless.  "2 or 18 (f, g)"
+   is 2 of f, 18 of f, 2 of g and 18 of g, in this order.
 
    What an area that is written holds afterwards depends on its own length, not
    on that of any other area:
    - An area that is itself shorter than needed is not touched.
    - out, bounds and numbers, the answer of ferruntzo_quotient_of_two, and all that
      ferruntzo_make_reciprocal, ferruntzo_make_quotient and ferruntzo_to_units
-     write, are zero after every refusal, 1 included.
+     write, are zero after every refusal, 1 included.  A zero out is no good model:
+     its ends are 0 and 0, and as an operand it is refused with 18.
    - The first 16 numbers of scratch are zero after every call of
      ferruntzo_quotient, ferruntzo_root, ferruntzo_tight_root and
      ferruntzo_quotient_of_two.
-   ferruntzo_check says what holds of its work, scratch and answer. */
+   ferruntzo_check says what holds of its work, scratch and answer.
+
+   FROM 3.x TO 4.0.0: WHAT A CALLER CHANGES
+
+   - A model area has 37 numbers, where it had 35, and a work area 1184, where it had
+     1120: result i stands at 37 * i, before at 35 * i.
+   - Each model that a caller writes needs its ends, at FERRUNTZO_PLACE_LOWER and
+     FERRUNTZO_PLACE_UPPER.  With -FERRUNTZO_S and FERRUNTZO_S everywhere each number
+     that was answered stays, and each result has these ends.
+   - An area of zeros, such as out after a refusal, was the zero model and was computed
+     with; it is now refused with 18.
+   - Command byte 0x14, which was refused with 9, loads a model with its ends.  Jobs
+     without it stay as they are; the longest job that can be accepted has 8488 bytes,
+     where it had 8480.
+   - Refusals 18 and 19 are new.
+   - Candidates, proposals and series have no ends, and keep their sizes. */
 #ifndef FERRUNTZO_H
 #define FERRUNTZO_H
 
@@ -99,10 +123,10 @@ extern "C" {
 
 /* ---- Version ---- */
 
-#define FERRUNTZO_VERSION_MAJOR 3
-#define FERRUNTZO_VERSION_MINOR 2
+#define FERRUNTZO_VERSION_MAJOR 4
+#define FERRUNTZO_VERSION_MINOR 0
 #define FERRUNTZO_VERSION_PATCH 0
-#define FERRUNTZO_VERSION "3.2.0"
+#define FERRUNTZO_VERSION "4.0.0"
 
 /* ---- Limits ---- */
 
@@ -110,12 +134,13 @@ extern "C" {
 #define FERRUNTZO_MAX_DEGREE 32
 #define FERRUNTZO_MAX_WEIGHT 268435456    /* 2^28 */
 #define FERRUNTZO_MAX_RADIUS 268435456    /* 2^28 */
+#define FERRUNTZO_MAX_END 268435456       /* 2^28, of |l| and |u| */
 #define FERRUNTZO_MAX_RESIDUAL 268435456  /* 2^28, of N in the tests */
 #define FERRUNTZO_MAX_RESULTS 32          /* of a job */
 
 /* ---- Sizes of the areas, in numbers ---- */
 
-#define FERRUNTZO_MODEL_SIZE 35       /* int32_t: degree, coefficients, radius */
+#define FERRUNTZO_MODEL_SIZE 37       /* int32_t: degree, coefficients, radius, ends; 35 before version 4.0.0 */
 #define FERRUNTZO_CANDIDATE_SIZE 34   /* int32_t: degree, coefficients */
 #define FERRUNTZO_PROPOSAL_SIZE 68    /* int32_t: degree, coefficients of h, then of w */
 #define FERRUNTZO_SERIES_SIZE 34      /* int32_t: degree, coefficients of x^0 .. x^32 */
@@ -123,7 +148,7 @@ extern "C" {
 #define FERRUNTZO_SCRATCH_SIZE 16     /* int64_t; 65 before version 3.0.0 */
 #define FERRUNTZO_NUMBERS_SIZE 3      /* uint64_t: m, N, b */
 #define FERRUNTZO_REPORT_SIZE FERRUNTZO_NUMBERS_SIZE  /* its former name */
-#define FERRUNTZO_WORK_SIZE 1120      /* int32_t: 32 models */
+#define FERRUNTZO_WORK_SIZE 1184      /* int32_t: 32 models; 1120 before version 4.0.0 */
 #define FERRUNTZO_ANSWER_SIZE 2       /* uint32_t: count, command */
 #define FERRUNTZO_SELECTION_SIZE 2    /* uint32_t: chosen, radius */
 #define FERRUNTZO_VALUES_SIZE 33             /* double: values, of T_0 .. T_32 */
@@ -131,11 +156,13 @@ extern "C" {
 #define FERRUNTZO_QUOTIENT_RECORD_SIZE 67    /* double: the 33 of f times w, then the 34 of the reciprocal's record */
 #define FERRUNTZO_OUTCOME_SIZE 1             /* uint32_t: given up or settled */
 
-/* ---- Places inside a model area (also of a candidate and a series, which have no radius) ---- */
+/* ---- Places inside a model area (also of a candidate and a series, which have no radius and no ends) ---- */
 
 #define FERRUNTZO_PLACE_DEGREE 0
 #define FERRUNTZO_PLACE_COEFFICIENTS 1  /* of a_0; a_k stands at 1 + k */
 #define FERRUNTZO_PLACE_RADIUS 34
+#define FERRUNTZO_PLACE_LOWER 35        /* l */
+#define FERRUNTZO_PLACE_UPPER 36        /* u */
 #define FERRUNTZO_COEFFICIENTS 33       /* how many there are */
 
 /* A kept degree of a product that leaves the choice open: 32. */
@@ -156,17 +183,18 @@ extern "C" {
 
 #define FERRUNTZO_COMMAND_END 0x00
 #define FERRUNTZO_COMMAND_EDITION 0x01
-#define FERRUNTZO_COMMAND_LOAD 0x10
+#define FERRUNTZO_COMMAND_LOAD 0x10     /* with the ends -S and S */
 #define FERRUNTZO_COMMAND_ADD 0x11
 #define FERRUNTZO_COMMAND_SUBTRACT 0x12
 #define FERRUNTZO_COMMAND_MULTIPLY 0x13
+#define FERRUNTZO_COMMAND_LOAD_ON 0x14  /* with its ends */
 #define FERRUNTZO_COMMAND_QUOTIENT 0x20
 #define FERRUNTZO_COMMAND_ROOT 0x21
 #define FERRUNTZO_COMMAND_TIGHT_ROOT 0x22
 #define FERRUNTZO_BLOCK_BYTES 133       /* degree byte and 33 coefficients */
 
-/* No longer job is ever accepted: edition, a load, 31 quotients, end. */
-#define FERRUNTZO_MAX_JOB_BYTES 8480
+/* No longer job is ever accepted: edition, a load with its ends, 31 quotients, end. */
+#define FERRUNTZO_MAX_JOB_BYTES 8488
 /* The program jobcheck prints "too long" above this; the library has no limit. */
 #define FERRUNTZO_PROGRAM_JOB_BYTES 65536
 
@@ -177,7 +205,7 @@ enum ferruntzo_refusal {
     FERRUNTZO_SHORT_AREA = 1,             /* an area, or a proposal, is shorter than needed */
     FERRUNTZO_BAD_MODEL = 2,              /* degree, weight, radius, or a nonzero beyond the degree */
     FERRUNTZO_LARGE_RESULT = 3,           /* the result's weight or radius above 2^28, its degree above 32 */
-    FERRUNTZO_POINT_OUTSIDE = 4,          /* p is not from -S to S */
+    FERRUNTZO_POINT_OUTSIDE = 4,          /* p is not from l to u */
     FERRUNTZO_NOT_CONTRACTING = 5,        /* m >= S: the helper w is too far from the inverse */
     FERRUNTZO_LARGE_RESIDUAL = 6,         /* N > 2^28 */
     FERRUNTZO_HELPER_NOT_POSITIVE = 7,    /* both root tests: w_0 + .. + w_32 <= 0 */
@@ -190,17 +218,20 @@ enum ferruntzo_refusal {
     FERRUNTZO_BAD_SERIES = 14,            /* a series' degree, weight, or a nonzero beyond the degree */
     FERRUNTZO_NOT_FINITE = 15,            /* g_0 is zero, or a value is not finite */
     FERRUNTZO_LARGE_PROPOSAL = 16,        /* the weight of a list turned into units is above 2^28 */
-    FERRUNTZO_NO_RADIUS = 17              /* tighter root test: no whole r from 0 to S has 2 M r^2 + b S^2 <= (S - m) S r */
+    FERRUNTZO_NO_RADIUS = 17,             /* tighter root test: no whole r from 0 to S has 2 M r^2 + b S^2 <= (S - m) S r */
+    FERRUNTZO_BAD_ENDS = 18,              /* a model's ends: l >= u, or |l| or |u| above 2^28 */
+    FERRUNTZO_DIFFERENT_INTERVALS = 19    /* two operands on different intervals */
 };
 
 /* ---- Plain operations on models ----
 
-   Sizes: a, b and out 35, bounds 2.  Accepted: out holds the result.  Refused:
-   out is zero, if it has its 35 numbers.  A sum, difference or product of values
-   that a and b allow at some x is allowed there by out. */
+   Sizes: a, b and out 37, bounds 2.  Accepted: out holds the result, on the interval
+   of the operands.  Refused: out is zero, if it has its 37 numbers.  A sum, difference
+   or product of values that a and b allow at some x of their interval is allowed there
+   by out. */
 
 /* a + b and a - b: coefficient by coefficient, the larger degree, radii added.
-   Refusals: 1 (a, b or out), 2 (a or b), 3. */
+   Refusals: 1 (a, b or out), 2 or 18 (a, b), 19, 3. */
 uint32_t ferruntzo_add(const int32_t *a, size_t a_len,
                        const int32_t *b, size_t b_len,
                        int32_t *out, size_t out_len);
@@ -212,29 +243,31 @@ uint32_t ferruntzo_subtract(const int32_t *a, size_t a_len,
 /* a times b.  Coefficients beyond the kept degree are dropped and paid for in
    the radius.  kept is 0 to 32, or FERRUNTZO_DEFAULT_KEPT for 32; the
    result's degree is the smaller of kept and the sum of the degrees.
-   Refusals: 1 (a, b or out), 2 (a or b), 9 (kept), 3. */
+   Refusals: 1 (a, b or out), 2 or 18 (a, b), 19, 9 (kept), 3. */
 uint32_t ferruntzo_multiply(const int32_t *a, size_t a_len,
                             const int32_t *b, size_t b_len,
                             uint32_t kept,
                             int32_t *out, size_t out_len);
 
-/* The integral from -1 to x: degree n + 1, radius 2e + n + 1.  Two things hold of
-   it.  It bounds the exact primitive of every list of coefficients that differ
-   from those of a by at most e units in total.  And for a feed that no list
-   describes, such as a certified quotient: whatever value that a allows is taken
-   at each point, cut -1 to x into k equal strips and add left-end value times
-   width; the sum differs from the integral's polynomial at x by at most the
-   radius plus 2 L/k units, for every k >= 1, where L is the sum of |a_k| k^2.
+/* The integral from l/S to x: degree n + 1, radius n + 1 more than e (u - l)/S
+   rounded up.  At every x of the interval two things hold of it.  It bounds the exact
+   primitive from l/S of every list of coefficients that differ from those of a by at
+   most e units in total.  And for a feed that no list describes, such as a certified
+   quotient: whatever value that a allows is taken at each point, cut l/S to x into k
+   equal strips and add left-end value times width; the sum differs from the integral's
+   polynomial at x by at most the radius plus L (u - l)/(S k) units, for every k >= 1,
+   where L is the sum of |a_k| k^2.
    docs/ENTRIES.md says which of the two to use when, and
    examples/integrate_quotient.c uses the second.
-   Refusals: 1 (a or out), 2, 3 (degree 32 always). */
+   Refusals: 1 (a or out), 2, 18, 3 (degree 32 always). */
 uint32_t ferruntzo_integrate(const int32_t *a, size_t a_len,
                              int32_t *out, size_t out_len);
 
-/* Bounds, in units, of every value that a allows at x = p/S.  p is from -S to S.
+/* Bounds, in units, of every value that a allows at x = p/S.  p is from l to u.  S y
+   is rounded to a whole number; where that is not exact, the bounds allow for it.
    bounds (2): bounds[0] <= S v <= bounds[1]; 0 and 0 when refused, if it has its
    2 numbers.
-   Refusals: 1 (a or bounds), 2, 4. */
+   Refusals: 1 (a or bounds), 2, 18, 4. */
 uint32_t ferruntzo_evaluate(const int32_t *a, size_t a_len,
                             int32_t p,
                             int64_t *bounds, size_t bounds_len);
@@ -244,11 +277,11 @@ uint32_t ferruntzo_evaluate(const int32_t *a, size_t a_len,
    The model of a power series.  Each x^k is expanded in T_0 .. T_k, the
    coefficients are rounded to the nearest unit, and the radius is the sum of the
    absolute rounding differences, rounded up.  The degree stays, even if top
-   coefficients become zero.  Accepted: at every x from
-   -1 to 1 out allows the exact value of the series.  The radius covers this
+   coefficients become zero.  Accepted: out has the ends -S and S, and at every x from
+   -1 to 1 it allows the exact value of the series.  The radius covers this
    rounding only; docs/FORMAT.md says how the model becomes a load of a job.
    About 11.5 kB of stack.
-   Sizes: series 34, out 35.  Refused: out is zero, if it has its 35 numbers.
+   Sizes: series 34, out 37.  Refused: out is zero, if it has its 37 numbers.
    Refusals: 1 (series or out), 14, 3 (a weight near 2^28 can pass it by rounding). */
 uint32_t ferruntzo_from_series(const int32_t *series, size_t series_len,
                                int32_t *out, size_t out_len);
@@ -257,15 +290,15 @@ uint32_t ferruntzo_from_series(const int32_t *series, size_t series_len,
 
    h is the proposed answer, w a helper; docs/FORMAT.md says how to choose them.
    M is the weight of w.
-   Sizes: f and g 35, h and w 34, scratch 16, out 35, numbers 3.
-   Accepted: out holds h with the radius that the test gives; numbers holds 01's
-   m, N and b.  Refused: out and numbers are zero.  The 16 numbers of scratch are
-   zero after every call; a longer one changes no answer.  Each of the three areas is
-   left as it was if it is itself too short. */
+   Sizes: f and g 37, h and w 34, scratch 16, out 37, numbers 3.
+   Accepted: out holds h with the radius that the test gives and the ends of f; numbers
+   holds 01's m, N and b.  Refused: out and numbers are zero.  The 16 numbers of
+   scratch are zero after every call; a longer one changes no answer.  Each of the
+   three areas is left as it was if it is itself too short. */
 
-/* h for f/g, w near 1/g.  Accepted: at every x from -1 to 1 no value that g
-   allows is zero, and each value of f over one of g is allowed by out.
-   Refusals: 1 (any area), 2 (f, g, h or w), 5, 6, 3 (the radius). */
+/* h for f/g, w near 1/g.  Accepted: at every x of the interval of f and g no value that
+   g allows is zero, and each value of f over one of g is allowed by out.
+   Refusals: 1 (any area), 2 or 18 (f, g), 2 (h or w), 19, 5, 6, 3 (the radius). */
 uint32_t ferruntzo_quotient(const int32_t *f, size_t f_len,
                             const int32_t *g, size_t g_len,
                             const int32_t *h, size_t h_len,
@@ -274,10 +307,10 @@ uint32_t ferruntzo_quotient(const int32_t *f, size_t f_len,
                             int32_t *out, size_t out_len,
                             uint64_t *numbers, size_t numbers_len);
 
-/* h for the square root of f, w near 1/(2h).  Accepted: at every x from -1 to 1
+/* h for the square root of f, w near 1/(2h).  Accepted: at every x of f's interval
    no value that f allows is negative, and out allows the root of each; the
    radius is at most 2^27.
-   Refusals: 1 (any area), 2 (f, h or w), 7, 5, 6, 8. */
+   Refusals: 1 (any area), 2 or 18 (f), 2 (h or w), 7, 5, 6, 8. */
 uint32_t ferruntzo_root(const int32_t *f, size_t f_len,
                         const int32_t *h, size_t h_len,
                         const int32_t *w, size_t w_len,
@@ -290,7 +323,7 @@ uint32_t ferruntzo_root(const int32_t *f, size_t f_len,
    Accepted: as for ferruntzo_root, with this radius.  Where it accepts, ferruntzo_root
    accepts too, with a radius that is never smaller; it can refuse what ferruntzo_root
    accepts (f = 224 S, h = 16 S, w = S/32).
-   Refusals: 1 (any area), 2 (f, h or w), 7, 5, 6, 17. */
+   Refusals: 1 (any area), 2 or 18 (f), 2 (h or w), 7, 5, 6, 17. */
 uint32_t ferruntzo_tight_root(const int32_t *f, size_t f_len,
                               const int32_t *h, size_t h_len,
                               const int32_t *w, size_t w_len,
@@ -305,22 +338,22 @@ uint32_t ferruntzo_tight_root(const int32_t *f, size_t f_len,
    shorter than 68 numbers fails with 1, before f and g are looked at.  If both
    pass, the one with the smaller radius is chosen, if the radii are equal the
    first; if just one passes, that one.
-   Sizes: f and g 35, scratch 16, answer 2.
+   Sizes: f and g 37, scratch 16, answer 2.
 
    Accepted: answer[0] is FERRUNTZO_CHOSEN_FIRST or FERRUNTZO_CHOSEN_SECOND,
    answer[1] the radius.  The coefficients are a part of the caller's own numbers:
    the FERRUNTZO_COEFFICIENTS (33) at first + FERRUNTZO_PLACE_COEFFICIENTS, or at
    second + FERRUNTZO_PLACE_COEFFICIENTS; their degree stands before them.  At every
-   x from -1 to 1 no value that g allows is zero, and each value of f over one of g
-   is allowed by these coefficients with this radius.
+   x of the interval of f and g no value that g allows is zero, and each value of f over
+   one of g is allowed by these coefficients with this radius on this interval.
 
    Refused, 1 included: answer is FERRUNTZO_CHOSEN_NONE and 0; it is left as it was
    if it is itself too short.  The 16 numbers of scratch are zero after every call,
    also if both proposals are short, unless it is itself too short.
 
    Refusals: 1 (f, g, scratch or answer); then, if neither proposal passes, what the
-   first fails with: 1 (first), 2 (f, g, h or w), 5, 6, 3 (the radius).  Both kinds
-   of 1 are the same answer; the lengths tell a caller which it is. */
+   first fails with: 1 (first), 2 or 18 (f, g), 2 (h or w), 19, 5, 6, 3 (the radius).
+   Both kinds of 1 are the same answer; the lengths tell a caller which it is. */
 uint32_t ferruntzo_quotient_of_two(const int32_t *f, size_t f_len,
                                    const int32_t *g, size_t g_len,
                                    const int32_t *first, size_t first_len,
@@ -333,7 +366,8 @@ uint32_t ferruntzo_quotient_of_two(const int32_t *f, size_t f_len,
    For a mill without a desktop: h and w for f/g, or w for 1/g alone, made from the
    models in double arithmetic.  Nothing that is made is trusted, and no radius comes
    with it: only the ordinary test, ferruntzo_quotient, vouches for h and w.  The radii
-   of f and g play no part in making; the test counts them.
+   of f and g play no part in making; the test counts them.  Their ends play none
+   beyond 18 and 19.
 
    A value is a coefficient in units over S, as a double.  w starts as the constant
    1 / g_0.  A round makes w times (2 - g times w) of it, the constant 2 being zero
@@ -354,10 +388,11 @@ uint32_t ferruntzo_quotient_of_two(const int32_t *f, size_t f_len,
      a proposal p of ferruntzo_quotient_of_two lend p, 34 as h and p + 34, 34 as w;
    - outcome[0]: FERRUNTZO_SETTLED or FERRUNTZO_GIVEN_UP.  Its change is the last
      number of record.
-   Settled proves nothing: g = S + S T_31 vanishes at -1 and settles in round 7, and
-   ferruntzo_quotient then refuses it with 5.  (A lone w is tested as the quotient of
-   the constant S by g, with w as both h and w.)  Given up need not fail the test.  Where
-   g has a zero from -1 to 1 no proposal passes.
+   Settled proves nothing: g = S + S T_31 vanishes at its lower end, where y = -1, and
+   settles in round 7, and ferruntzo_quotient then refuses it with 5.  (A lone w is
+   tested as the quotient of the constant S, with the ends of g, by g, with w as both h
+   and w.)  Given up need not fail the test.  Where g has a zero in its interval no
+   proposal passes.
 
    Refused, 1 included: each area that is written is zero, if it has its numbers:
    record is +0.0, h, w and units have degree 0, outcome[0] is 0 (given up).
@@ -368,19 +403,19 @@ uint32_t ferruntzo_quotient_of_two(const int32_t *f, size_t f_len,
    and invalid operations are how 15 arises: with exceptions enabled (feenableexcept) a
    call may trap, and exception flags may be set after a call.
    An area of doubles that is written may hold any bits before, signalling NaNs too.
-   About 5.5 kB of stack.  There is no maker for roots; 15 and 16 never come of a job. */
+   About 6 kB of stack.  There is no maker for roots; 15 and 16 never come of a job. */
 
-/* w for 1/g.  Sizes: g 35, record 34, w 34, outcome 1.
-   Refusals: 1 (any area), 2 (g), 15 (g_0 is zero, or a value is not finite in some
-   round), 16 (the weight of w in units). */
+/* w for 1/g.  Sizes: g 37, record 34, w 34, outcome 1.
+   Refusals: 1 (any area), 2 or 18 (g), 15 (g_0 is zero, or a value is not finite in
+   some round), 16 (the weight of w in units). */
 uint32_t ferruntzo_make_reciprocal(const int32_t *g, size_t g_len,
                                    double *record, size_t record_len,
                                    int32_t *w, size_t w_len,
                                    uint32_t *outcome, size_t outcome_len);
 
-/* h for f/g with its helper w.  Sizes: f and g 35, record 67, h and w 34, outcome 1.
-   Refusals: 1 (any area), 2 (f or g), 15 (g_0 is zero, or a value of w in some round
-   or of f times w is not finite), 16 (the weight of h or of w in units, each its
+/* h for f/g with its helper w.  Sizes: f and g 37, record 67, h and w 34, outcome 1.
+   Refusals: 1 (any area), 2 or 18 (f, g), 19, 15 (g_0 is zero, or a value of w in some
+   round or of f times w is not finite), 16 (the weight of h or of w in units, each its
    own). */
 uint32_t ferruntzo_make_quotient(const int32_t *f, size_t f_len,
                                  const int32_t *g, size_t g_len,
@@ -399,14 +434,16 @@ uint32_t ferruntzo_to_units(const double *values, size_t values_len,
 /* ---- Jobs ----
 
    Checks the job_len bytes at job, of any length and content.
-   Sizes: work 1120, scratch 16, answer 2.
+   Sizes: work 1184, scratch 16, answer 2.
 
    Accepted: answer[0] is the count of results, 0 to 32, and answer[1] is 0.
-   Result i is the model at work + 35 * i; the rest of the 1120 numbers is zero.
-   Its degree is work[35 * i], its radius work[35 * i + FERRUNTZO_PLACE_RADIUS].
+   Result i is the model at work + 37 * i; the rest of the 1184 numbers is zero.
+   Its degree is work[37 * i], its radius work[37 * i + FERRUNTZO_PLACE_RADIUS], its
+   ends the two numbers behind that.  Results on different intervals stand in one job;
+   only the two that one command names must be on the same.
 
    Refused with a number above 1: answer[0] is 0, answer[1] is the number of the
-   refused command, counted from 0 (the edition is command 0); the 1120 numbers
+   refused command, counted from 0 (the edition is command 0); the 1184 numbers
    of work are zero.
 
    In both cases the 16 numbers of scratch are zero.
@@ -420,7 +457,9 @@ uint32_t ferruntzo_to_units(const double *values, size_t values_len,
      9   edition not 1; kept degree from 33 to 254
      12  a named result that is not there yet
      13  a 33rd result
-     2   the loaded model, or h or w
+     2   the loaded model; h or w
+     18  the loaded model
+     19  two named results on different intervals
      7, 5, 6, 8, 17, 3   as the operation or test gives them
      11  bytes after the end */
 uint32_t ferruntzo_check(const uint8_t *job, size_t job_len,

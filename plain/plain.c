@@ -74,7 +74,8 @@ static void product_list(const int32_t *a, const int32_t *b, int64_t *c)
 
 /* The place 'result': 3, or the model itself, written into out, which is zero so far.
    row has degree + 1 coefficients. */
-static uint32_t finish(int degree, const int64_t *row, int64_t radius, int32_t *out)
+static uint32_t finish(int degree, const int64_t *row, int64_t radius, int32_t lower, int32_t upper,
+                       int32_t *out)
 {
     if (degree > MAX_DEGREE || radius > LIMIT || weight(row, degree + 1) > LIMIT)
         return LARGE_RESULT;
@@ -82,6 +83,8 @@ static uint32_t finish(int degree, const int64_t *row, int64_t radius, int32_t *
     for (int k = 0; k <= degree; k++)
         out[1 + k] = (int32_t)row[k];
     out[RADIUS] = (int32_t)radius;
+    out[LOWER] = lower;
+    out[UPPER] = upper;
     return 0;
 }
 
@@ -90,19 +93,21 @@ static uint32_t finish(int degree, const int64_t *row, int64_t radius, int32_t *
 static uint32_t termwise(const int32_t *a, const int32_t *b, int sign, int32_t *out)
 {
     int64_t row[COEFFICIENTS];
-    if (!good_model(a) || !good_model(b))
-        return BAD_MODEL;
+    uint32_t number = operands_fault(a, b);
+    if (number != 0)
+        return number;
     int degree = a[0] > b[0] ? a[0] : b[0];
     for (int k = 0; k <= degree; k++)
         row[k] = (int64_t)a[1 + k] + sign * (int64_t)b[1 + k];
-    return finish(degree, row, (int64_t)a[RADIUS] + b[RADIUS], out);
+    return finish(degree, row, (int64_t)a[RADIUS] + b[RADIUS], a[LOWER], a[UPPER], out);
 }
 
 static uint32_t multiply(const int32_t *a, const int32_t *b, uint32_t kept, int32_t *out)
 {
     int64_t c[PRODUCT_SIZE], row[COEFFICIENTS], error = 0;
-    if (!good_model(a) || !good_model(b))
-        return BAD_MODEL;
+    uint32_t number = operands_fault(a, b);
+    if (number != 0)
+        return number;
     if (kept == DEFAULT_KEPT)
         kept = MAX_DEGREE;
     if (kept > MAX_DEGREE)
@@ -118,38 +123,46 @@ static uint32_t multiply(const int32_t *a, const int32_t *b, uint32_t kept, int3
     error += weight(c + degree + 1, PRODUCT_SIZE - degree - 1);
     int64_t e_a = a[RADIUS], e_b = b[RADIUS];
     error += 2 * (model_weight(a) * e_b + model_weight(b) * e_a + e_a * e_b);
-    return finish(degree, row, up(error, 2 * UNIT), out);
+    return finish(degree, row, up(error, 2 * UNIT), a[LOWER], a[UPPER], out);
 }
 
 static uint32_t integrate(const int32_t *a, int32_t *out)
 {
     int64_t row[COEFFICIENTS];
-    if (!good_model(a))
-        return BAD_MODEL;
+    uint32_t number = model_fault(a);
+    if (number != 0)
+        return number;
     int degree = a[0] + 1;
     if (degree > MAX_DEGREE)
         return LARGE_RESULT;
+    int64_t extent = (int64_t)a[UPPER] - a[LOWER];
     row[0] = 0;
     for (int k = 1; k <= degree; k++) {
         int64_t lower = k == 1 ? 2 * (int64_t)a[1] : a[k];
         int64_t upper = k + 1 <= a[0] ? a[k + 2] : 0;
-        row[k] = near(lower - upper, 2 * k);
+        row[k] = near((lower - upper) * extent, 4 * UNIT * k);
         row[0] += k % 2 == 1 ? row[k] : -row[k];
     }
-    return finish(degree, row, 2 * (int64_t)a[RADIUS] + degree, out);
+    return finish(degree, row, up(a[RADIUS] * extent, UNIT) + degree, a[LOWER], a[UPPER], out);
 }
 
 static uint32_t evaluate(const int32_t *a, int32_t p, int64_t *bounds)
 {
-    int64_t t = (int64_t)1 << 30, next = (int64_t)1024 * p, v = 0, w = 0;
-    if (!good_model(a))
-        return BAD_MODEL;
-    if (p < -UNIT || p > UNIT)
+    uint32_t number = model_fault(a);
+    if (number != 0)
+        return number;
+    if (p < a[LOWER] || p > a[UPPER])
         return POINT_OUTSIDE;
+    int64_t extent = (int64_t)a[UPPER] - a[LOWER];
+    int64_t numerator = UNIT * (2 * (int64_t)p - a[LOWER] - a[UPPER]);
+    int64_t point = near(numerator, extent);
+    /* k (k - 1) of W, and 2^11 k^2 more if the point was rounded, is k (squares k - 1). */
+    int64_t squares = point * extent == numerator ? 1 : 1 + 2048;
+    int64_t t = (int64_t)1 << 30, next = 1024 * point, v = 0, w = 0;
     for (int k = 0; k <= a[0]; k++) {
         v += a[1 + k] * t;
-        w += magnitude(a[1 + k]) * k * (k - 1);
-        int64_t after = near(2 * (int64_t)p * next, UNIT) - t;
+        w += magnitude(a[1 + k]) * k * (squares * k - 1);
+        int64_t after = near(2 * point * next, UNIT) - t;
         t = next;
         next = after;
     }
@@ -158,7 +171,7 @@ static uint32_t evaluate(const int32_t *a, int32_t p, int64_t *bounds)
     return 0;
 }
 
-/* A series has the limits of a candidate. */
+/* A series has the limits of a candidate, and its model the ends -S and S. */
 static uint32_t from_series(const int32_t *series, int32_t *out)
 {
     int64_t sums[COEFFICIENTS] = {0}, row[COEFFICIENTS], error = 0;
@@ -172,7 +185,7 @@ static uint32_t from_series(const int32_t *series, int32_t *out)
         row[j] = near(sums[j], EXPANSION_UNIT);
         error += magnitude(sums[j] - EXPANSION_UNIT * row[j]);
     }
-    return finish(degree, row, up(error, EXPANSION_UNIT), out);
+    return finish(degree, row, up(error, EXPANSION_UNIT), -UNIT, UNIT, out);
 }
 
 /* ---- The tests ----
@@ -187,11 +200,14 @@ static void take_residual(int64_t *c, const int32_t *f)
         c[k] -= 2 * (int64_t)UNIT * f[1 + k];
 }
 
-static void accept_candidate(const int32_t *h, int64_t radius, int64_t m, int64_t n,
+/* h on the interval of f. */
+static void accept_candidate(const int32_t *f, const int32_t *h, int64_t radius, int64_t m, int64_t n,
                              int64_t b, int32_t *out, uint64_t *numbers)
 {
     memcpy(out, h, CANDIDATE_SIZE * sizeof *out);
     out[RADIUS] = (int32_t)radius;
+    out[LOWER] = f[LOWER];
+    out[UPPER] = f[UPPER];
     numbers[0] = (uint64_t)m;
     numbers[1] = (uint64_t)n;
     numbers[2] = (uint64_t)b;
@@ -208,6 +224,8 @@ static inline uint32_t judge_quotient(const int32_t *f, const int32_t *g, const 
 {
     if (!good_candidate(h) || !good_candidate(w))
         return BAD_MODEL;
+    if (!same_interval(f, g))
+        return DIFFERENT_INTERVALS;
     int64_t m_weight = model_weight(w), h_weight = model_weight(h), e_g = g[RADIUS];
     product_list(w, g, c);
     c[0] -= 2 * (int64_t)UNIT * UNIT;
@@ -233,23 +251,23 @@ static uint32_t test_quotient(const int32_t *f, const int32_t *g, const int32_t 
 {
     struct passed p;
     int64_t c[PRODUCT_SIZE];
-    if (!good_model(f) || !good_model(g))
-        return BAD_MODEL;
-    uint32_t number = judge_quotient(f, g, h, w, c, &p);
+    uint32_t number = models_fault(f, g);
     if (number == 0)
-        accept_candidate(h, p.radius, p.m, p.n, p.b, out, numbers);
+        number = judge_quotient(f, g, h, w, c, &p);
+    if (number == 0)
+        accept_candidate(f, h, p.radius, p.m, p.n, p.b, out, numbers);
     return number;
 }
 
-/* The test of one proposal, h and then w; good says whether f and g are. */
-static uint32_t test_proposal(int good, const int32_t *f, const int32_t *g,
+/* The test of one proposal, h and then w; fault is the refusal that f and g give. */
+static uint32_t test_proposal(uint32_t fault, const int32_t *f, const int32_t *g,
                               const int32_t *proposal, size_t length, int64_t *c,
                               struct passed *passed)
 {
     if (length < PROPOSAL_SIZE)
         return SHORT_AREA;
-    if (!good)
-        return BAD_MODEL;
+    if (fault != 0)
+        return fault;
     return judge_quotient(f, g, proposal, proposal + CANDIDATE_SIZE, c, passed);
 }
 
@@ -260,9 +278,9 @@ static uint32_t select_proposal(const int32_t *f, const int32_t *g,
 {
     struct passed one, two;
     int64_t c[PRODUCT_SIZE];
-    int good = good_model(f) && good_model(g);
-    uint32_t number = test_proposal(good, f, g, first, first_len, c, &one);
-    uint32_t other = test_proposal(good, f, g, second, second_len, c, &two);
+    uint32_t fault = models_fault(f, g);
+    uint32_t number = test_proposal(fault, f, g, first, first_len, c, &one);
+    uint32_t other = test_proposal(fault, f, g, second, second_len, c, &two);
     if (other == 0 && (number != 0 || two.radius < one.radius)) {
         answer[0] = CHOSEN_SECOND;
         answer[1] = (uint32_t)two.radius;
@@ -285,7 +303,10 @@ static uint32_t form_root_numbers(const int32_t *f, const int32_t *h, const int3
                                   struct root_numbers *formed)
 {
     int64_t c[PRODUCT_SIZE];
-    if (!good_model(f) || !good_candidate(h) || !good_candidate(w))
+    uint32_t number = model_fault(f);
+    if (number != 0)
+        return number;
+    if (!good_candidate(h) || !good_candidate(w))
         return BAD_MODEL;
     int64_t sum = 0, m_weight = model_weight(w);
     for (int k = 0; k < COEFFICIENTS; k++)
@@ -319,7 +340,7 @@ static uint32_t test_root(const int32_t *f, const int32_t *h, const int32_t *w,
     int64_t radius = up(2 * p.b * UNIT, UNIT - p.m);
     if (radius > LIMIT)
         return LARGE_RESULT;
-    accept_candidate(h, radius, p.m, p.n, p.b, out, numbers);
+    accept_candidate(f, h, radius, p.m, p.n, p.b, out, numbers);
     return 0;
 }
 
@@ -361,7 +382,7 @@ static uint32_t test_tight_root(const int32_t *f, const int32_t *h, const int32_
     uint64_t radius = least_radius((uint64_t)p.m_weight, (uint64_t)p.m, (uint64_t)p.b);
     if (radius == NO_SUCH_RADIUS)
         return NO_RADIUS;
-    accept_candidate(h, (int64_t)radius, p.m, p.n, p.b, out, numbers);
+    accept_candidate(f, h, (int64_t)radius, p.m, p.n, p.b, out, numbers);
     return 0;
 }
 
@@ -478,13 +499,19 @@ static uint32_t read_u32(const uint8_t *p)
     return p[0] | (uint32_t)p[1] << 8 | (uint32_t)p[2] << 16 | (uint32_t)p[3] << 24;
 }
 
+static int32_t read_i32(const uint8_t *p)
+{
+    uint32_t bits = read_u32(p);
+    int32_t number;
+    memcpy(&number, &bits, sizeof bits);
+    return number;
+}
+
 static void read_block(const uint8_t *p, int32_t *candidate)
 {
     candidate[0] = p[0];
-    for (int k = 0; k < COEFFICIENTS; k++) {
-        uint32_t bits = read_u32(p + 1 + 4 * k);
-        memcpy(&candidate[1 + k], &bits, sizeof bits);
-    }
+    for (int k = 0; k < COEFFICIENTS; k++)
+        candidate[1 + k] = read_i32(p + 1 + 4 * k);
 }
 
 /* Operand bytes and result bytes of a command; 0 for an unknown one. */
@@ -494,6 +521,7 @@ static int known(uint8_t byte, size_t *width, size_t *names)
     case 0x00: *width = 0;             *names = 0; return 1;
     case 0x01: *width = 1;             *names = 0; return 1;
     case 0x10: *width = BLOCK_BYTES + 4;     *names = 0; return 1;
+    case 0x14: *width = BLOCK_BYTES + 12;    *names = 0; return 1;
     case 0x11:
     case 0x12: *width = 2;             *names = 2; return 1;
     case 0x13: *width = 3;             *names = 2; return 1;
@@ -504,7 +532,7 @@ static int known(uint8_t byte, size_t *width, size_t *names)
     }
 }
 
-/* One command that makes a result; out is its own 35 numbers of the work area, zero so far. */
+/* One command that makes a result; out is its own 37 numbers of the work area, zero so far. */
 static uint32_t operate(uint8_t byte, const uint8_t *operands, size_t names,
                         const int32_t *work, int32_t *out)
 {
@@ -512,13 +540,12 @@ static uint32_t operate(uint8_t byte, const uint8_t *operands, size_t names,
     uint64_t numbers[NUMBERS_SIZE];
     const int32_t *a = names > 0 ? work + MODEL_SIZE * operands[0] : NULL;
     const int32_t *b = names > 1 ? work + MODEL_SIZE * operands[1] : NULL;
-    if (byte == 0x10) {
-        uint32_t radius = read_u32(operands + BLOCK_BYTES);
+    if (byte == 0x10 || byte == 0x14) {
         read_block(operands, out);
-        if (!good_candidate(out) || radius > LIMIT)
-            return BAD_MODEL;
-        out[RADIUS] = (int32_t)radius;
-        return 0;
+        out[RADIUS] = read_i32(operands + BLOCK_BYTES);    /* below 0 from 2^31 on, and refused */
+        out[LOWER] = byte == 0x14 ? read_i32(operands + BLOCK_BYTES + 4) : -UNIT;
+        out[UPPER] = byte == 0x14 ? read_i32(operands + BLOCK_BYTES + 8) : UNIT;
+        return model_fault(out);
     }
     if (byte == 0x11 || byte == 0x12)
         return termwise(a, b, byte == 0x11 ? 1 : -1, out);

@@ -1,5 +1,5 @@
 /* Plain C99 version of the library and job checker of document 01.
-   A model area is 35 numbers: degree, 33 coefficients, radius.
+   A model area is 37 numbers: degree, 33 coefficients, radius, lower and upper end.
    A candidate area is 34 numbers: degree, 33 coefficients; a series area has the
    coefficients of x^0 to x^32.
    Every function gives the refusal's number, 0 when accepted.  Areas are left as

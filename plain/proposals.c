@@ -158,9 +158,9 @@ uint32_t plain_make_reciprocal(const int32_t *g, size_t g_len, double *record, s
               & CLEAR(outcome, OUTCOME_SIZE);
     if (!fit || g_len < MODEL_SIZE)
         return SHORT_AREA;
-    if (!good_model(g))
-        return BAD_MODEL;
-    uint32_t number = reciprocal(g, made, &ended);
+    uint32_t number = model_fault(g);
+    if (number == 0)
+        number = reciprocal(g, made, &ended);
     if (number == 0)
         number = to_candidate(made, units);
     if (number != 0)
@@ -182,9 +182,9 @@ uint32_t plain_make_quotient(const int32_t *f, size_t f_len, const int32_t *g, s
               & CLEAR(w, CANDIDATE_SIZE) & CLEAR(outcome, OUTCOME_SIZE);
     if (!fit || f_len < MODEL_SIZE || g_len < MODEL_SIZE)
         return SHORT_AREA;
-    if (!good_model(f) || !good_model(g))
-        return BAD_MODEL;
-    uint32_t number = reciprocal(g, last, &ended);
+    uint32_t number = operands_fault(f, g);
+    if (number == 0)
+        number = reciprocal(g, last, &ended);
     if (number != 0)
         return number;
     to_values(f, a);

@@ -6,15 +6,16 @@ from itertools import combinations
 import jobs
 import proposal_cases
 import unit_cases
-from cases import Case
+from cases import Case, on
 from examples_of_01 import example_job
 from header import (
-    ACCEPTED, ANSWER_SIZE, BAD_MODEL, BAD_SERIES, BAD_VALUE, BOUNDS_SIZE, BYTES_AFTER_END,
-    CANDIDATE_SIZE, HELPER_NOT_POSITIVE, JOB_ENDS, LARGE_RESIDUAL, LARGE_RESULT, MAX_DEGREE,
+    ACCEPTED, ANSWER_SIZE, BAD_ENDS, BAD_MODEL, BAD_SERIES, BAD_VALUE, BOUNDS_SIZE, BYTES_AFTER_END,
+    CANDIDATE_SIZE, DIFFERENT_INTERVALS, HELPER_NOT_POSITIVE, JOB_ENDS, LARGE_RESIDUAL, LARGE_RESULT, MAX_DEGREE,
     MAX_RESULTS, MODEL_SIZE, NEGATIVE_DISCRIMINANT, NO_RADIUS, NOT_A_RESULT, NOT_CONTRACTING, NUMBERS_SIZE, OUTCOME_SIZE,
     POINT_OUTSIDE, QUOTIENT_RECORD_SIZE, RECIPROCAL_RECORD_SIZE, SCRATCH_SIZE, SELECTION_SIZE, SERIES_SIZE, TOO_MANY_RESULTS,
     VALUES_SIZE, WORK_SIZE)
-from oracle import LIMIT, PRODUCT_SIZE, S, constant, model, power, series, term
+from oracle import LIMIT, S, constant, model, power, series, term
+from power_basis import PRODUCT_SIZE
 from selection_cases import DIVIDEND, DIVISOR, TESTED
 from series_cases import GROWN
 
@@ -55,6 +56,8 @@ ANSWERS = ('out', 'bounds', 'numbers', 'answer', 'record', 'h', 'w', 'outcome', 
 ONE, MOST, BAD = constant(S), constant(LIMIT), constant(LIMIT + 1)
 CURVE = model([S, S // 3, -5], 7)
 FOUR, TWO, QUARTER = constant(4 * S), constant(2 * S), constant(S // 4)
+# With no interval, and on another one.
+ENDLESS, SHIFTED = on(CURVE, S, S), on(CURVE, 0, 2 * S)
 
 
 def one_load(*commands, loaded=FOUR):
@@ -62,20 +65,24 @@ def one_load(*commands, loaded=FOUR):
 
 
 WITNESSES = {
-    'add': {ACCEPTED: (CURVE, ONE), BAD_MODEL: (CURVE, BAD), LARGE_RESULT: (MOST, ONE)},
-    'subtract': {ACCEPTED: (CURVE, ONE), BAD_MODEL: (BAD, CURVE), LARGE_RESULT: (MOST, constant(-1))},
+    'add': {ACCEPTED: (CURVE, ONE), BAD_MODEL: (CURVE, BAD), LARGE_RESULT: (MOST, ONE), BAD_ENDS: (CURVE, ENDLESS),
+            DIFFERENT_INTERVALS: (CURVE, SHIFTED)},
+    'subtract': {ACCEPTED: (CURVE, ONE), BAD_MODEL: (BAD, CURVE), LARGE_RESULT: (MOST, constant(-1)), BAD_ENDS: (ENDLESS, CURVE),
+                 DIFFERENT_INTERVALS: (SHIFTED, CURVE)},
     'multiply': {ACCEPTED: (CURVE, CURVE, 2), BAD_MODEL: (CURVE, BAD, 2),
-                 BAD_VALUE: (CURVE, CURVE, MAX_DEGREE + 1), LARGE_RESULT: (MOST, MOST, 0)},
-    'integrate': {ACCEPTED: (CURVE,), BAD_MODEL: (BAD,), LARGE_RESULT: (term(MAX_DEGREE, 1),)},
-    'evaluate': {ACCEPTED: (CURVE, S // 2), BAD_MODEL: (BAD, 0), POINT_OUTSIDE: (CURVE, S + 1)},
+                 BAD_VALUE: (CURVE, CURVE, MAX_DEGREE + 1), LARGE_RESULT: (MOST, MOST, 0), BAD_ENDS: (ENDLESS, CURVE, 2),
+                 DIFFERENT_INTERVALS: (CURVE, SHIFTED, 2)},
+    'integrate': {ACCEPTED: (CURVE,), BAD_MODEL: (BAD,), LARGE_RESULT: (term(MAX_DEGREE, 1),), BAD_ENDS: (ENDLESS,)},
+    'evaluate': {ACCEPTED: (CURVE, S // 2), BAD_MODEL: (BAD, 0), POINT_OUTSIDE: (CURVE, S + 1), BAD_ENDS: (ENDLESS, S)},
     'quotient': {ACCEPTED: (ONE, constant(3 * S), constant(S // 3), constant(S // 3)),
                  BAD_MODEL: (ONE, ONE, BAD, ONE), NOT_CONTRACTING: (ONE, ONE, ONE, constant(0)),
                  LARGE_RESIDUAL: (constant(-LIMIT), ONE, MOST, ONE),
-                 LARGE_RESULT: (MOST, ONE, constant(0), constant(S + 1))},
+                 LARGE_RESULT: (MOST, ONE, constant(0), constant(S + 1)), BAD_ENDS: (ONE, ENDLESS, ONE, ONE),
+                 DIFFERENT_INTERVALS: (SHIFTED, ONE, ONE, ONE)},
     'root': {ACCEPTED: (constant(2 * S), TWO, QUARTER), BAD_MODEL: (FOUR, TWO, BAD),
              HELPER_NOT_POSITIVE: (FOUR, constant(-2 * S), constant(-S // 4)),
              NOT_CONTRACTING: (FOUR, TWO, ONE), LARGE_RESIDUAL: (constant(-LIMIT), TWO, QUARTER),
-             NEGATIVE_DISCRIMINANT: (ONE, TWO, QUARTER)},
+             NEGATIVE_DISCRIMINANT: (ONE, TWO, QUARTER), BAD_ENDS: (ENDLESS, TWO, QUARTER)},
     'check': {number: (job,) for number, job in {
         ACCEPTED: example_job(),
         BAD_VALUE: one_load(jobs.multiply(0, 0, MAX_DEGREE + 1)),
@@ -83,6 +90,8 @@ WITNESSES = {
         NOT_A_RESULT: one_load(jobs.add(0, 1)),
         TOO_MANY_RESULTS: one_load(jobs.load(ONE) * MAX_RESULTS),
         BAD_MODEL: one_load(jobs.load(BAD)),
+        BAD_ENDS: one_load(jobs.load_on(ENDLESS)),
+        DIFFERENT_INTERVALS: one_load(jobs.load_on(SHIFTED), jobs.add(0, 1)),
         HELPER_NOT_POSITIVE: one_load(jobs.root(0, constant(-2 * S), constant(-S // 4))),
         NOT_CONTRACTING: one_load(jobs.root(0, TWO, ONE)),
         LARGE_RESIDUAL: one_load(jobs.root(0, TWO, QUARTER), loaded=constant(-LIMIT)),
@@ -93,7 +102,9 @@ WITNESSES = {
     }.items()},
     'from_series': {ACCEPTED: (series([S, -7, S // 3, 5]),), LARGE_RESULT: (GROWN[0],),
                     BAD_SERIES: (power(MAX_DEGREE, LIMIT + 1),)},
-    'quotient_of_two': {number: (DIVIDEND, DIVISOR, tested[0], tested[-1]) for number, tested in TESTED.items()},
+    'quotient_of_two': {**{number: (DIVIDEND, DIVISOR, tested[0], tested[-1]) for number, tested in TESTED.items()},
+                        BAD_ENDS: (DIVIDEND, ENDLESS, TESTED[ACCEPTED][0], TESTED[ACCEPTED][1]),
+                        DIFFERENT_INTERVALS: (DIVIDEND, SHIFTED, TESTED[ACCEPTED][0], TESTED[ACCEPTED][1])},
     **proposal_cases.WITNESSES, 'to_units': unit_cases.WITNESSES,
 }
 # Up to N the tighter root test is the root test.
@@ -116,9 +127,12 @@ def sized(entry):
     return [(i, size) for i, (_, size, what) in enumerate(AREAS[entry]) if what not in ANY_LENGTH]
 
 
+FORMER = {MODEL_SIZE: MODEL_SIZE - 2, WORK_SIZE: WORK_SIZE - 2 * MAX_RESULTS}       # without the ends
+
+
 def lengths_around(size):
-    """None, one, one too few, as many as needed, one more, many more."""
-    return sorted({0, 1, size - 1, size, size + 1, size + 9})
+    """None, one, as many as before S-24, one too few, as many as needed, one more, many more."""
+    return sorted({0, 1, FORMER.get(size, 0), size - 1, size, size + 1, size + 9})
 
 
 def area_cases(entry):

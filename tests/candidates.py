@@ -8,7 +8,8 @@ from math import cos, pi, sqrt
 from operator import mul
 
 from header import COEFFICIENTS, S
-from oracle import LIMIT, model, trimmed
+from oracle import LIMIT, model
+from power_basis import trimmed
 
 NODES = 64
 NODE_POINTS = [cos(pi * (i + 0.5) / NODES) for i in range(NODES)]

@@ -8,8 +8,8 @@ from typing import NamedTuple
 
 import oracle as o
 from candidates import largest_accepted
-from header import COEFFICIENTS, DEFAULT_KEPT, MAX_DEGREE, S
-from oracle import LIMIT, Model, constant, model, term
+from header import COEFFICIENTS, DEFAULT_KEPT, MAX_DEGREE, MAX_END, S
+from oracle import LIMIT, constant, model, term
 
 LOWEST, HIGHEST = -(1 << 31), (1 << 31) - 1
 
@@ -26,6 +26,20 @@ class Case(NamedTuple):
 
 
 # ---- Models -------------------------------------------------------------------
+
+def on(m, lower, upper):
+    """The model on another interval."""
+    return m._replace(lower=lower, upper=upper)
+
+
+def random_interval(rng):
+    """Good ends: extents from 1 to 2^29, those of document 02's limits and of the standard interval too, anywhere."""
+    extent = rng.choice((1, 2, 3, S, 2 * S, 4 * S, 2 * MAX_END, *(int(2 ** rng.uniform(0, 29)) for _ in range(9))))
+    last = MAX_END - extent
+    lower = rng.choice((-MAX_END, last, 0, -S, -extent // 2, rng.randint(-MAX_END, last), rng.randint(-MAX_END, last)))
+    lower = min(lower, last)
+    return lower, lower + extent
+
 
 def random_degree(rng):
     return rng.choice((0, 0, 1, 2, 3, MAX_DEGREE - 1, MAX_DEGREE, MAX_DEGREE,
@@ -77,6 +91,11 @@ def random_model(rng, total=None, radius=None, degree=None):
 BAD_DEGREES = (-1, MAX_DEGREE + 1, MAX_DEGREE + 2, 2 * MAX_DEGREE, 255, LOWEST, HIGHEST)
 
 
+def with_row(m, row):
+    """The model with these leading coefficients, and their degree."""
+    return m._replace(degree=len(row) - 1, coefficients=tuple(row) + (0,) * (COEFFICIENTS - len(row)))
+
+
 def spoiled(rng, m, candidate=False):
     """A bad model that differs from m in one point; a candidate has no radius."""
     row = list(m.coefficients)
@@ -88,18 +107,18 @@ def spoiled(rng, m, candidate=False):
         row = row[:degree + 1] + [0] * (MAX_DEGREE - degree)
         row[rng.choice((degree + 1, MAX_DEGREE, rng.randint(degree + 1, MAX_DEGREE)))] = \
             rng.choice((1, -1, S, LOWEST))
-        return Model(degree, tuple(row), m.radius)
+        return m._replace(degree=degree, coefficients=tuple(row))
     if kind == 2:                                   # weight one too high
         row = [0] * (m.degree + 1)
         row[0] = signed(rng, 1)
         row[-1] = signed(rng, LIMIT if m.degree else LIMIT + 1)
-        return model(row, m.radius)
+        return with_row(m, row)
     if kind == 3:                                   # far too high, ends of 32 bits
         row = [0] * (m.degree + 1)
         row[rng.randint(0, len(row) - 1)] = rng.choice((LOWEST, HIGHEST))
         if rng.random() < 0.3:
             row = [LOWEST] * COEFFICIENTS
-        return model(row, m.radius)
+        return with_row(m, row)
     return m._replace(radius=rng.choice((LIMIT + 1, -1, LOWEST, HIGHEST)))
 
 

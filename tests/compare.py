@@ -5,6 +5,7 @@
   compare.py --plant multiply           planted wrong answers must be found, one in each area answered in
   compare.py --plant quotient_of_two --exchange   so must the other proposal, chosen
   compare.py --plant root --cleared 17  so must a scratch of which 17 numbers are cleared
+  compare.py --plant add --former       so must a model that is written in 35 numbers
   compare.py --leave multiply           areas left as they were by refusal 1 must be found
 
 Exits with 0 when all answers agree, 1 when any answer differs, 2 when something
@@ -30,6 +31,8 @@ from random import Random
 import cases
 import certificate_cases
 import faults
+import interval_cases
+import interval_jobs
 import job_cases
 import oracle as o
 import proposal_cases
@@ -42,6 +45,7 @@ import tight_root_cases
 import tight_root_jobs
 import unit_cases
 from area_cases import ANSWERS, ANY_LENGTH, AREAS, DOUBLES, MORE, WITNESSES, area_cases, sized, witness
+from counts import WHOLE, check_intervals, check_pairs, check_proposals, check_scratches, check_tight_roots, check_ties
 from examples_of_01 import check_examples
 from group_cases import group_cases
 from header import CANDIDATE_SIZE, MODEL_SIZE, PLACE_RADIUS, SCRATCH_SIZE, SHORT_AREA, WORK_SIZE, check_header
@@ -57,17 +61,10 @@ SHARE = {'add': 2, 'subtract': 2, 'multiply': 3, 'integrate': 3, 'evaluate': 3,
          'make_reciprocal': 1, 'make_quotient': 1, 'to_units': 60, 'tight_root': 4}
 BATCH = 2000
 SOUNDNESS_SAMPLE = 0.04
+SAMPLE_ON_INTERVALS = 0.3   # of the accepted cases on another interval than the standard one, and of jobs with 0x14
 SAMPLE_OF_16 = 0.25         # of the accepted cases that have a scratch, of 16 numbers
 ANSWERED = ('from_series', 'quotient_of_two', 'tight_root')     # checked for soundness as the library answered, each of them
 UNVOUCHED = tuple(proposal_cases.WRITTEN)           # nothing holds of what they answer but its bits
-WHOLE = 210000              # calls of the whole comparison; at least so many of them
-TIED = 2000                 # are accepted where some near rounds a tie
-PAIRS, CHOSEN = 7000, 4000  # have two proposals; have one chosen and put to random fractions
-TIGHT, TIGHT_JOBS = 4000, 3000      # are tighter root tests on areas long enough; are jobs with 0x22
-SOUND_TIGHT, SOUND_TIGHT_JOBS = 2000, 100       # are such tests, such jobs checked for soundness
-SOUND_OF_16 = 50            # of each entry with a scratch are checked for soundness with one of 16
-MODELS, PATTERNS = 3000, 100000     # different ones are put to the makers; to the step to units, each alone
-ROUNDING = ('multiply', 'integrate', 'evaluate', 'from_series', 'check')        # the entries that use near
 
 
 def stop(message):
@@ -76,7 +73,7 @@ def stop(message):
 
 
 def flat(m):
-    """The numbers of a model, of a series, which has no radius, or of a list of values, which has no degree either."""
+    """The numbers of a model, of a series, which has no radius and no ends, or of a list of values, which has no degree either."""
     return [m.degree, *m.coefficients, *m[2:]] if isinstance(m, (o.Model, o.Series)) else list(m)
 
 
@@ -225,14 +222,15 @@ def make_cases(entries, wanted, rng):
              **selection_cases.RANDOM, **proposal_cases.RANDOM, **unit_cases.RANDOM, **tight_root_cases.RANDOM}
     made = 0
     for entry in entries:
-        for case in (*area_cases(entry), *scratch_cases.scratch_cases(entry), *group_cases(entry), *fixed[entry]()):
+        for case in (*area_cases(entry), *scratch_cases.scratch_cases(entry), *group_cases(entry), *fixed[entry](),
+                     *interval_cases.interval_cases(entry)):
             made += 1
             yield case
     shares = [SHARE[entry] for entry in entries]
     while made < wanted:
         entry = rng.choices(entries, shares)[0]
         made += 1
-        yield perhaps_shortened(rng, drawn[entry](rng))
+        yield perhaps_shortened(rng, interval_cases.on_some_interval(rng, drawn[entry](rng)))
 
 
 def with_tests(drawn, entries):
@@ -275,7 +273,7 @@ def answered_row(case, areas, answer, wanted=('out', 'answer')):
 
 
 def model_of(row):
-    return o.Model(row[0], tuple(row[1:PLACE_RADIUS]), row[PLACE_RADIUS])
+    return o.Model(row[0], tuple(row[1:PLACE_RADIUS]), *row[PLACE_RADIUS:])
 
 
 def answered_model(case, areas, answer):
@@ -283,7 +281,7 @@ def answered_model(case, areas, answer):
     row, what = answered_row(case, areas, answer)
     if what == 'answer':
         chosen, radius = row
-        row = [*case.inputs[1 + chosen][:CANDIDATE_SIZE], radius]
+        row = [*case.inputs[1 + chosen][:CANDIDATE_SIZE], radius, *o.interval(case.inputs[0])]
     return model_of(row)
 
 
@@ -294,63 +292,6 @@ def answered_job(case, areas, answer):
     return command, [model_of(work[MODEL_SIZE * i:MODEL_SIZE * (i + 1)]) for i in range(count)]
 
 
-def check_ties(ties, total):
-    """The counts of cases with ties, in words: on both sides of zero in each entry, enough in the whole comparison."""
-    rounding = [entry for entry in ties if entry in ROUNDING]
-    for entry in rounding:
-        assert ties[entry][True] and ties[entry][False], f'{entry}: no tie above zero, or none below'
-    tied = sum(ties[entry]['cases'] for entry in ties)
-    assert set(ties) != set(ENTRIES) or tied * WHOLE >= TIED * min(total, WHOLE), f'{tied} cases with a tie'
-    return ', '.join([*(f'{entry} {ties[entry]["cases"]} ({ties[entry][True]} with one above zero, '
-                        f'{ties[entry][False]} below)' for entry in rounding), f'{tied} in all'])
-
-
-def check_pairs(pairs, chosen, entries, total):
-    """The counts of pairs of proposals, in words: each kind, enough in the whole comparison."""
-    drawn, part = pairs['pairs'], min(total, WHOLE)
-    enough = drawn * WHOLE >= PAIRS * part and chosen * WHOLE >= CHOSEN * part
-    assert set(entries) != set(ENTRIES) or enough, f'{drawn} pairs, {chosen} chosen proposals checked'
-    return f'{selection_cases.counted(pairs)}; {chosen} chosen proposals checked for soundness'
-
-
-def check_tight_roots(tests, tight_jobs, sound, entries, total):
-    """The counts of tighter root tests and of jobs with 0x22, in words: each kind, enough in the whole comparison."""
-    whole, both = set(entries) == set(ENTRIES), {'root', 'tight_root'} <= set(entries)
-    for what, wanted, count, asked in (
-            ('tighter root tests', TIGHT, tests['tests'], whole), ('jobs with 0x22', TIGHT_JOBS, tight_jobs['jobs'], whole),
-            ('tighter root tests with 0x21 behind', TIGHT, tests['0x21 behind it'], both),
-            ('tighter roots checked for soundness', SOUND_TIGHT, sound, whole),
-            ('jobs with 0x22 checked for soundness', SOUND_TIGHT_JOBS, tight_jobs['checked for soundness'], whole)):
-        assert not asked or count * WHOLE >= wanted * min(total, WHOLE), f'{count} {what}'
-    if 'tight_root' in entries:
-        yield (f'tighter roots: {tight_root_cases.counted(tests)}; with the root test of the same candidates behind it: '
-               f'{tests["0x21 behind it"]}; checked for soundness: {sound}')
-    if 'check' in entries:
-        yield f'tighter roots in jobs: {tight_root_jobs.counted_jobs(tight_jobs)}'
-
-
-def check_scratches(scratches, sound, entries, total):
-    """The counts of lent scratches, in words: each length with each answer, and enough of 16 numbers checked for soundness."""
-    rows = [scratch_cases.counted(entry, scratches[entry]) for entry in scratches]
-    few = [entry for entry in scratches if sound[entry] * WHOLE < SOUND_OF_16 * min(total, WHOLE)]
-    assert set(entries) != set(ENTRIES) or not few, f'too few checked for soundness with a scratch of 16: {few}'
-    checked = ', '.join(f'{entry} {sound[entry]}' for entry in scratches)
-    return '\n  '.join(['', *rows, f'checked for soundness with 16: {checked}'])
-
-
-def check_proposals(made, units, entries, total):
-    """The counts of made proposals and of values in units, in words: each kind, enough in the whole comparison."""
-    whole = set(entries) == set(ENTRIES) and total >= WHOLE
-    if set(entries) & set(proposal_cases.MAKERS):
-        models, text = proposal_cases.counted(made, entries)
-        assert not whole or models >= MODELS, f'{models} models'
-        yield f'made proposals: {text}'
-    if 'to_units' in entries:
-        patterns, text = unit_cases.counted(units)
-        assert not whole or patterns >= PATTERNS, f'{patterns} values'
-        yield f'values in units: {text}'
-
-
 def plant_fault(options, batch, answers):
     """The places of the answers that are spoiled as the options say."""
     if options.cleared is not None:
@@ -359,6 +300,8 @@ def plant_fault(options, batch, answers):
         return faults.leave(batch, answers, options.leave)
     if options.exchange:
         return faults.exchange(batch, answers)
+    if options.former:
+        return faults.former(batch, answers, options.plant)
     return faults.plant(batch, answers, options.plant) if options.plant else set()
 
 
@@ -372,6 +315,7 @@ def main():
     parser.add_argument('--plant', choices=ENTRIES, help='spoil answers of this entry')
     parser.add_argument('--exchange', action='store_true', help='with --plant quotient_of_two: the other proposal chosen')
     parser.add_argument('--cleared', type=int, help='with --plant: so many numbers of the scratch cleared, for 16')
+    parser.add_argument('--former', action='store_true', help='with --plant: a model written in 35 numbers')
     parser.add_argument('--leave', choices=ENTRIES, help='leave the areas of this entry on refusal 1')
     parser.add_argument('--link', default='', help='more flags for the compiler and linker, separated by blanks')
     parser.add_argument('--runner', default='', help='run the harness under this command')
@@ -384,6 +328,8 @@ def main():
         parser.error('the planted entry is not among the entries')
     if options.exchange and options.plant != 'quotient_of_two':
         parser.error('only the chosen proposal can be exchanged')
+    if options.former and options.plant not in faults.WITH_MODELS:
+        parser.error(f'--former goes with --plant of {",".join(faults.WITH_MODELS)}')
     if options.cleared is not None and options.plant not in scratch_cases.PLACES:
         parser.error(f'--cleared goes with --plant of {",".join(scratch_cases.PLACES)}')
     check_header()
@@ -399,13 +345,20 @@ def main():
     rng, sound_rng = Random(options.seed), Random(options.seed)
     began = time.perf_counter()
     oracle_time, differences, planted = 0.0, 0, False
-    pairs, made, units, sound, sound_of_16, tight, tight_jobs = (Counter() for _ in range(7))
+    pairs, made, units, sound, sound_of_16, tight, tight_jobs, placed, placed_jobs = (Counter() for _ in range(9))
     scratches = {entry: Counter() for entry in entries if entry in scratch_cases.PLACES}
     counts, ties = ({entry: Counter() for entry in entries} for _ in range(2))
     with tempfile.TemporaryDirectory() as folder:
         program = build_harness(folder, entries, options.library, options.plain,
                                 options.link.split())
         batch, previous = [], None
+
+        def count_sound(case, areas, of_job):
+            sound[case.entry] += 1
+            sound_of_16[case.entry] += scratch_of(case, areas) == SCRATCH_SIZE
+            placed['sound'] += case.entry != 'evaluate' and interval_cases.is_placed(case)
+            for counter in of_job:
+                counter['checked for soundness'] += 1
 
         def judge():
             nonlocal differences, planted
@@ -415,8 +368,7 @@ def main():
             for i, ((case, areas, number, expected), found) in enumerate(zip(batch, answers)):
                 if expected == found and case.entry in ANSWERED and number == 0:
                     soundness.check_answered(sound_rng, case, answered_model(case, areas, found))
-                    sound[case.entry] += 1
-                    sound_of_16[case.entry] += scratch_of(case, areas) == SCRATCH_SIZE
+                    count_sound(case, areas, [])
                 if expected != found:
                     differences += 1
                     spoiled.discard(i)
@@ -448,17 +400,20 @@ def main():
                 tight.update(tight_root_cases.kinds(case, lengths, number))
             tight['0x21 behind it'] += case.entry == 'root' and previous == case._replace(entry='tight_root')
             previous = case
-            of_job = []
+            placed.update(interval_cases.kinds(case, lengths, number))
+            of_job = []                             # the counters that count this job
             if case.entry == 'check' and number != SHORT_AREA:
-                of_job = tight_root_jobs.job_kinds(*case.inputs, number, *answered_job(case, areas, expected))
-                tight_jobs.update(of_job)
+                for counter, of in ((tight_jobs, tight_root_jobs), (placed_jobs, interval_jobs)):
+                    found = of.job_kinds(*case.inputs, number, *answered_job(case, areas, expected))
+                    counter.update(found)
+                    of_job += [counter] * ('jobs' in found)
             batch.append((case, areas, number, expected))
-            share = {None: SOUNDNESS_SAMPLE, SCRATCH_SIZE: SAMPLE_OF_16}.get(scratch_of(case, areas), 0)
+            on_interval = interval_cases.is_placed(case) or any(counter is placed_jobs for counter in of_job)
+            share = max({None: SOUNDNESS_SAMPLE, SCRATCH_SIZE: SAMPLE_OF_16}.get(scratch_of(case, areas), 0),
+                        SAMPLE_ON_INTERVALS * on_interval)
             if number == 0 and case.entry not in (*ANSWERED, *UNVOUCHED) and (sound_rng.random() < share or case.made):
                 soundness.check(sound_rng, case)
-                sound[case.entry] += 1
-                sound_of_16[case.entry] += scratch_of(case, areas) == SCRATCH_SIZE
-                tight_jobs['checked for soundness'] += 'jobs' in of_job
+                count_sound(case, areas, of_job)
             if len(batch) == BATCH:
                 judge()
         judge()
@@ -473,7 +428,8 @@ def main():
     if scratches:
         print('scratches:', check_scratches(scratches, sound_of_16, entries, total))
     for text in (*check_proposals(made, units, entries, total),
-                 *check_tight_roots(tight, tight_jobs, sound['tight_root'], entries, total)):
+                 *check_tight_roots(tight, tight_jobs, sound['tight_root'], entries, total),
+                 *check_intervals(placed, placed_jobs, entries, total)):
         print(text)
     print(f'{total} cases, {differences} differences, {time.perf_counter() - began:.1f} s '
           f'(oracle {oracle_time:.1f} s), '

@@ -4,12 +4,17 @@ gives the places of the altered ones in the batch, none if the batch has no answ
 from array import array
 
 from area_cases import ANSWERS, AREAS
-from header import PLACE_RADIUS, SCRATCH_SIZE, SHORT_AREA
+from header import MODEL_SIZE, PLACE_LOWER, PLACE_RADIUS, PLACE_UPPER, SCRATCH_SIZE, SHORT_AREA
 
-# Which numbers of an area are spoiled, each in an answer of its own: the radius, the high bound, m, the radius of the first
-# result; of a proposal the first value or coefficient, the change and the outcome.
-SPOILED = {'out': (PLACE_RADIUS,), 'work': (PLACE_RADIUS,), 'bounds': (1,), 'answer': (1,), 'numbers': (0,),
+# Which numbers of an area are spoiled, each in an answer of its own: the radius and the ends, of the first result in a job, the
+# high bound, m; of a proposal the first value or coefficient, the change and the outcome.
+MODEL_PLACES = PLACE_RADIUS, PLACE_LOWER, PLACE_UPPER
+SPOILED = {'out': MODEL_PLACES, 'work': MODEL_PLACES, 'bounds': (1,), 'answer': (1,), 'numbers': (0,),
            'record': (0, -1), 'h': (1,), 'w': (1,), 'units': (1,), 'outcome': (0,)}
+
+
+# The entries that answer models.
+WITH_MODELS = [entry for entry, areas in AREAS.items() if any(what in ('out', 'work') for _, _, what in areas)]
 
 
 def places_of(case, areas, wanted):
@@ -84,3 +89,21 @@ def leave(batch, answers, entry):
     for i, start, before in chosen.values():
         answers[i] = answers[i][:start] + before + answers[i][start + len(before):]
     return {i for i, _, _ in chosen.values()}
+
+
+def former(batch, answers, entry):
+    """Puts one accepted answer as if a model still had 35 numbers: the ends left as they were, a job's results closer together."""
+    for i, (case, areas, number, expected) in enumerate(batch):
+        if case.entry != entry or number:
+            continue
+        start, area = next(places_of(case, areas, ('out', 'work')))
+        _, size, what = AREAS[entry][area]
+        content, width = areas[area][2], areas[area][2].itemsize
+        answered = array(content.typecode, expected[start:start + width * size])
+        rows = [answered[place:place + PLACE_LOWER] for place in range(0, size, MODEL_SIZE)]
+        written = sum(rows, array(content.typecode))
+        spoiled = (written + content[len(written):size]).tobytes()
+        if spoiled != answered.tobytes() and (what == 'out' or any(rows[1])):
+            answers[i] = answers[i][:start] + spoiled + answers[i][start + len(spoiled):]
+            return {i}
+    return set()

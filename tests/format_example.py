@@ -1,17 +1,19 @@
-"""Checks the worked example of docs/FORMAT.md: its table of offsets and bytes must give
-examples/root_of_4.job, byte for byte."""
+"""Checks the worked examples of docs/FORMAT.md: their tables of offsets and bytes must give
+examples/root_of_4.job and the first load of examples/machine_time.job, byte for byte."""
 
 import re
 import sys
 from pathlib import Path
 
 ROOT = Path(__file__).resolve().parent.parent
+# Section, job, and the bytes of it that the section's table has.
+WORKED = [('A worked example', 'root_of_4', slice(0, None)), ('When to use an interval', 'machine_time', slice(2, 148))]
 ROW = re.compile(r'^\| *(\d+)(?:–(\d+))? *\| *`([0-9a-f ]+)`( repeated)? *\|')
 
 
-def bytes_of_table(text):
-    """The bytes that the rows of the worked example give; each row must start where the
-    last one ended."""
+def bytes_of_table(text, start):
+    """The bytes that the rows of a worked example give; the first must start at an offset, each other
+    where the last one ended."""
     job = bytearray()
     for line in text.splitlines():
         row = ROW.match(line)
@@ -19,8 +21,8 @@ def bytes_of_table(text):
             continue
         first = int(row[1])
         last = int(row[2] or row[1])
-        if first != len(job):
-            sys.exit(f'FORMAT.md: a row starts at {first} instead of {len(job)}')
+        if first != start + len(job):
+            sys.exit(f'FORMAT.md: a row starts at {first} instead of {start + len(job)}')
         given = bytes.fromhex(row[3])
         if row[4]:
             given *= (last - first + 1) // len(given)
@@ -32,9 +34,10 @@ def bytes_of_table(text):
 
 def main():
     text = (ROOT / 'docs' / 'FORMAT.md').read_text()
-    section = text.split('## A worked example', 1)[1].split('\n## ', 1)[0]
-    if bytes_of_table(section) != (ROOT / 'examples' / 'root_of_4.job').read_bytes():
-        sys.exit('FORMAT.md: the worked example is not examples/root_of_4.job')
+    for name, job, part in WORKED:
+        section = text.split(f'\n## {name}\n', 1)[1].split('\n## ', 1)[0]
+        if bytes_of_table(section, part.start) != (ROOT / 'examples' / f'{job}.job').read_bytes()[part]:
+            sys.exit(f'FORMAT.md: the table of "{name}" does not have the bytes of examples/{job}.job')
 
 
 if __name__ == '__main__':

@@ -9,7 +9,8 @@ import oracle as o
 from cases import Case
 from certificate_cases import quotient_case, root_case
 from header import ACCEPTED, LARGE_RESIDUAL, MAX_DEGREE, S
-from oracle import LIMIT, PRODUCT_SIZE, constant, model
+from oracle import LIMIT, constant, model
+from power_basis import PRODUCT_SIZE
 from selection_cases import proposal
 
 GROUP = 16

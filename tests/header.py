@@ -12,7 +12,7 @@ HEADER = Path(__file__).resolve().parent.parent / 'include' / 'ferruntzo.h'
 
 S = 1 << 20                             # one unit is 1/S
 MAX_DEGREE = 32
-MAX_WEIGHT = MAX_RADIUS = MAX_RESIDUAL = 1 << 28
+MAX_WEIGHT = MAX_RADIUS = MAX_END = MAX_RESIDUAL = 1 << 28
 MAX_RESULTS = 32
 DEFAULT_KEPT = 255                      # a kept degree that means 32
 PROGRAM_JOB_BYTES = 65536
@@ -20,11 +20,11 @@ PROGRAM_JOB_BYTES = 65536
 # ---- Sizes, in numbers
 
 COEFFICIENTS = MAX_DEGREE + 1
-MODEL_SIZE = 1 + COEFFICIENTS + 1       # degree, coefficients, radius
 CANDIDATE_SIZE = 1 + COEFFICIENTS       # degree, coefficients
+MODEL_SIZE = CANDIDATE_SIZE + 3         # degree, coefficients, radius, lower end, upper end
 PROPOSAL_SIZE = 2 * CANDIDATE_SIZE      # h, w
 SERIES_SIZE = 1 + COEFFICIENTS          # degree, coefficients of x^0 .. x^32
-PLACE_RADIUS = MODEL_SIZE - 1
+PLACE_RADIUS, PLACE_LOWER, PLACE_UPPER = range(CANDIDATE_SIZE, MODEL_SIZE)
 BOUNDS_SIZE = 2                         # low, high
 SCRATCH_SIZE = 16
 NUMBERS_SIZE = 3                        # m, N, b
@@ -36,6 +36,8 @@ RECIPROCAL_RECORD_SIZE = COEFFICIENTS + 1               # w, change
 QUOTIENT_RECORD_SIZE = COEFFICIENTS + RECIPROCAL_RECORD_SIZE    # f times w, then the reciprocal's
 OUTCOME_SIZE = 1                        # given up or settled
 BLOCK_BYTES = 1 + 4 * COEFFICIENTS      # degree byte, coefficients
+# Edition, a load with its ends, 31 quotients, end.
+MAX_JOB_BYTES = 2 + (1 + BLOCK_BYTES + 12) + (MAX_RESULTS - 1) * (3 + 2 * BLOCK_BYTES) + 1
 
 # ---- Which of two proposals is chosen
 
@@ -49,7 +51,8 @@ GIVEN_UP, SETTLED = range(2)
 
 (ACCEPTED, SHORT_AREA, BAD_MODEL, LARGE_RESULT, POINT_OUTSIDE, NOT_CONTRACTING, LARGE_RESIDUAL,
  HELPER_NOT_POSITIVE, NEGATIVE_DISCRIMINANT, BAD_VALUE, JOB_ENDS, BYTES_AFTER_END, NOT_A_RESULT,
- TOO_MANY_RESULTS, BAD_SERIES, NOT_FINITE, LARGE_PROPOSAL, NO_RADIUS) = range(18)
+ TOO_MANY_RESULTS, BAD_SERIES, NOT_FINITE, LARGE_PROPOSAL, NO_RADIUS, BAD_ENDS,
+ DIFFERENT_INTERVALS) = range(20)
 
 # Every name above, with its number.
 NAMES = {name: value for name, value in globals().items() if isinstance(value, int)}

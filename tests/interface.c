@@ -1,25 +1,12 @@
 /* What the header promises of null pointers, of areas that are too short, of scratches longer
    than needed, of inputs that are the same area, of series, of the tighter root test, of two
-   proposals, of made ones, and of areas that need no alignment beyond their type's.
-   Exit status 0 when all holds. */
-#include "ferruntzo.h"
+   proposals, of made ones, and of areas that need no alignment beyond their type's; all on the
+   standard interval.  Exit status 0 when all holds. */
+#include "expect.h"
 
-#include <stdio.h>
 #include <string.h>
 
-static int failures;
-
-#define EXPECT(condition)                                               \
-    do {                                                                \
-        if (!(condition)) {                                             \
-            fprintf(stderr, "interface: line %d: %s\n", __LINE__, #condition); \
-            failures++;                                                 \
-        }                                                               \
-    } while (0)
-
-#define S FERRUNTZO_S
-
-static int32_t one[FERRUNTZO_MODEL_SIZE] = {0, S}, half[FERRUNTZO_MODEL_SIZE] = {0, S / 2};
+static int32_t one[FERRUNTZO_MODEL_SIZE] = {0, S, STANDARD}, half[FERRUNTZO_MODEL_SIZE] = {0, S / 2, STANDARD};
 static int32_t curve[FERRUNTZO_SERIES_SIZE] = {2, S, 0, 2 * S};      /* 1 + 2 x^2 */
 static int32_t out[FERRUNTZO_MODEL_SIZE], work[FERRUNTZO_WORK_SIZE];
 static int64_t scratch[FERRUNTZO_SCRATCH_SIZE], bounds[FERRUNTZO_BOUNDS_SIZE];
@@ -32,12 +19,6 @@ static double record[FERRUNTZO_RECIPROCAL_RECORD_SIZE], records[FERRUNTZO_QUOTIE
 static double values[FERRUNTZO_VALUES_SIZE];
 static int32_t h[FERRUNTZO_CANDIDATE_SIZE], w[FERRUNTZO_CANDIDATE_SIZE];
 static uint32_t outcome[FERRUNTZO_OUTCOME_SIZE];
-
-#define NONE NULL, 0
-#define COUNT(area) (sizeof(area) / sizeof(area)[0])
-#define WHOLE(area) area, COUNT(area)
-#define SHORT(area) area, COUNT(area) - 1
-#define CANDIDATE(area) area, FERRUNTZO_CANDIDATE_SIZE
 
 /* A null pointer with length 0 is an empty area. */
 static void null_pointers(void)
@@ -166,7 +147,7 @@ static void same_inputs(void)
 /* What the tighter root test answers for constants: the radius, or minus the refusal. */
 static int32_t tighter(int32_t f, int32_t e, int32_t h, int32_t w)
 {
-    int32_t under[FERRUNTZO_MODEL_SIZE] = {0, f, [FERRUNTZO_PLACE_RADIUS] = e};
+    int32_t under[FERRUNTZO_MODEL_SIZE] = {0, f, [FERRUNTZO_PLACE_RADIUS] = e, STANDARD};
     int32_t candidate[FERRUNTZO_CANDIDATE_SIZE] = {0, h}, helper[FERRUNTZO_CANDIDATE_SIZE] = {0, w};
     uint32_t number = ferruntzo_tight_root(WHOLE(under), WHOLE(candidate), WHOLE(helper), WHOLE(scratch), WHOLE(out),
                                            WHOLE(numbers));
@@ -307,7 +288,7 @@ static int refuses(const int32_t *g, uint32_t number)
 /* Reciprocals: settled, given up, and each refusal; settled, but refused by the test. */
 static void made_reciprocals(void)
 {
-    int32_t g[FERRUNTZO_MODEL_SIZE] = {0, 2 * S};
+    int32_t g[FERRUNTZO_MODEL_SIZE] = {0, 2 * S, STANDARD};
     fill();
     EXPECT(ferruntzo_make_reciprocal(WHOLE(g), WHOLE(record), WHOLE(w), WHOLE(outcome)) == 0);
     EXPECT(record[0] == 0.5 && zeros(record + 1, COUNT(record) - 1) && outcome[0] == FERRUNTZO_SETTLED);
@@ -334,7 +315,7 @@ static void made_reciprocals(void)
 /* Quotients: what is made passes the test; f may be g; refusals 2, 15 and 16; short areas. */
 static void made_quotients(void)
 {
-    int32_t f[FERRUNTZO_MODEL_SIZE] = {1, 3 * S, S}, g[FERRUNTZO_MODEL_SIZE] = {1, 2 * S, S};
+    int32_t f[FERRUNTZO_MODEL_SIZE] = {1, 3 * S, S, STANDARD}, g[FERRUNTZO_MODEL_SIZE] = {1, 2 * S, S, STANDARD};
     fill();
     EXPECT(ferruntzo_make_quotient(WHOLE(f), WHOLE(g), WHOLE(records), WHOLE(h), WHOLE(w), WHOLE(outcome)) == 0);
     EXPECT(outcome[0] == FERRUNTZO_SETTLED && records[COUNT(records) - 1] < 1 / 16777216.0);

@@ -3,6 +3,7 @@ competing refusals, cut and altered jobs, and bytes that mean nothing."""
 
 from random import Random
 
+import interval_jobs
 import jobs
 import oracle as o
 import tight_root_jobs
@@ -165,6 +166,7 @@ def fixed_check():
     yield case(work.job())
     yield case(work.prefix() + jobs.root(0, TWO, QUARTER) + END)
     yield from map(case, tight_root_jobs.fixed_jobs())
+    yield from map(case, interval_jobs.fixed_jobs())
 
 
 # ---- Random cases ---------------------------------------------------------------------
@@ -213,7 +215,7 @@ def faulty(rng, builder):
         jobs.multiply(name, other, rng.randrange(256)), jobs.quotient(name, other, h, w),
         jobs.quotient(other, name, TWO, w), jobs.root(name, h, w), jobs.root(name, TWO, w),
         jobs.tight_root(name, h, w), jobs.tight_root(name, TWO, w),
-        jobs.load(h._replace(radius=rng.choice((*UNSET_RADIUS, 0)))),
+        jobs.load(h._replace(radius=rng.choice((*UNSET_RADIUS, 0)))), interval_jobs.faulty_load(rng),
         jobs.load(constant(LOWEST)), bytes([rng.randrange(256)]), EDITION_1, END,
         jobs.load(constant(LIMIT)) + jobs.add(count, count),
         jobs.load(constant(1, LIMIT)) + jobs.multiply(count, count, DEFAULT_KEPT)))
@@ -260,7 +262,7 @@ class RandomJobs:
             return case(builder.job())
         builder = rng.choice(self.kept)
         if kind < 0.4:
-            return case(tight_root_jobs.random_job(rng))
+            return case(rng.choice((tight_root_jobs, interval_jobs)).random_job(rng))
         if kind < 0.53:
             return case(mutated(rng, builder.job()))
         if kind < 0.65:

@@ -3,8 +3,8 @@ of the results so far, so that fitting candidates can be found for the next."""
 
 import oracle as o
 from candidates import quotient_candidates, root_candidates
-from cases import random_degree, random_model, signed, spread, tied_factors
-from header import BAD_MODEL, COEFFICIENTS, DEFAULT_KEPT, MAX_DEGREE, MAX_RESULTS, S
+from cases import on, random_degree, random_interval, random_model, signed, spread, tied_factors
+from header import COEFFICIENTS, DEFAULT_KEPT, MAX_DEGREE, MAX_RESULTS, S
 from oracle import LIMIT, model
 
 
@@ -18,8 +18,22 @@ EDITION_1 = bytes([o.EDITION, 1])
 END = bytes([o.END])
 
 
+def number(n):
+    return (n & 0xFFFFFFFF).to_bytes(4, 'little')
+
+
 def load(m):
-    return bytes([o.LOAD]) + block(m) + (m.radius & 0xFFFFFFFF).to_bytes(4, 'little')
+    """On the standard interval, whatever the model's ends are."""
+    return bytes([o.LOAD]) + block(m) + number(m.radius)
+
+
+def load_on(m):
+    return bytes([o.LOAD_ON]) + block(m) + b''.join(map(number, (m.radius, m.lower, m.upper)))
+
+
+def any_load(m):
+    """The shorter of the two loads, where the model's ends allow it."""
+    return load(m) if o.interval(m) == o.STANDARD else load_on(m)
 
 
 def add(i, j):
@@ -58,11 +72,12 @@ def read_commands(job):
 
 
 class Builder:
-    """A job so far: its commands as separate bytes, and the results' models."""
+    """A job so far: its commands as separate bytes, the results' models, and the intervals that grow() draws from."""
 
-    def __init__(self):
+    def __init__(self, intervals=(o.STANDARD,)):
         self.commands = [EDITION_1]
         self.results = []
+        self.intervals = intervals
 
     def _keep(self, command, number, result):
         """Keeps a command only if it is not refused; says whether it was kept."""
@@ -72,8 +87,12 @@ class Builder:
         self.results.append(result)
         return True
 
-    def load(self, m):
-        return self._keep(load(m), 0 if o.good(m) else BAD_MODEL, m)
+    def load(self, m, command=any_load):
+        return self._keep(command(m), o.fault(m), m)
+
+    def beside(self, i):
+        """The results on the interval of result i."""
+        return [j for j, m in enumerate(self.results) if o.same_interval(m, self.results[i])]
 
     def add(self, i, j):
         return self._keep(add(i, j), *o.add(self.results[i], self.results[j]))
@@ -128,9 +147,11 @@ def grow(rng, builder, wanted):
         count = len(builder.results)
         kind = rng.random()
         if count == 0 or kind < 0.25:
-            builder.load(curve_model(rng) if rng.random() < 0.9 else random_model(rng))
+            m = curve_model(rng) if rng.random() < 0.9 else random_model(rng)
+            builder.load(on(m, *rng.choice(builder.intervals)), rng.choice((any_load, any_load, load_on)))
             continue
-        i, j = rng.randrange(count), rng.randrange(count)
+        i = rng.randrange(count)
+        j = rng.choice(builder.beside(i))
         if kind < 0.38:
             builder.add(i, j)
         elif kind < 0.5:
@@ -144,8 +165,14 @@ def grow(rng, builder, wanted):
             one(i, rng.choice((MAX_DEGREE, 24, random_degree(rng))))
 
 
+def drawn_builder(rng):
+    """An empty job on the standard interval, on another, or on some."""
+    return Builder(rng.choice(((o.STANDARD,), (random_interval(rng),), (o.STANDARD, random_interval(rng)),
+                               [random_interval(rng) for _ in range(3)])))
+
+
 def random_builder(rng, wanted=None):
-    builder = Builder()
+    builder = drawn_builder(rng)
     if wanted is None:
         wanted = rng.choice((0, 1, 2, 3, 4, 5, 6, 8, 10, 14))
     grow(rng, builder, wanted)
@@ -154,9 +181,9 @@ def random_builder(rng, wanted=None):
 
 def tied_builder(rng):
     """Products with ties, sums and products of these, and a few other commands."""
-    builder = Builder()
+    builder = drawn_builder(rng)
     for m in tied_factors(rng):
-        builder.load(m._replace(radius=rng.choice((0, 0, 1, 20))))
+        builder.load(on(m._replace(radius=rng.choice((0, 0, 1, 20))), *builder.intervals[0]))
     builder.multiply(0, 1, rng.choice((DEFAULT_KEPT, rng.randint(0, MAX_DEGREE))))
     for _ in range(rng.randint(0, 3)):
         i, j = rng.randrange(len(builder.results)), rng.randrange(2)

@@ -21,7 +21,7 @@ import oracle as o
 import soundness
 from area_cases import AREAS
 from cases import Case
-from compare import PLAIN, ROOT, build_harness, lent_areas, run_harness, stop
+from compare import PLAIN, ROOT, build_harness, lent_areas, model_of, run_harness, stop
 from header import ACCEPTED, PLACE_RADIUS, QUOTIENT_RECORD_SIZE, SETTLED
 from oracle import Model
 from proposal_oracle import value_of
@@ -93,8 +93,7 @@ def main():
         radius = result['out'][PLACE_RADIUS] if passed else f'refused with {number or test}'
         print(f'{one.where} | {one.f.degree}, {one.g.degree} | {outcome}, {change:.2g} | {radius} | {one.radius}')
         for _ in range(POINTS if passed else 0):
-            row = result['out']
-            soundness.soundness_quotient(rng, one.f, one.g, Model(row[0], tuple(row[1:PLACE_RADIUS]), radius))
+            soundness.soundness_quotient(rng, one.f, one.g, model_of(result['out']))
     print(f'{len(drawn)} quotients of the example jobs, {failed} whose made proposal is refused')
     sys.exit(1 if failed else 0)
 

@@ -1,5 +1,5 @@
-"""The mirror (document 02, S-11) through the library, without the oracle: a call and its counterpart, some of whose
-coefficients are negated, must have answers that are each other's mirror.
+"""The mirror (document 02, S-11, on intervals S-24) through the library, without the oracle: a call and its counterpart, some of
+whose coefficients are negated, must have answers that are each other's mirror.
 
   mirror.py                                    plain C
   mirror.py --library libferruntzo.a           the product
@@ -7,7 +7,8 @@ coefficients are negated, must have answers that are each other's mirror.
   mirror.py --plant                            spoils an answer of every kind; status 1 then says that each was found
 
 Exits with 0 when every pair agrees, 1 when any does not, 2 when something could not be built or run, or the pairs are too few.
-The same pairs are put to plain C with ties upwards and downwards, which must fail: so many pairs have a tie that shows.
+The same pairs are put to plain C with ties upwards and downwards, which must fail: so many pairs have a tie that shows.  So must
+evaluations at -p in place of l + u - p.
 """
 
 import argparse
@@ -17,18 +18,20 @@ import tempfile
 import traceback
 from array import array
 from collections import Counter
+from itertools import islice
 from operator import mul
 from pathlib import Path
 from random import Random
 from typing import NamedTuple
 
 import cases
+import interval_cases
 import job_cases
 import jobs
 import oracle as o
 import series_cases
 from area_cases import AREAS, CURVE, FOUR, WITNESSES, area_cases
-from cases import HIGHEST, Case
+from cases import HIGHEST, LOWEST, Case
 from compare import BATCH, PLAIN, ROOT, build_harness, lent_areas, perhaps_shortened, run_harness, stop
 from header import (BLOCK_BYTES, COEFFICIENTS, HELPER_NOT_POSITIVE, MAX_RESULTS, MODEL_SIZE, NOT_CONTRACTING, PLACE_RADIUS, S,
                     SHORT_AREA)
@@ -44,15 +47,16 @@ KINDS = {
     'multiply, second negated': ('multiply', (SAME, NEGATED), NEGATED),
     'multiply, both mirrored': ('multiply', (MIRRORED, MIRRORED), MIRRORED),
     'integrate, negated': ('integrate', (NEGATED,), NEGATED),
-    'evaluate, mirrored at -p': ('evaluate', (MIRRORED,), SAME),
+    'evaluate, mirrored at l + u - p': ('evaluate', (MIRRORED,), SAME),
     'from_series, negated': ('from_series', (NEGATED,), NEGATED),
     'from_series, mirrored': ('from_series', (MIRRORED,), MIRRORED),
 }
 SIGNED_JOB, MIRRORED_JOB = 'job, signs of its loads', 'job, mirrored'
 ENTRY = {**{kind: entry for kind, (entry, _, _) in KINDS.items()}, SIGNED_JOB: 'check', MIRRORED_JOB: 'check'}
-BLOCKS = {o.LOAD: 1, o.QUOTIENT: 2, o.ROOT: 2, o.TIGHT_ROOT: 2}
-# Of each kind at least: pairs, accepted ones, pairs that a wrong rule of ties shows in.
-PAIRS, ACCEPTED, SHOWN = 600, 300, 50
+BLOCKS = {o.LOAD: 1, o.LOAD_ON: 1, o.QUOTIENT: 2, o.ROOT: 2, o.TIGHT_ROOT: 2}
+# Of each kind at least: pairs, accepted ones, accepted ones on another interval than the standard one (not of series, which have
+# none), pairs that a wrong rule of ties shows in.
+PAIRS, ACCEPTED, PLACED, SHOWN = 600, 300, 200, 50
 ANSWER_AREAS = ('out', 'bounds', 'work', 'answer')
 
 
@@ -66,9 +70,19 @@ class Pair(NamedTuple):
 
 def opposite(n):
     """-2^31 has no negation in 32 bits: a model with it is bad, a point outside, and neither has a counterpart."""
-    if -n > HIGHEST:
+    return within_32_bits(-n)
+
+
+def within_32_bits(n):
+    if not LOWEST <= n <= HIGHEST:
         raise OverflowError
-    return -n
+    return n
+
+
+def mirrored_point(case):
+    """l + u - p."""
+    m, = case.inputs
+    return within_32_bits(m.lower + m.upper - case.scalar)
 
 
 def times(m, signs):
@@ -125,7 +139,7 @@ def load_signs(rng, commands):
     masks, equal, loads = [], [], 0                 # the loads whose signs a result's sign is the product of
     for byte, operands in commands:
         named = [masks[name] for name in operands[:o.RESULT_BYTES[byte]]]
-        if byte == o.LOAD:
+        if byte in o.LOADS:
             mask, loads = 1 << loads, loads + 1
         elif byte in ROOTS:
             mask = 0
@@ -159,7 +173,7 @@ def counterparts(rng, case):
         for kind, job, signs in job_counterparts(rng, case):
             yield kind, case._replace(inputs=(job,)), signs
     if case.entry == 'evaluate':
-        case = case._replace(scalar=opposite(case.scalar))
+        case = case._replace(scalar=mirrored_point(case))
     for kind, (entry, signs, answer) in KINDS.items():
         if entry == case.entry:
             yield kind, case._replace(inputs=tuple(map(times, case.inputs, signs))), [answer]
@@ -172,8 +186,9 @@ def drawn_cases(rng, wanted):
     for entry in dict.fromkeys(ENTRY.values()):
         yield from area_cases(entry)
         yield from fixed[entry]()
+        yield from islice(interval_cases.interval_cases(entry), 0, None, 3)
         for _ in range(wanted):
-            yield perhaps_shortened(rng, drawn[entry](rng))
+            yield perhaps_shortened(rng, interval_cases.on_some_interval(rng, drawn[entry](rng)))
     for path in sorted((ROOT / 'examples').glob('*.job')):
         yield job_cases.case(path.read_bytes())
     for _ in range(wanted // 2):
@@ -221,7 +236,7 @@ def read_answer(case, areas, data):
 def turned(answer, signs):
     """What the counterpart of a call with this answer has to answer."""
     rows = [*signs, *[SAME] * (MAX_RESULTS - len(signs))]
-    return answer._replace(models=[[m[0], *map(mul, row, m[1:PLACE_RADIUS]), m[PLACE_RADIUS]]
+    return answer._replace(models=[[m[0], *map(mul, row, m[1:PLACE_RADIUS]), *m[PLACE_RADIUS:]]
                                    for m, row in zip(answer.models, rows)])
 
 
@@ -293,16 +308,37 @@ def shown_by(pairs, calls, rule):
     return Counter(pair.kind for pair, both in zip(pairs, answers) if not agree(pair, *both))
 
 
+def is_placed(case):
+    """Whether a model, or a load of a job, is on another interval than the standard one."""
+    if case.entry != 'check':
+        return interval_cases.is_placed(case)
+    return any(byte == o.LOAD_ON and o.read_ends(byte, operands) != o.STANDARD for byte, operands in job_parts(*case.inputs)[1])
+
+
+def check_opposite(pairs, answers, rng, library, plain):
+    """Evaluations at -p in place of l + u - p are found, where both points are of the interval."""
+    wrong = [(pair, first) for pair, (first, _) in zip(pairs, answers) if pair.case.entry == 'evaluate' and first.number == 0]
+    cases = [pair.counterpart._replace(scalar=opposite(pair.case.scalar)) for pair, _ in wrong]
+    calls = [(case, lent_areas(case, rng, True)) for case in cases for _ in range(2)]
+    found = sum(second.number == 0 and not agree(pair, first, second)
+                for (pair, first), (second, _) in zip(wrong, answers_by(library, plain, calls)))
+    print(f'evaluate: mirrored at -p shows in {found}')
+    assert found >= SHOWN, 'too few evaluations that show the mirror at -p'
+
+
 def check_counts(pairs, calls, answers):
-    """Enough pairs of each kind, each with every refusal of its entry, and with ties that show."""
+    """Enough pairs of each kind, on other intervals too, each with every refusal of its entry, and with ties that show."""
     shown = [shown_by(pairs, calls, rule) for rule in (TIES_UP, TIES_DOWN)]
     for kind, entry in ENTRY.items():
         numbers = Counter(first.number for pair, (first, _) in zip(pairs, answers) if pair.kind == kind)
         ties = [counts[kind] for counts in shown]
-        print(f'{kind}: {numbers.total()} pairs, {numbers[0]} accepted; ties upwards show in {ties[0]}, downwards in {ties[1]}')
+        placed = sum(pair.kind == kind and first.number == 0 and is_placed(pair.case) for pair, (first, _) in zip(pairs, answers))
+        print(f'{kind}: {numbers.total()} pairs, {numbers[0]} accepted, {placed} of these on other intervals; ties upwards show in '
+              f'{ties[0]}, downwards in {ties[1]}')
         missing = {SHORT_AREA, *WITNESSES[entry]} - set(numbers)
         assert not missing, f'{kind}: never {missing}'
         assert numbers.total() >= PAIRS and numbers[0] >= ACCEPTED and min(ties) >= SHOWN, kind
+        assert placed >= PLACED or entry == 'from_series', kind
     refused = Counter((first.number, second.number) for pair, (first, second) in zip(pairs, answers)
                       if sign_refused(pair, first, second))
     print(f'{MIRRORED_JOB}: {refused.total()} refused with 5 against 7, or 7 against 5')
@@ -334,6 +370,7 @@ def main():
     if different:
         sys.exit(1)
     check_counts(pairs, calls, answers)
+    check_opposite(pairs, answers, rng, options.library, options.plain)
     sys.exit(1 if options.program and program_differences(options.program, pairs, answers, 300, rng) else 0)
 
 

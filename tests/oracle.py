@@ -5,34 +5,41 @@ primitives are formed in the power basis (1, x, x^2, ...) and converted back;
 neither the pair walk nor the primitive rule of the product is used to get
 them.  Power series (document 02, S-3) are expanded by binomials, not by the
 rule of the product's table.  The least radius of the tighter root test (S-22) comes
-from a whole square root, not from a search.  Only the rounding is taken over from
-document 01 as it stands there, with the ties of document 02 (S-11).
+from a whole square root, not from a search.  Integrals on an interval (S-24) are the
+power basis' primitives times half the extent, and every evaluation is put beside the exact
+value at its point.  Only the rounding is taken over from document 01 as it stands
+there, with the ties of document 02 (S-11) and the mapped point of S-24.
 Areas, and refusal 1 for a short one, are compare.py's; a short proposal (S-14) is tested here.
 
 Run as a program it checks the examples P1 to P11.
 """
 
+from fractions import Fraction
 from functools import lru_cache
-from math import comb, isqrt, lcm
+from math import isqrt
 from operator import mul
 from typing import NamedTuple
 
 from header import (
-    BAD_MODEL, BAD_SERIES, BAD_VALUE, BLOCK_BYTES, BYTES_AFTER_END, CANDIDATE_SIZE, CHOSEN_FIRST,
-    CHOSEN_NONE, CHOSEN_SECOND, COEFFICIENTS, DEFAULT_KEPT,
-    HELPER_NOT_POSITIVE, JOB_ENDS, LARGE_RESIDUAL, LARGE_RESULT, MAX_DEGREE, MAX_RESULTS,
+    ACCEPTED, BAD_ENDS, BAD_MODEL, BAD_SERIES, BAD_VALUE, BLOCK_BYTES, BYTES_AFTER_END, CANDIDATE_SIZE, CHOSEN_FIRST,
+    CHOSEN_NONE, CHOSEN_SECOND, COEFFICIENTS, DEFAULT_KEPT, DIFFERENT_INTERVALS,
+    HELPER_NOT_POSITIVE, JOB_ENDS, LARGE_RESIDUAL, LARGE_RESULT, MAX_DEGREE, MAX_END, MAX_RESULTS,
     MAX_WEIGHT, NEGATIVE_DISCRIMINANT, NO_RADIUS, NOT_A_RESULT, NOT_CONTRACTING, POINT_OUTSIDE,
     PROGRAM_JOB_BYTES, PROPOSAL_SIZE, S, SHORT_AREA, TOO_MANY_RESULTS)
+from power_basis import (PRIMITIVE_DENOMINATOR, SCALE, chebyshev_form, primitive_numerators,
+                         product_list, value_numerator)
 
 LIMIT = MAX_WEIGHT          # MAX_RADIUS and MAX_RESIDUAL too
-PRODUCT_SIZE = 2 * MAX_DEGREE + 1   # numbers of the list C
 
 
 class Model(NamedTuple):
-    """Degree, 33 coefficients in units, radius.  A candidate has radius 0."""
+    """Degree, 33 coefficients in units, radius, the ends of the interval, -S and S unless told.
+    A candidate has radius 0, and its ends are not looked at."""
     degree: int
     coefficients: tuple
     radius: int
+    lower: int = -S
+    upper: int = S
 
 
 class Series(NamedTuple):
@@ -41,7 +48,8 @@ class Series(NamedTuple):
     coefficients: tuple
 
 
-ZERO_MODEL = Model(0, (0,) * COEFFICIENTS, 0)
+STANDARD = -S, S            # the standard interval
+ZERO_MODEL = Model(0, (0,) * COEFFICIENTS, 0, 0, 0)     # beside a refusal
 
 
 def model(coefficients, radius=0, degree=None):
@@ -93,112 +101,43 @@ def weight(row):
     return sum(map(abs, row))
 
 
-def good(m):
+# ---- Which models are good --------------------------------------------------------
+
+def within_limits(m):
+    """Of a model, a candidate or a series: what 2 and 14 are not for."""
     return (0 <= m.degree <= MAX_DEGREE
             and not any(m.coefficients[m.degree + 1:])
             and weight(m.coefficients) <= LIMIT
             and 0 <= m.radius <= LIMIT)
 
 
-# ---- Power basis ------------------------------------------------------------
-
-TOP = PRODUCT_SIZE - 1      # highest degree that a product has
-SCALE = 64                  # back conversion is kept times 2^SCALE
+def good_ends(m):
+    return -MAX_END <= m.lower < m.upper <= MAX_END
 
 
-def _chebyshev_polynomials():
-    """T_0..T_64 as lists of powers: T_(k+2) = 2 x T_(k+1) - T_k."""
-    rows = [[1], [0, 1]]
-    for _ in range(TOP - 1):
-        row = [0] + [2 * c for c in rows[-1]]
-        for j, c in enumerate(rows[-2]):
-            row[j] -= c
-        rows.append(row)
-    return rows
+def fault(m):
+    """The refusal of one model: 2, 18 straight after it, or 0."""
+    return BAD_MODEL if not within_limits(m) else ACCEPTED if good_ends(m) else BAD_ENDS
 
 
-def _power_in_chebyshev(j):
-    """x^j = 2^(1-j) * sum over i <= j/2 of comb(j, i) T_(j-2i), the term of
-    T_0 halved; kept times 2^SCALE so that all entries are whole."""
-    row = [0] * (j + 1)
-    for i in range(j // 2 + 1):
-        row[j - 2 * i] = comb(j, i) << (SCALE + 1 - j)
-    if j % 2 == 0:
-        row[0] >>= 1
-    return row
+def good(m):
+    return fault(m) == ACCEPTED
 
 
-_T = _chebyshev_polynomials()
-_X = [_power_in_chebyshev(j) for j in range(TOP + 1)]
-# Only every second entry is nonzero, so each table row keeps those only.
-_TO_POWER = [[_T[k][j] for k in range(j, TOP + 1, 2)] for j in range(TOP + 1)]
-_FROM_POWER = [[_X[j][k] for j in range(k, TOP + 1, 2)] for k in range(TOP + 1)]
+def interval(m):
+    return m.lower, m.upper
 
 
-def trimmed(row):
-    """The list without the zeros at its top."""
-    end = len(row)
-    while end and row[end - 1] == 0:
-        end -= 1
-    return list(row[:end])
+def same_interval(a, b):
+    return interval(a) == interval(b)
 
 
-def power_form(row):
-    """The powers' coefficients of the sum of row_k T_k."""
-    row = trimmed(row)
-    return [sum(map(mul, row[j::2], _TO_POWER[j])) for j in range(len(row))]
-
-
-def chebyshev_form(powers):
-    """2^SCALE times the Chebyshev coefficients of a power-basis list."""
-    return [sum(map(mul, powers[k::2], _FROM_POWER[k]))
-            for k in range(len(powers))]
-
-
-def power_product(p, q):
-    """The product of two power-basis lists."""
-    if not p or not q:
-        return []
-    reverse = q[::-1]
-    n, m = len(p), len(q)
-    total = []
-    for j in range(n + m - 1):
-        low = max(0, j - m + 1)             # first power taken from p
-        total.append(sum(map(mul, p[low:j + 1], reverse[m - 1 - j + low:])))
-    return total
-
-
-def product_list(a, b):
-    """C(a, b): 65 whole numbers, the Chebyshev expansion of 2 a(x) b(x)."""
-    scaled = chebyshev_form([2 * c for c in
-                             power_product(power_form(a), power_form(b))])
-    whole = []
-    for number in scaled:
-        assert number & ((1 << SCALE) - 1) == 0, "C is not whole"
-        whole.append(number >> SCALE)
-    return whole + [0] * (TOP + 1 - len(whole))
-
-
-def value_numerator(row, p, q):
-    """The sum of row_k T_k(p/q) times q^32, by Horner in the power basis."""
-    powers = power_form(row)
-    value, step = 0, 1
-    for c in reversed(powers):
-        value = value * p + c * step
-        step *= q
-    return value * q ** (MAX_DEGREE + 1 - len(powers))
-
-
-_PRIMITIVE_SCALE = lcm(*range(1, COEFFICIENTS + 1))
-_PRIMITIVE_FACTOR = [_PRIMITIVE_SCALE // (j + 1) for j in range(COEFFICIENTS)]
-PRIMITIVE_DENOMINATOR = _PRIMITIVE_SCALE << SCALE
-
-
-def primitive_numerators(row):
-    """The Chebyshev coefficients of the primitive that has no constant power,
-    times PRIMITIVE_DENOMINATOR."""
-    powers = [0] + [c * f for c, f in zip(power_form(row), _PRIMITIVE_FACTOR)]
-    return chebyshev_form(powers)
+def first_fault(models, candidates=()):
+    """The first refusal of one or two operands: 2 and 18 of each model in turn, 2 of the
+    candidates, 19; or 0."""
+    faults = [*map(fault, models), *(ACCEPTED if within_limits(c) else BAD_MODEL for c in candidates)]
+    apart = ACCEPTED if same_interval(models[0], models[-1]) else DIFFERENT_INTERVALS
+    return next(filter(None, (*faults, apart)), ACCEPTED)
 
 
 # ---- Plain operations ---------------------------------------------------------
@@ -207,18 +146,23 @@ def refused(number):
     return number, ZERO_MODEL
 
 
-def finished(degree, row, radius):
+def result_ends(operand):
+    """The ends of a result: its operand's."""
+    return operand.lower, operand.upper
+
+
+def finished(degree, row, radius, ends):
     """The place 'result': 3, or the model itself."""
     if degree > MAX_DEGREE or weight(row) > LIMIT or radius > LIMIT:
         return refused(LARGE_RESULT)
-    return 0, model(row, radius, degree)
+    return 0, Model(*model(row, radius, degree)[:3], *ends)
 
 
 def _termwise(a, b, sign):
-    if not good(a) or not good(b):
-        return refused(BAD_MODEL)
+    if number := first_fault((a, b)):
+        return refused(number)
     row = [x + sign * y for x, y in zip(a.coefficients, b.coefficients)]
-    return finished(max(a.degree, b.degree), row, a.radius + b.radius)
+    return finished(max(a.degree, b.degree), row, a.radius + b.radius, result_ends(a))
 
 
 def add(a, b):
@@ -230,8 +174,8 @@ def subtract(a, b):
 
 
 def multiply(a, b, kept):
-    if not good(a) or not good(b):
-        return refused(BAD_MODEL)
+    if number := first_fault((a, b)):
+        return refused(number)
     if kept == DEFAULT_KEPT:
         kept = MAX_DEGREE
     if not 0 <= kept <= MAX_DEGREE:
@@ -243,57 +187,104 @@ def multiply(a, b, kept):
     error += weight(full[degree + 1:])
     error += 2 * (weight(a.coefficients) * b.radius
                   + weight(b.coefficients) * a.radius + a.radius * b.radius)
-    return finished(degree, row, up(error, 2 * S))
+    return finished(degree, row, up(error, 2 * S), result_ends(a))
 
 
-def integrate(a):
-    if not good(a):
-        return refused(BAD_MODEL)
+def half_extent(a):
+    """Half of u - l, no longer in units: numerator, denominator.  It is dx where dy is 1."""
+    return a.upper - a.lower, 2 * S
+
+
+def integral_terms(a):
+    """c_1 .. c_(n+1) of the integral: the primitive's, times half the extent."""
     degree = a.degree + 1
-    if degree > MAX_DEGREE:
-        return refused(LARGE_RESULT)
     exact = primitive_numerators(a.coefficients)
     exact += [0] * (degree + 1 - len(exact))
     padded = a.coefficients + (0, 0)
-    row = [0] * (degree + 1)
+    numerator, denominator = half_extent(a)
+    row = []
     for k in range(1, degree + 1):
-        # The primitive's coefficient is the quotient that document 01 rounds.
+        # The primitive's coefficient is the quotient that document 01 scales and rounds.
         quotient = (2 if k == 1 else 1) * padded[k - 1] - padded[k + 1]
         assert exact[k] * 2 * k == quotient * PRIMITIVE_DENOMINATOR
-        row[k] = near(exact[k], PRIMITIVE_DENOMINATOR)
-    row[0] = -sum(c if k % 2 == 0 else -c for k, c in enumerate(row))
+        row.append(near(exact[k] * numerator, PRIMITIVE_DENOMINATOR * denominator))
+    return row
+
+
+def integral_constant(a, terms):
+    """c_0 for these c_1 .. c_(n+1): the value at l/S, where T_k is taken at -1, is exactly 0."""
+    return -sum(c if k % 2 == 0 else -c for k, c in enumerate(terms, 1))
+
+
+def integral_radius(a):
+    return up(a.radius * (a.upper - a.lower), S) + a.degree + 1
+
+
+def integrate(a):
+    if number := first_fault((a,)):
+        return refused(number)
+    if a.degree == MAX_DEGREE:
+        return refused(LARGE_RESULT)
+    terms = integral_terms(a)
+    row = [integral_constant(a, terms), *terms]
     assert value_numerator(row, -1, 1) == 0
-    return finished(degree, row, 2 * a.radius + a.degree + 1)
+    return finished(a.degree + 1, row, integral_radius(a), result_ends(a))
+
+
+def position(a, x):
+    """Where T_k is taken at the fraction x."""
+    return (2 * S * x - a.lower - a.upper) / (a.upper - a.lower)
+
+
+MAP_SCALE = S               # the mapped point is a whole number of 1/MAP_SCALE
+
+
+def mapped_point(a, p):
+    """The position of p/S, rounded near, and whether that was exact."""
+    exact = MAP_SCALE * position(a, Fraction(p, S))
+    return near(exact.numerator, exact.denominator), exact.denominator == 1
+
+
+def outside(a, p):
+    """What 4 is for."""
+    return not a.lower <= p <= a.upper
+
+
+def growth(a, exact):
+    """By which W grows where the mapped point is not exact."""
+    return 0 if exact else sum(abs(c) * k * k for k, c in enumerate(a.coefficients)) << 11
 
 
 def evaluate(a, p):
     """Number, low, high."""
-    if not good(a):
-        return BAD_MODEL, 0, 0
-    if not -S <= p <= S:
+    if number := first_fault((a,)):
+        return number, 0, 0
+    if outside(a, p):
         return POINT_OUTSIDE, 0, 0
-    t = [1 << 30, p << 10]
+    mapped, exact = mapped_point(a, p)
+    t = [1 << 30, mapped * ((1 << 30) // MAP_SCALE)]
     while len(t) <= a.degree:
-        t.append(near(2 * p * t[-1], S) - t[-2])
+        t.append(near(2 * mapped * t[-1], MAP_SCALE) - t[-2])
     v = sum(map(mul, a.coefficients, t))
-    w = sum(abs(c) * k * (k - 1) for k, c in enumerate(a.coefficients))
+    w = sum(abs(c) * k * (k - 1) for k, c in enumerate(a.coefficients)) + growth(a, exact)
     low = ((4 * v - w) >> 32) - a.radius
     high = up(4 * v + w, 1 << 32) + a.radius
     # Every allowed value lies between the bounds, by exact arithmetic.
-    whole = S ** MAX_DEGREE
-    exact = value_numerator(a.coefficients, p, S)
-    assert low * whole <= exact - a.radius * whole, "value below the bounds"
-    assert exact + a.radius * whole <= high * whole, "value above the bounds"
+    at = position(a, Fraction(p, S))
+    whole = at.denominator ** MAX_DEGREE
+    value = value_numerator(a.coefficients, at.numerator, at.denominator)
+    assert low * whole <= value - a.radius * whole, "value below the bounds"
+    assert value + a.radius * whole <= high * whole, "value above the bounds"
     return 0, low, high
 
 
 def from_series(s):
-    if not good(Model(*s, 0)):
+    if not within_limits(Model(*s, 0)):
         return refused(BAD_SERIES)
     exact = chebyshev_form(s.coefficients[:s.degree + 1])   # times 2^SCALE
     row = [near(c, 1 << SCALE) for c in exact]
     error = sum(abs(c - (r << SCALE)) for c, r in zip(exact, row))
-    return finished(s.degree, row, up(error, 1 << SCALE))
+    return finished(s.degree, row, up(error, 1 << SCALE), STANDARD)
 
 
 # ---- The tests ------------------------------------------------------------
@@ -310,8 +301,8 @@ def _difference(row, other, factor):
 
 def quotient(f, g, h, w):
     """Number, model, m, N, b."""
-    if not (good(f) and good(g) and good(h) and good(w)):
-        return _refused_test(BAD_MODEL)
+    if number := first_fault((f, g), (h, w)):
+        return _refused_test(number)
     big_m, big_h = weight(w.coefficients), weight(h.coefficients)
     off = _difference(product_list(w.coefficients, g.coefficients), (2 * S * S,), 1)
     m = up(weight(off) + 2 * big_m * g.radius, 2 * S)
@@ -326,13 +317,13 @@ def quotient(f, g, h, w):
     radius = up(b * S, S - m)
     if radius > LIMIT:
         return _refused_test(LARGE_RESULT)
-    return 0, Model(h.degree, h.coefficients, radius), m, n, b
+    return 0, Model(h.degree, h.coefficients, radius, *result_ends(f)), m, n, b
 
 
 def root_numbers(f, h, w):
     """What both root tests share: number, and M, m, N, b if it is 0."""
-    if not (good(f) and good(h) and good(w)):
-        return BAD_MODEL, None
+    if number := first_fault((f,), (h, w)):
+        return number, None
     if sum(w.coefficients) <= 0:
         return HELPER_NOT_POSITIVE, None
     big_m = weight(w.coefficients)
@@ -384,7 +375,7 @@ def _root_test(f, h, w, refusal, radius_of):
     radius = radius_of(big_m, m, b)
     if radius is None:
         return _refused_test(refusal)
-    return 0, Model(h.degree, h.coefficients, radius), m, n, b
+    return 0, Model(h.degree, h.coefficients, radius, *result_ends(f)), m, n, b
 
 
 def root(f, h, w):
@@ -426,26 +417,42 @@ def quotient_of_two(f, g, first, second):
 
 # ---- Jobs -----------------------------------------------------------------------
 
-END, EDITION, LOAD, ADD, SUBTRACT, MULTIPLY, QUOTIENT, ROOT, TIGHT_ROOT = (
-    0x00, 0x01, 0x10, 0x11, 0x12, 0x13, 0x20, 0x21, 0x22)
+END, EDITION, LOAD, ADD, SUBTRACT, MULTIPLY, LOAD_ON, QUOTIENT, ROOT, TIGHT_ROOT = (
+    0x00, 0x01, 0x10, 0x11, 0x12, 0x13, 0x14, 0x20, 0x21, 0x22)
 OPERAND_WIDTH = {END: 0, EDITION: 1, LOAD: BLOCK_BYTES + 4, ADD: 2, SUBTRACT: 2,
-                 MULTIPLY: 3, QUOTIENT: 2 + 2 * BLOCK_BYTES, ROOT: 1 + 2 * BLOCK_BYTES,
-                 TIGHT_ROOT: 1 + 2 * BLOCK_BYTES}
-RESULT_BYTES = {LOAD: 0, ADD: 2, SUBTRACT: 2, MULTIPLY: 2, QUOTIENT: 2, ROOT: 1, TIGHT_ROOT: 1}
+                 MULTIPLY: 3, LOAD_ON: BLOCK_BYTES + 12, QUOTIENT: 2 + 2 * BLOCK_BYTES,
+                 ROOT: 1 + 2 * BLOCK_BYTES, TIGHT_ROOT: 1 + 2 * BLOCK_BYTES}
+RESULT_BYTES = {LOAD: 0, ADD: 2, SUBTRACT: 2, MULTIPLY: 2, LOAD_ON: 0, QUOTIENT: 2, ROOT: 1, TIGHT_ROOT: 1}
+LOADS = LOAD, LOAD_ON
 TESTS = {QUOTIENT: quotient, ROOT: root, TIGHT_ROOT: tight_root}
 
 
-def read_block(data, start, radius=0):
-    row = tuple(int.from_bytes(data[start + 1 + 4 * k:start + 5 + 4 * k],
-                               'little', signed=True) for k in range(COEFFICIENTS))
-    return Model(data[start], row, radius)
+def read_number(data, start, signed=True):
+    return int.from_bytes(data[start:start + 4], 'little', signed=signed)
+
+
+def read_block(data, start):
+    row = tuple(read_number(data, start + 1 + 4 * k) for k in range(COEFFICIENTS))
+    return Model(data[start], row, 0)
+
+
+def read_ends(byte, operands):
+    """The ends that a load means: behind its radius, or -S and S."""
+    return STANDARD if byte == LOAD else tuple(read_number(operands, BLOCK_BYTES + at) for at in (4, 8))
+
+
+def read_load(byte, operands):
+    """The model of a load."""
+    degree, row, *_ = read_block(operands, 0)
+    return Model(degree, row, read_number(operands, BLOCK_BYTES, signed=False), *read_ends(byte, operands))
 
 
 def _operation(byte, operands, named):
     """Number and model of one command that makes a result."""
-    if byte == LOAD:
-        loaded = read_block(operands, 0, int.from_bytes(operands[BLOCK_BYTES:], 'little'))
-        return (0, loaded) if good(loaded) else refused(BAD_MODEL)
+    if byte in LOADS:
+        loaded = read_load(byte, operands)
+        number = first_fault((loaded,))
+        return refused(number) if number else (0, loaded)
     if byte == ADD:
         return add(*named)
     if byte == SUBTRACT:

@@ -28,7 +28,7 @@ from typing import Callable, NamedTuple
 
 import jobs
 import oracle as o
-from examples_of_01 import check_examples, example_job, root_job, root_jobs
+from examples_of_01 import check_examples, example_job, interval_jobs, root_job, root_jobs
 from header import MAX_RESULTS, PROGRAM_JOB_BYTES as LONGEST
 from job_cases import RandomJobs, fixed_check
 
@@ -235,6 +235,13 @@ def root_runs(feed):
         yield Run('root by 0x22, spoiled', feed.from_file, spoiled, f'{text}\n'.encode())
 
 
+def interval_runs(feed):
+    """Jobs with 0x14, with texts that are written out and not the oracle's; in pieces too."""
+    for job, text in interval_jobs():
+        for way in (feed.at_once, lambda job: feed.in_pieces(job, (97, 50, 311), 0.001)):
+            yield Run('interval', way, job, text.encode())
+
+
 def failing_runs(feed):
     """A read fails: nothing is said of the job, unless it was too long before."""
     example, empty = example_job(), b'\x01\x01\x00'
@@ -285,7 +292,7 @@ def main():
     feed = Feed(str(options.program.resolve()))
     rng = Random(options.seed)
     began, differences, missed, kinds = time.perf_counter(), 0, 0, Counter()
-    runs = [*fixed_runs(feed), *root_runs(feed), *random_runs(feed, options.cases, rng), *failing_runs(feed)]
+    runs = [*fixed_runs(feed), *root_runs(feed), *interval_runs(feed), *random_runs(feed, options.cases, rng), *failing_runs(feed)]
     for i, (name, way, job, expected) in enumerate(runs):
         kinds[expected.split(b'\n')[-2].split()[0].decode()] += 1
         status, output = way(job)

@@ -11,11 +11,12 @@ from sys import float_info
 
 import oracle as o
 import proposal_oracle as p
-from cases import BORDER_MODELS, Case, perhaps_spoiled, random_degree, random_model, random_radius, random_total, signed, spread
+from cases import (BORDER_MODELS, Case, on, perhaps_spoiled, random_degree, random_model, random_radius, random_total, signed,
+                   spread)
 from certificate_cases import divisor
-from header import (ACCEPTED, BAD_MODEL, CANDIDATE_SIZE, COEFFICIENTS, GIVEN_UP, LARGE_PROPOSAL, MAX_DEGREE, MODEL_SIZE,
-                    NOT_CONTRACTING, NOT_FINITE, OUTCOME_SIZE, QUOTIENT_RECORD_SIZE, RECIPROCAL_RECORD_SIZE, S, SETTLED,
-                    SHORT_AREA)
+from header import (ACCEPTED, BAD_ENDS, BAD_MODEL, CANDIDATE_SIZE, COEFFICIENTS, DIFFERENT_INTERVALS, GIVEN_UP, LARGE_PROPOSAL,
+                    MAX_DEGREE, MODEL_SIZE, NOT_CONTRACTING, NOT_FINITE, OUTCOME_SIZE, QUOTIENT_RECORD_SIZE,
+                    RECIPROCAL_RECORD_SIZE, S, SETTLED, SHORT_AREA)
 from oracle import LIMIT, Model, constant, model, term
 
 # What each entry writes, in the order of the oracle's answer.
@@ -206,8 +207,9 @@ def tests_of(drawn):
     """The quotient test of what a maker makes, 1/g being tested as the quotient it is."""
     found = made_candidates(drawn)
     if found:
-        f = drawn.inputs[0] if len(drawn.inputs) == 2 else ONE
-        yield Case('quotient', (f, drawn.inputs[-1], found[0], found[-1]), made=drawn.entry)
+        g = drawn.inputs[-1]
+        f = drawn.inputs[0] if len(drawn.inputs) == 2 else on(ONE, *o.interval(g))
+        yield Case('quotient', (f, g, found[0], found[-1]), made=drawn.entry)
 
 
 # ---- What the cases are -----------------------------------------------------------------------
@@ -232,9 +234,9 @@ def kinds(drawn, lengths, number):
         return [(drawn.made, 'test', number)]
     entry, sizes, g = drawn.entry, AREA_SIZES[drawn.entry], drawn.inputs[-1]
     found = [(entry, number), *((entry, f'{name} of {length}') for name, length in zip(sizes, lengths))]
-    if number in (SHORT_AREA, BAD_MODEL):
+    if number in (SHORT_AREA, BAD_MODEL, BAD_ENDS, DIFFERENT_INTERVALS):
         return found
-    found.append((entry, 'model', drawn.inputs))
+    found.append((entry, 'model', tuple((m.coefficients, m.radius) for m in drawn.inputs)))     # on whatever interval
     if g.coefficients[0] == 0:
         return [*found, (entry, '15, g_0 is zero')]
     made = p.made_reciprocal(g.coefficients)
@@ -321,9 +323,10 @@ def check_makers():
 
 WITNESSES = {
     'make_reciprocal': {ACCEPTED: (model([2 * S, S]),), BAD_MODEL: (constant(LIMIT + 1),), NOT_FINITE: (term(1, S),),
-                        LARGE_PROPOSAL: (constant(4095),)},
+                        LARGE_PROPOSAL: (constant(4095),), BAD_ENDS: (on(ONE, S, S),)},
     'make_quotient': {ACCEPTED: (model([S, 5], 3), model([2 * S, S])), BAD_MODEL: (ONE, constant(LIMIT + 1)),
-                      NOT_FINITE: (constant(LIMIT), DIVERGING), LARGE_PROPOSAL: (ONE, DIVERGING)},
+                      NOT_FINITE: (constant(LIMIT), DIVERGING), LARGE_PROPOSAL: (ONE, DIVERGING), BAD_ENDS: (on(ONE, S, -S), ONE),
+                      DIFFERENT_INTERVALS: (ONE, on(ONE, 0, 1))},
 }
 FIXED = {'make_reciprocal': fixed_reciprocals, 'make_quotient': fixed_quotients}
 RANDOM = {'make_reciprocal': random_reciprocal, 'make_quotient': random_quotient}

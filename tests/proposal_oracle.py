@@ -10,9 +10,10 @@ from math import isfinite
 from struct import pack, unpack
 from typing import NamedTuple
 
-from header import (ACCEPTED, BAD_MODEL, COEFFICIENTS, GIVEN_UP, LARGE_PROPOSAL, MAX_DEGREE, MAX_WEIGHT, NOT_FINITE,
+import oracle as o
+from header import (ACCEPTED, COEFFICIENTS, GIVEN_UP, LARGE_PROPOSAL, MAX_DEGREE, MAX_WEIGHT, NOT_FINITE,
                     QUOTIENT_RECORD_SIZE, RECIPROCAL_RECORD_SIZE, S, SETTLED)
-from oracle import good, weight
+from oracle import weight
 
 ROUNDS = 12
 SMALL = 2.0 ** -24          # a change of at most this has settled
@@ -116,8 +117,8 @@ def refused_reciprocal(number):
 
 def make_reciprocal(g):
     """Number, record, w in units, outcome, which is a list of one number."""
-    if not good(g):
-        return refused_reciprocal(BAD_MODEL)
+    if number := o.first_fault((g,)):
+        return refused_reciprocal(number)
     made = made_reciprocal(g.coefficients) if g.coefficients[0] else None
     if made is None or made.outcome is None:
         return refused_reciprocal(NOT_FINITE)
@@ -133,8 +134,8 @@ def refused_quotient(number):
 
 def make_quotient(f, g):
     """Number, record, h and w in units, outcome."""
-    if not good(f) or not good(g):
-        return refused_quotient(BAD_MODEL)
+    if number := o.first_fault((f, g)):
+        return refused_quotient(number)
     made = made_reciprocal(g.coefficients) if g.coefficients[0] else None
     if made is None or made.outcome is None:
         return refused_quotient(NOT_FINITE)

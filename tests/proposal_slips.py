@@ -171,15 +171,24 @@ FIT = {RECIPROCAL: 'CLEAR(record, RECIPROCAL_RECORD_SIZE) & CLEAR(w, CANDIDATE_S
        '              & CLEAR(w, CANDIDATE_SIZE) & CLEAR(outcome, OUTCOME_SIZE);\n'}
 SIZES = {RECIPROCAL: {'record': 'RECIPROCAL_RECORD_SIZE', 'w': 'CANDIDATE_SIZE', 'outcome': 'OUTCOME_SIZE'},
          QUOTIENT: {'record': 'QUOTIENT_RECORD_SIZE', 'h': 'CANDIDATE_SIZE', 'w': 'CANDIDATE_SIZE', 'outcome': 'OUTCOME_SIZE'}}
-MODELS = {RECIPROCAL: '    if (!good_model(g))\n        return BAD_MODEL;\n',
-          QUOTIENT: '    if (!good_model(f) || !good_model(g))\n        return BAD_MODEL;\n'}
+MODELS = {RECIPROCAL: 'uint32_t number = model_fault(g);\n', QUOTIENT: 'uint32_t number = operands_fault(f, g);\n'}
+# What is not looked at, and where that alone makes the refusal.
+WAVED = {'{}': 'model_fault({0}) != 0', 'the radius of {}': 'good_candidate({0}) && model_fault({0}) == BAD_MODEL',
+         'the ends of {}': 'model_fault({0}) == BAD_ENDS'}
 STORED = {RECIPROCAL: '    memcpy(record, made, sizeof made);\n    memcpy(w, units, sizeof units);\n    *outcome = ended;\n',
           QUOTIENT: '    memcpy(record, made, sizeof made);\n    memcpy(h, answer, sizeof answer);\n'
           '    memcpy(w, helper, sizeof helper);\n    *outcome = ended;\n'}
 
 
+def waved(entry, model, others='1'):
+    """The refusals of the models without one that this model makes, the others being good."""
+    for name, condition in WAVED.items():
+        yield (f'{name.format(model)} not looked at', MODELS[entry],
+               MODELS[entry].replace('= ', f'= {condition.format(model)} && {others} ? 0 : '))
+
+
 def of_each(entry):
-    fit, models, stored = FIT[entry], MODELS[entry], STORED[entry]
+    fit, stored = FIT[entry], STORED[entry]
     for area, size in SIZES[entry].items():
         clear = f'CLEAR({area}, {size})'
         yield f'{area} left on refusal', fit, fit.replace(clear, f'({area}_len >= {size})')
@@ -188,15 +197,14 @@ def of_each(entry):
     yield 'areas left where another is short', fit, fit.replace('&', '&&')
     yield ('areas left where a model is short', f'    int fit = {fit}',
            f'    if (g_len < MODEL_SIZE)\n        return SHORT_AREA;\n    int fit = {fit}')
-    yield 'g not looked at', models, models.replace('!good_model(g)', '0')
-    yield 'the radius of g not looked at', models, models.replace('good_model(g)', 'good_candidate(g)')
+    yield from waved(entry, 'g', *['model_fault(f) == 0'] * (entry == QUOTIENT))
     yield 'lists left out once given up', stored, f'    if (ended == GIVEN_UP)\n        return 0;\n{stored}'
     yield 'the last number of the record left out', stored, stored.replace('sizeof made', 'sizeof made - sizeof *made')
     yield 'outcome left at given up', stored, stored.replace('ended', 'GIVEN_UP')
     yield 'outcome always settled', stored, stored.replace('ended', 'SETTLED')
 
 
-MADE = '    uint32_t number = reciprocal(g, made, &ended);\n'
+MADE = '        number = reciprocal(g, made, &ended);\n'
 MADE_UNITS = '    if (number == 0)\n        number = to_candidate(made, units);\n'
 ON_16 = '    if (number == LARGE_PROPOSAL)\n        '
 OF_RECIPROCAL = [
@@ -207,7 +215,7 @@ OF_RECIPROCAL = [
     ('record kept on 16', MADE_UNITS, MADE_UNITS + ON_16 + 'memcpy(record, made, sizeof made);\n'),
     ('settled kept on 16', MADE_UNITS, MADE_UNITS + ON_16 + '*outcome = ended;\n'),
     ('degree kept on 16', MADE_UNITS, MADE_UNITS + ON_16 + 'w[0] = MAX_DEGREE;\n'),
-    ('record kept on 15', MADE, MADE + '    if (number != 0 && g[1] != 0)\n        memcpy(record, made, sizeof made);\n'),
+    ('record kept on 15', MADE, MADE + '    if (number == NOT_FINITE && g[1] != 0)\n        memcpy(record, made, sizeof made);\n'),
 ]
 FW = '    product(a, last, made);\n'
 FW_FINITE = '    if (!all_finite(made, COEFFICIENTS))\n        return NOT_FINITE;\n'
@@ -215,6 +223,8 @@ H, W = 'to_candidate(made, answer)', 'to_candidate(last, helper)'
 FW_LARGE = f'    if ({H} != 0 || {W} != 0)\n        return LARGE_PROPOSAL;\n'
 IS_16 = '\n        return LARGE_PROPOSAL;\n'
 GOOD = MODELS[QUOTIENT]
+ROUNDS_OF_W = '    if (number == 0)\n        number = reciprocal(g, last, &ended);\n    if (number != 0)\n        return number;\n'
+DIFFERENT = '    if (!same_interval(f, g))\n        return DIFFERENT_INTERVALS;\n'
 STORE = STORED[QUOTIENT]
 OF_QUOTIENT = [
     ('factors of f w exchanged', FW, FW.replace('a, last', 'last, a')),
@@ -226,9 +236,15 @@ OF_QUOTIENT = [
     ('both weights together', FW_LARGE, f'{FW_LARGE}    if (model_weight(answer) + model_weight(helper) > LIMIT){IS_16}'),
     ('16 not once given up', FW_LARGE, f'    if ((({H} != 0) | ({W} != 0)) && ended == SETTLED){IS_16}'),
     ('15 of w before 2 of f', GOOD,
-     f'{MODELS[RECIPROCAL]}    if (reciprocal(g, last, &ended) != 0)\n        return NOT_FINITE;\n{GOOD}'),
-    ('f not looked at', GOOD, GOOD.replace('!good_model(f)', '0')),
-    ('the radius of f not looked at', GOOD, GOOD.replace('good_model(f)', 'good_candidate(f)')),
+     f'if (model_fault(g) == 0 && reciprocal(g, last, &ended) != 0)\n        return NOT_FINITE;\n    {GOOD}'),
+    *waved(QUOTIENT, 'f'),
+    ('19 left out', GOOD, GOOD.replace('operands', 'models')),
+    ('19 after 15 of w', f'    {GOOD}{ROUNDS_OF_W}', f'    {GOOD.replace("operands", "models")}{ROUNDS_OF_W}{DIFFERENT}'),
+    ('19 after 15 of f w', f'    {GOOD}{ROUNDS_OF_W}    to_values(f, a);\n{FW}{FW_FINITE}',
+     f'    {GOOD.replace("operands", "models")}{ROUNDS_OF_W}    to_values(f, a);\n{FW}{FW_FINITE}{DIFFERENT}'),
+    ('19 after 16', f'    {GOOD}{ROUNDS_OF_W}    to_values(f, a);\n{FW}{FW_FINITE}{FW_LARGE}',
+     f'    {GOOD.replace("operands", "models")}{ROUNDS_OF_W}    to_values(f, a);\n{FW}{FW_FINITE}{FW_LARGE}{DIFFERENT}'),
+    ('19 before the models', GOOD, f'{DIFFERENT.strip()}\n    {GOOD}'),
     ('h and w exchanged', STORE, STORE.replace('h, answer', 'h, helper').replace('w, helper', 'w, answer')),
     ('w before f w in the record', STORE, STORE.replace(
         'memcpy(record, made, sizeof made);',

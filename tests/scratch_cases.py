@@ -6,12 +6,13 @@ from itertools import product
 
 import jobs
 import oracle as o
-from area_cases import AREAS, FOUR, MOST, ONE, QUARTER, TWO, WITNESSES, sized, witness
+from area_cases import AREAS, ENDLESS, FOUR, MOST, ONE, QUARTER, SHIFTED, TWO, WITNESSES, sized, witness
 from cases import Case
-from header import (ACCEPTED, BAD_MODEL, BAD_VALUE, BYTES_AFTER_END, HELPER_NOT_POSITIVE, JOB_ENDS, LARGE_RESIDUAL, LARGE_RESULT,
-                    MAX_DEGREE, MAX_RESULTS, NEGATIVE_DISCRIMINANT, NO_RADIUS, NOT_A_RESULT, NOT_CONTRACTING, S, SCRATCH_SIZE,
-                    SHORT_AREA, TOO_MANY_RESULTS)
-from oracle import ADD, LIMIT, LOAD, MULTIPLY, PRODUCT_SIZE, QUOTIENT, ROOT, SUBTRACT, TIGHT_ROOT, constant
+from header import (ACCEPTED, BAD_ENDS, BAD_MODEL, BAD_VALUE, BYTES_AFTER_END, DIFFERENT_INTERVALS, HELPER_NOT_POSITIVE, JOB_ENDS,
+                    LARGE_RESIDUAL, LARGE_RESULT, MAX_DEGREE, MAX_RESULTS, NEGATIVE_DISCRIMINANT, NO_RADIUS, NOT_A_RESULT,
+                    NOT_CONTRACTING, S, SCRATCH_SIZE, SHORT_AREA, TOO_MANY_RESULTS)
+from oracle import ADD, LIMIT, LOAD, LOAD_ON, MULTIPLY, QUOTIENT, ROOT, SUBTRACT, TIGHT_ROOT, constant
+from power_basis import PRODUCT_SIZE
 from selection_cases import DIVIDEND, DIVISOR, NUMBERS, TESTED
 
 PLACES = {entry: i for entry, areas in AREAS.items() for i, (_, _, what) in enumerate(areas) if what == 'scratch'}
@@ -21,15 +22,15 @@ OTHER = 'another area short'
 # ---- Jobs: number and operation where they are refused; result 0 is 4, and count the number of results before ----------
 
 BAD = constant(LIMIT + 1)
-OPERATIONS = {LOAD: 'load', ADD: 'add', SUBTRACT: 'subtract', MULTIPLY: 'multiply', QUOTIENT: 'quotient', ROOT: 'root',
-              TIGHT_ROOT: 'tight_root'}
+OPERATIONS = {LOAD: 'load', ADD: 'add', SUBTRACT: 'subtract', MULTIPLY: 'multiply', LOAD_ON: 'load_on', QUOTIENT: 'quotient',
+              ROOT: 'root', TIGHT_ROOT: 'tight_root'}
 READING = (BAD_VALUE, JOB_ENDS, NOT_A_RESULT, TOO_MANY_RESULTS, BYTES_AFTER_END)
 TESTS = jobs.quotient(0, 0, ONE, QUARTER) + jobs.root(0, TWO, QUARTER) + jobs.tight_root(0, TWO, QUARTER)      # all pass
 
 
 def endings(count):
     """What follows in a job: for each number, and each operation that gives it."""
-    most, end = jobs.load(MOST), jobs.END
+    most, shifted, end = jobs.load(MOST), jobs.load_on(SHIFTED), jobs.END
     return {
         (ACCEPTED, ''): end,
         (BAD_VALUE, ''): jobs.multiply(0, 0, MAX_DEGREE + 1) + end, (JOB_ENDS, ''): jobs.root(0, TWO, QUARTER)[:-1],
@@ -47,6 +48,11 @@ def endings(count):
         (LARGE_RESULT, 'add'): most + jobs.add(count, count) + end,
         (LARGE_RESULT, 'subtract'): jobs.load(constant(0, LIMIT)) + jobs.subtract(count, count) + end,
         (LARGE_RESULT, 'multiply'): most + jobs.multiply(count, count, 0) + end,
+        (BAD_MODEL, 'load_on'): jobs.load_on(BAD) + end, (BAD_ENDS, 'load_on'): jobs.load_on(ENDLESS) + end,
+        (DIFFERENT_INTERVALS, 'add'): shifted + jobs.add(0, count) + end,
+        (DIFFERENT_INTERVALS, 'subtract'): shifted + jobs.subtract(count, 0) + end,
+        (DIFFERENT_INTERVALS, 'multiply'): shifted + jobs.multiply(0, count, 0) + end,
+        (DIFFERENT_INTERVALS, 'quotient'): shifted + jobs.quotient(count, 0, ONE, QUARTER) + end,
     }
 
 

@@ -191,7 +191,7 @@ def rounded(degree, exact, rule=o.near):
     """The answer for these sums, by this rule of rounding."""
     row = [rule(c, 1 << 32) for c in exact]
     error = sum(abs(c - (r << 32)) for c, r in zip(exact, row))
-    return o.finished(degree, row, o.up(error, 1 << 32))
+    return o.finished(degree, row, o.up(error, 1 << 32), o.STANDARD)
 
 
 def check_witnesses():

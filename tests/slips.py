@@ -11,6 +11,7 @@ import sys
 import tempfile
 from pathlib import Path
 
+from interval_slips import INTERVAL_SLIPS
 from proposal_slips import PROPOSAL_SLIPS
 
 HERE = Path(__file__).resolve().parent
@@ -23,10 +24,10 @@ B_LINE = '    if (p.b > (UNIT - p.m) * (UNIT - p.m) / (8 * p.m_weight))'
 ROOT_M, ROOT_B = 'int64_t m = up(weight(c, PRODUCT_SIZE), UNIT)', 'n, up(m_weight * n, UNIT)};'
 F_RADIUS = '+ 2 * (int64_t)UNIT * f[RADIUS], 2'
 P_LINE = 'int64_t p = (int64_t)a[1 + i] * b[1 + j];'
-SECOND_TEST = '    uint32_t other = test_proposal(good, f, g, second, second_len, c, &two);'
+SECOND_TEST = '    uint32_t other = test_proposal(fault, f, g, second, second_len, c, &two);'
 SELECT_END = '        answer[1] = (uint32_t)one.radius;\n    }\n    return number;'
-SHORT_FIRST = '    if (length < PROPOSAL_SIZE)\n        return SHORT_AREA;\n    if (!good)\n        return BAD_MODEL;'
-BAD_FIRST = '    if (!good)\n        return BAD_MODEL;\n    if (length < PROPOSAL_SIZE)\n        return SHORT_AREA;'
+SHORT_FIRST = '    if (length < PROPOSAL_SIZE)\n        return SHORT_AREA;\n    if (fault != 0)\n        return fault;'
+BAD_FIRST = '    if (fault != 0)\n        return fault;\n    if (length < PROPOSAL_SIZE)\n        return SHORT_AREA;'
 SCRATCH_END = '    CLEAR(scratch, SCRATCH_SIZE);\n    return number;\n}\n\n/* ---- Jobs'
 NEAR = 'static int64_t near(int64_t n, int64_t d)\n{\n'
 # Wrong rules for near: the expression that it answers with.
@@ -105,14 +106,15 @@ SLIPS = [
      '    if (weight(row, degree + 1) > LIMIT) row[0] = 0;\n    return finish(degree, row, up(error, EXPANSION_UNIT)'),
     ('out left on 1, series', 'from_series', '!CLEAR(out, MODEL_SIZE) || series_len < SERIES_SIZE',
      'series_len < SERIES_SIZE || !CLEAR(out, MODEL_SIZE)'),
-    ('series of 35 numbers', 'from_series', 'series_len < SERIES_SIZE', 'series_len < MODEL_SIZE'),
-    ('integral radius', 'integrate', '(int64_t)a[RADIUS] + degree', '(int64_t)a[RADIUS] + a[0]'),
+    ('series of 37 numbers', 'from_series', 'series_len < SERIES_SIZE', 'series_len < MODEL_SIZE'),
+    ('integral radius', 'integrate', 'UNIT) + degree', 'UNIT) + a[0]'),
     ('integral a_0 once', 'integrate', 'k == 1 ? 2 * (int64_t)a[1]', 'k == 1 ? (int64_t)a[1]'),
     ('W left out', 'evaluate', 'down(4 * v - w,', 'down(4 * v,'),
     ('low cut towards zero', 'evaluate', 'down(4 * v - w, (int64_t)1 << 32)', '(4 * v - w) / ((int64_t)1 << 32)'),
-    ('p = S refused', 'evaluate', 'p > UNIT', 'p >= UNIT'),
-    ('p = -S refused', 'evaluate', 'p < -UNIT', 'p <= -UNIT'),
-    ('p by its absolute value', 'evaluate', 'p < -UNIT || p > UNIT', '(p < 0 ? (int32_t)(0u - (uint32_t)p) : p) > UNIT'),
+    ('p = u refused', 'evaluate', 'p > a[UPPER]', 'p >= a[UPPER]'),
+    ('p = l refused', 'evaluate', 'p < a[LOWER]', 'p <= a[LOWER]'),
+    ('p by its distance from the middle, in 32 bits', 'evaluate', 'p < a[LOWER] || p > a[UPPER]',
+     'magnitude((int32_t)(2u * (uint32_t)p - (uint32_t)a[LOWER] - (uint32_t)a[UPPER])) > (int64_t)a[UPPER] - a[LOWER]'),
     ('scratch left', TESTS, '    CLEAR(scratch, SCRATCH_SIZE);', ''),
     ('scratch left on 1', TESTS, '    CLEAR(scratch, SCRATCH_SIZE);', '    if (number != 1) CLEAR(scratch, SCRATCH_SIZE);'),
     ('scratch left where out is short', TESTS, '    CLEAR(scratch, SCRATCH_SIZE);', '    if (fit) CLEAR(scratch, SCRATCH_SIZE);'),
@@ -144,7 +146,7 @@ SLIPS = [
     ('job: edition again', 'check', '(byte == 0x01) != (*command == 0)', '(byte != 0x01 && *command == 0)'),
     ('job: edition 2', 'check', 'if (operands[0] != 1)', 'if (operands[0] == 0 || operands[0] > 2)'),
     ('job: after end ignored', 'check', 'position < job_len ? BYTES_AFTER_END : 0', '0'),
-    ('job: radius as signed', 'check', '|| radius > LIMIT)', '|| (int32_t)radius > LIMIT)'),
+    ('job: radius as signed', 'check', '|| a[RADIUS] < 0 || a', '|| a'),
     ('job: d 254', 'check', 'operands[2] != DEFAULT_KEPT)', 'operands[2] < DEFAULT_KEPT - 1)'),
     ('job: later tests waved through', 'check', '    if (byte == 0x20)\n',
      '    if (out != work && work + 10 * MODEL_SIZE < out) {\n        memcpy(out, h, sizeof h);\n'
@@ -173,7 +175,7 @@ SCALED, NEXT = 'scaled = b * UNIT * UNIT;', 'next <= UNIT && twice * next * next
 LARGE_B, NO_B = '    if (b > UNIT)\n        return NO_SUCH_RADIUS;\n', '    if (b == 0)\n        return 0;\n'
 LEAST, NONE = '    uint64_t radius = least_radius(', '    if (radius == NO_SUCH_RADIUS)\n        return NO_RADIUS;'
 REFUSED, FORMER = B_LINE[8:-1], '(uint64_t)up(2 * p.b * UNIT, UNIT - p.m)'      # as 0x21 has it
-TIGHT_END = '    accept_candidate(h, (int64_t)radius, p.m, p.n, p.b, out, numbers);'
+TIGHT_END = '    accept_candidate(f, h, (int64_t)radius, p.m, p.n, p.b, out, numbers);'
 LOOP_END = '            low = middle;\n    }\n    return high;'
 SLIPS += [(f'tight: {name}', 'tight_root', old, new) for name, old, new in (
     ('v + 1 not tried', NEXT, '0'),
@@ -225,7 +227,7 @@ SLIPS += [(f'tight: {name}', 'tight_root', TIGHT_ENTRY, TIGHT_ENTRY.replace(old,
     ('f of 34 numbers', 'f_len >= MODEL_SIZE', 'f_len >= CANDIDATE_SIZE'),
     ('h of 33 numbers', 'h_len >= CANDIDATE_SIZE', 'h_len >= COEFFICIENTS'),
     ('w of 33 numbers', 'w_len >= CANDIDATE_SIZE', 'w_len >= COEFFICIENTS'),
-    ('w of 35 numbers', 'w_len >= CANDIDATE_SIZE', 'w_len >= MODEL_SIZE'),
+    ('w of 37 numbers', 'w_len >= CANDIDATE_SIZE', 'w_len >= MODEL_SIZE'),
     ('h and w exchanged', 'f, h, w, out', 'f, w, h, out'),
     ('numbers left on refusal', 'CLEAR(numbers, NUMBERS_SIZE)', '(numbers_len >= NUMBERS_SIZE)'),
     ('numbers left where out is short', '& CLEAR(numbers', '&& CLEAR(numbers'),
@@ -273,13 +275,13 @@ SLIPS += [(f'two: {name}', 'quotient_of_two', old, new) for name, old, new in (
     ('w from number 33', 'proposal, proposal + CANDIDATE_SIZE', 'proposal, proposal + COEFFICIENTS'),
     ('the w of the first', SECOND_TEST, SECOND_TEST + """
     if (first_len >= PROPOSAL_SIZE && second_len >= PROPOSAL_SIZE)
-        other = good ? judge_quotient(f, g, second, first + CANDIDATE_SIZE, c, &two) : BAD_MODEL;"""),
+        other = fault == 0 ? judge_quotient(f, g, second, first + CANDIDATE_SIZE, c, &two) : fault;"""),
     ('the h of the first', SECOND_TEST, SECOND_TEST.replace('second, second_len', 'first, first_len')),
     ('3 passes', 'if (radius > LIMIT)\n        return LARGE_RESULT;\n    *passed', '*passed'),
     ('radius 2^28 refused', 'if (radius > LIMIT)\n        return LARGE_RESULT;\n    *passed',
      'if (radius >= LIMIT)\n        return LARGE_RESULT;\n    *passed'),
-    ('f and g not looked at', 'int good = good_model(f) && good_model(g);', 'int good = 1;'),
-    ('g not looked at', 'int good = good_model(f) && good_model(g);', 'int good = good_model(f);'),
+    ('f and g not looked at', 'uint32_t fault = models_fault(f, g);', 'uint32_t fault = 0;'),
+    ('g not looked at', 'uint32_t fault = models_fault(f, g);', 'uint32_t fault = model_fault(f);'),
     ('answer left on refusal', 'if (CLEAR(answer, SELECTION_SIZE) && ', 'if (answer_len >= SELECTION_SIZE && '),
     ('answer left on 1', 'if (CLEAR(answer, SELECTION_SIZE) && ',
      'if (f_len >= MODEL_SIZE && g_len >= MODEL_SIZE && scratch_len >= SCRATCH_SIZE && CLEAR(answer, SELECTION_SIZE) && '),
@@ -349,6 +351,8 @@ SLIPS += [(f'walk: {name}, {entry}', entry, P_LINE, new)
                             ('last pair left out', P_LINE[:-1] + ' * !(i == a[0] && j == b[0]);'))
           for entry in ('multiply', 'quotient', *ROOTS)]
 
+SLIPS += INTERVAL_SLIPS
+
 
 def spoiled_plain(folder, old, new, sources=('plain.c', 'areas.h')):
     """The folder, with a copy of the plain C version: a text is altered at its first place in the first source that has it."""
@@ -366,8 +370,9 @@ def found(slip, folder):
     sources = {'sources': ('proposals.c',)} if slip in PROPOSAL_SLIPS else {}
     spoiled = spoiled_plain(folder, old, new, **sources)
     # The makers' cases take longer, and the fixed ones are to be enough; -lm for the fused operation.
+    of_makers = sources or entries.startswith('make_')
     run = subprocess.run([sys.executable, str(HERE / 'compare.py'), '--plain', str(spoiled), '--entries', entries,
-                          '--cases', '0' if sources else '5000', '--link=-lm'],
+                          '--cases', '0' if of_makers else '5000', '--link=-lm'],
                          stdout=subprocess.PIPE, stderr=subprocess.STDOUT, text=True)
     last = run.stdout.strip().splitlines()[-1]
     # A harness that dies (a division by zero, say) is a find as well.

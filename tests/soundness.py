@@ -1,4 +1,4 @@
-"""Does what was accepted hold?  Exact checks at random fractions x = p/q.
+"""Does what was accepted hold?  Exact checks at random fractions x of the model's own interval.
 
 Each soundness_*() takes what was handed in and what came out, draws a fraction
 and allowed values there, and raises AssertionError when a value that the
@@ -14,53 +14,54 @@ from math import isqrt
 import oracle as o
 from header import S
 from jobs import read_commands
-from oracle import LIMIT
 
 FINE = 1 << 96              # boxes that may be wider are rounded out to 1/FINE
 ROOTS = (o.ROOT, o.TIGHT_ROOT)      # one rule of boxes for both
 
 
-def random_point(rng):
-    """p and q with q >= 1 and |p| <= q; the ends and the middle too."""
+def random_point(rng, m):
+    """A fraction of the model's interval; the ends and the middle too, at times a whole number of units."""
+    if rng.random() < 0.1:
+        return Fraction(rng.randint(m.lower, m.upper), S)
     q = rng.choice((1, 2, 3, rng.randint(1, 50), 1 << rng.randint(1, 10)))
-    return rng.randint(-q, q), q
+    return (m.lower + m.upper + Fraction(rng.randint(-q, q), q) * (m.upper - m.lower)) / (2 * S)
 
 
-def value(m, point):
-    """The model's middle value at the point, as a fraction."""
-    p, q = point
-    return Fraction(o.value_numerator(m.coefficients, p, q), q ** o.MAX_DEGREE * S)
+def value(m, x):
+    """The model's middle value at the fraction x."""
+    y = o.position(m, x)
+    return Fraction(o.value_numerator(m.coefficients, y.numerator, y.denominator), y.denominator ** o.MAX_DEGREE * S)
 
 
 def radius(m):
     return Fraction(m.radius, S)
 
 
-def allows(m, point, v):
-    return abs(v - value(m, point)) <= radius(m)
+def allows(m, x, v):
+    return abs(v - value(m, x)) <= radius(m)
 
 
-def allowed_value(rng, m, point):
+def allowed_value(rng, m, x):
     """Some value the model allows there: often an end."""
     share = rng.choice((Fraction(1), Fraction(-1), Fraction(rng.randint(-99, 99), 99)))
-    return value(m, point) + share * radius(m)
+    return value(m, x) + share * radius(m)
 
 
 def soundness_add(rng, a, b, result, sign=1):
-    x = random_point(rng)
+    x = random_point(rng, a)
     u, v = allowed_value(rng, a, x), allowed_value(rng, b, x)
     assert allows(result, x, u + sign * v), 'sum not covered'
 
 
 def soundness_multiply(rng, a, b, result):
-    x = random_point(rng)
+    x = random_point(rng, a)
     u, v = allowed_value(rng, a, x), allowed_value(rng, b, x)
     assert allows(result, x, u * v), 'product not covered'
 
 
 def soundness_integrate(rng, a, result):
     """A list of fractions that differs by at most e units in total: its exact
-    primitive from -1 differs from the result by at most the radius in total."""
+    primitive from l/S differs from the result by at most the radius in total."""
     changes = [Fraction(0)] * (a.degree + 1)
     left = Fraction(a.radius)
     for k in rng.sample(range(a.degree + 1), min(3, a.degree + 1)):
@@ -74,8 +75,8 @@ def soundness_integrate(rng, a, result):
     assert sum(map(abs, row)) <= a.radius * scale
     whole = [c * scale for c in a.coefficients[:a.degree + 1]]
     moved = [c + d for c, d in zip(whole, row)]
-    exact = o.primitive_numerators(moved)
-    unit = o.PRIMITIVE_DENOMINATOR * scale
+    exact = [c * (a.upper - a.lower) for c in o.primitive_numerators(moved)]
+    unit = o.PRIMITIVE_DENOMINATOR * scale * 2 * S
     exact += [0] * (a.degree + 2 - len(exact))
     exact[0] = -sum(c if k % 2 == 0 else -c for k, c in enumerate(exact) if k)
     far = sum(abs(c - r * unit) for c, r in zip(exact, result.coefficients))
@@ -84,15 +85,15 @@ def soundness_integrate(rng, a, result):
 
 # ---- Integrals by strips (request S-8) --------------------------------------------------
 
-def at(m, x):
-    """The model's middle value at the fraction x."""
-    return value(m, (x.numerator, x.denominator))
+def start(a):
+    """Where the strips start: l/S."""
+    return Fraction(a.lower, S)
 
 
-def strip_sum(choice, x, k):
-    """From -1 to x, k equal strips: left-end value times width."""
-    width = (x + 1) / k
-    return sum((choice(-1 + i * width) * width for i in range(k)), Fraction(0))
+def strip_sum(choice, a, x, k):
+    """From the start of a's interval to x, k equal strips: left-end value times width."""
+    width = (x - start(a)) / k
+    return sum((choice(start(a) + i * width) * width for i in range(k)), Fraction(0))
 
 
 def lipschitz(a):
@@ -100,14 +101,19 @@ def lipschitz(a):
     return sum(abs(c) * k * k for k, c in enumerate(a.coefficients))
 
 
+def strip_term(a, k):
+    """By how much the sum over k strips may lie off beside the radius, in units."""
+    return Fraction(lipschitz(a) * (a.upper - a.lower), S * k)
+
+
 def check_strips(choice, a, result, x, k):
-    far = abs(strip_sum(choice, x, k) - at(result, x)) * S
-    assert far <= result.radius + Fraction(2 * lipschitz(a), k), 'sum over strips not covered'
+    far = abs(strip_sum(choice, a, x, k) - value(result, x)) * S
+    assert far <= result.radius + strip_term(a, k), 'sum over strips not covered'
 
 
-def random_strips(rng):
-    """An end x, often 1, and a number of strips."""
-    x = rng.choice((Fraction(1), Fraction(*random_point(rng))))
+def random_strips(rng, a):
+    """An end x, often u/S, and a number of strips."""
+    x = rng.choice((Fraction(a.upper, S), random_point(rng, a)))
     return x, rng.choice((1, 2, 3, rng.randint(4, 12)))
 
 
@@ -118,14 +124,14 @@ def choices(rng, m):
 
     def some(x):
         if x not in drawn:
-            drawn[x] = allowed_value(rng, m, (x.numerator, x.denominator))
+            drawn[x] = allowed_value(rng, m, x)
         return drawn[x]
-    return (lambda x: at(m, x) + radius(m)), (lambda x: at(m, x) - radius(m)), some
+    return (lambda x: value(m, x) + radius(m)), (lambda x: value(m, x) - radius(m)), some
 
 
 def soundness_strips(rng, a, result):
     for choice in choices(rng, a):
-        check_strips(choice, a, result, *random_strips(rng))
+        check_strips(choice, a, result, *random_strips(rng, a))
 
 
 def soundness_quotient_integral(rng, f, g, quotient):
@@ -134,28 +140,29 @@ def soundness_quotient_integral(rng, f, g, quotient):
     if number:
         return
     u, v = rng.choice(choices(rng, f)), rng.choice(choices(rng, g))
-    check_strips(lambda x: u(x) / v(x), quotient, result, *random_strips(rng))
+    check_strips(lambda x: u(x) / v(x), quotient, result, *random_strips(rng, f))
 
 
 # ---- Power series -----------------------------------------------------------------------
 
-def series_value(s, point):
-    """The exact value of a power series at the point."""
-    p, q = point
+def series_value(s, x):
+    """The exact value of a power series at the fraction x."""
+    p, q = x.numerator, x.denominator
     n = o.MAX_DEGREE
     numerator = sum(c * p ** k * q ** (n - k) for k, c in enumerate(s.coefficients) if c)
     return Fraction(numerator, q ** n * S)
 
 
 def soundness_from_series(rng, s, result):
-    for x in (rng.choice(((1, 1), (-1, 1))), random_point(rng), random_point(rng)):
+    assert o.interval(result) == o.STANDARD, 'not on the standard interval'
+    for x in (Fraction(rng.choice((1, -1))), random_point(rng, result), random_point(rng, result)):
         assert allows(result, x, series_value(s, x)), 'series not covered'
 
 
 # ---- Quotients and roots ------------------------------------------------------------------
 
 def soundness_quotient(rng, f, g, result):
-    x = random_point(rng)
+    x = random_point(rng, f)
     assert abs(value(g, x)) > radius(g), 'the divisor allows zero'
     u, v = allowed_value(rng, f, x), allowed_value(rng, g, x)
     assert allows(result, x, u / v), 'quotient not covered'
@@ -163,7 +170,7 @@ def soundness_quotient(rng, f, g, result):
 
 def soundness_root(rng, f, result):
     """Of both root tests: squares are compared, no root is formed."""
-    x = random_point(rng)
+    x = random_point(rng, f)
     assert value(f, x) > radius(f), 'a value that is not positive is allowed under the root'
     v = allowed_value(rng, f, x)
     low = value(result, x) - radius(result)
@@ -201,9 +208,8 @@ def commands_of(job):
 
 def next_box(rng, byte, operands, boxes, x):
     """A permitted box for one more result, or None where none is permitted."""
-    if byte == o.LOAD:
-        loaded = o.read_block(operands, 0, int.from_bytes(operands[o.BLOCK_BYTES:], 'little'))
-        v = allowed_value(rng, loaded, x)
+    if byte in o.LOADS:
+        v = allowed_value(rng, o.read_load(byte, operands), x)
         return v, v
     named = [boxes[name] for name in operands[:o.RESULT_BYTES[byte]]]
     if None in named:
@@ -225,11 +231,13 @@ def next_box(rng, byte, operands, boxes, x):
 
 
 def soundness_job(rng, job, results):
-    """Requirement 3 at one fraction, for one choice of permitted boxes.
+    """Requirement 3 at one fraction of each interval that results have, for one choice of permitted boxes.
     Returns how many results had a box."""
-    x = random_point(rng)
+    assert all(map(o.good, results)), 'a result that is not good'
+    points = {o.interval(m): random_point(rng, m) for m in results}
     boxes = []
     for (byte, operands), result in zip(commands_of(job), results, strict=True):
+        x = points[o.interval(result)]
         if byte == o.QUOTIENT:
             g = results[operands[1]]
             assert abs(value(g, x)) > radius(g), 'the divisor allows zero'
@@ -242,7 +250,6 @@ def soundness_job(rng, job, results):
             middle = value(result, x)
             assert max(box[0], middle - radius(result)) <= min(box[1], middle + radius(result)), \
                 'box and model do not overlap'
-        assert 0 <= result.radius <= LIMIT
     return sum(box is not None for box in boxes)
 
 

@@ -7,7 +7,7 @@ from functools import partial
 import jobs
 import oracle as o
 from candidates import root_candidates
-from cases import BORDER_MODELS, random_degree
+from cases import BORDER_MODELS, on, random_degree
 from header import (ACCEPTED, BAD_MODEL, BAD_VALUE, BYTES_AFTER_END, HELPER_NOT_POSITIVE, JOB_ENDS, LARGE_RESIDUAL, MAX_RESULTS,
                     NO_RADIUS, NOT_A_RESULT, NOT_CONTRACTING, S, TOO_MANY_RESULTS)
 from oracle import LIMIT, TIGHT_ROOT, constant
@@ -90,11 +90,11 @@ def fixed_jobs():
 
 def tight_builder(rng):
     """A job with 0x22 and the commands that use its result; at times 0x21 with the same candidates."""
-    builder = jobs.Builder()
+    builder = jobs.drawn_builder(rng)
     jobs.grow(rng, builder, rng.choice((0, 0, 1, 3)))
     for _ in range(rng.choice((1, 1, 2, 4))):
         f, h, w = tight_inputs(rng)
-        if not builder.load(f):
+        if not builder.load(on(f, *rng.choice(builder.intervals))):
             continue
         i = len(builder.results) - 1
         if rng.random() < 0.4:

@@ -24,10 +24,11 @@ from examples_of_01 import example_job                                  # noqa: 
 from ferruntzo_tool import __version__, explain, program                # noqa: E402
 from ferruntzo_tool import arithmetic as ar                             # noqa: E402
 from ferruntzo_tool.reading import Checked, split                       # noqa: E402
-from ferruntzo_tool.tables import (BY_NAME, COMMANDS, LIMIT, MAX_DEGREE, REFUSALS, S,   # noqa: E402
+from ferruntzo_tool.tables import (BY_NAME, COMMANDS, LIMIT, MAX_DEGREE, MAX_JOB_BYTES, REFUSALS, S,    # noqa: E402
                                    in_micrometres, is_load, is_tight)
 from ferruntzo_tool.text import assemble, listing                       # noqa: E402
 from job_cases import RandomJobs, fixed_check                           # noqa: E402
+import tool_intervals                                                   # noqa: E402
 
 EXAMPLES = sorted((ROOT / 'examples').glob('*.job'))
 wrong = []
@@ -314,6 +315,8 @@ def numbers():
     expect('refusals as in the header', {r.name: str(r.number) for r in REFUSALS} == named, str(named))
     bytes_of = dict(re.findall(r'#define FERRUNTZO_COMMAND_([A-Z_]+) 0x([0-9a-f]+)', header))
     expect('commands as in the header', {c.name.upper(): f'{c.byte:02x}' for c in COMMANDS} == bytes_of, str(bytes_of))
+    expect('limits as in the header', f'#define FERRUNTZO_MAX_JOB_BYTES {MAX_JOB_BYTES}\n' in header
+           and f'#define FERRUNTZO_MAX_END {LIMIT} ' in header)
 
 
 def main():
@@ -342,6 +345,10 @@ def main():
             explained(jobs, rng)
             explained_roots(jobs, rng)
             least_radii(rng)
+            tool_intervals.explained(expect, jobs, rng)
+            tool_intervals.places(expect, options.jobcheck)
+            tool_intervals.words(expect, run, folder)
+            tool_intervals.pages(expect, run, folder)
             round_trips(jobs)
             statuses(run, folder, options.jobcheck)
             lacks(run, folder)

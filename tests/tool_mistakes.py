@@ -3,7 +3,8 @@
   tool_mistakes.py [--verbose]
 
 Each mistake is made in examples/stretch.job, whose commands are known; those that leave every byte in its place also with its
-root by 0x22; results counted from 1 also in jobs whose root is what is refused.
+root by 0x22; results counted from 1 also in jobs whose root is what is refused. Those of intervals are made in
+examples/machine_time.job, and no other job is told of 0x14.
 """
 
 import struct
@@ -17,8 +18,9 @@ sys.path.insert(0, str(ROOT / 'tools'))
 from header import BLOCK_BYTES, COEFFICIENTS, MAX_DEGREE               # noqa: E402
 from ferruntzo_tool import explain                                      # noqa: E402
 from ferruntzo_tool.reading import Checked, read_block, split, write_block  # noqa: E402
-from ferruntzo_tool.tables import BY_NAME, S                            # noqa: E402
+from ferruntzo_tool.tables import BY_NAME, S, WIDTH, is_load            # noqa: E402
 import jobs                                                             # noqa: E402
+from cases import on                                                    # noqa: E402
 from oracle import constant                                             # noqa: E402
 
 GOOD = (ROOT / 'examples' / 'stretch.job').read_bytes()
@@ -67,15 +69,14 @@ def big_all(places):
     return job
 
 
-def shorter(keep):
-    """The job with every block and radius as `keep` has it."""
+def shorter(keep, job=GOOD):
+    """The job with every block, radius and interval as `keep` has it."""
     made = b''
-    for step in STEPS:
+    for step in split(job)[0]:
         made += bytes([step.command.byte])
         for kind, name in step.command.operands:
             at = step.offsets[name]
-            raw = GOOD[at:at + {'block': BLOCK_BYTES, 'radius': 4}.get(kind, 1)]
-            made += keep(kind, raw)
+            made += keep(kind, job[at:at + WIDTH[kind]])
     return made
 
 
@@ -108,6 +109,52 @@ def from_one():
             if kind == 'result':
                 job[step.offsets[name]] += 1
     return bytes(job)
+
+
+# ---- Intervals ----
+
+TIME = (ROOT / 'examples' / 'machine_time.job').read_bytes()
+TIME_LOADS = [step for step in split(TIME)[0] if is_load(step)]
+
+
+def on_times(change, loads=None, job=TIME):
+    """The job with the 8 bytes of the ends of some loads, or of all, as `change` has them for its ends."""
+    for step in TIME_LOADS if loads is None else [TIME_LOADS[i] for i in loads]:
+        at = step.offsets['interval']
+        job = job[:at] + change(*step.values['interval']) + job[at + 8:]
+    return job
+
+
+def packed(form, change=lambda end: end):
+    return lambda lower, upper: struct.pack(form, change(lower), change(upper))
+
+
+def radius_last():
+    """Every load by 0x14 with its ends before its radius."""
+    job = TIME
+    for step in TIME_LOADS:
+        at = step.offsets['radius']
+        job = job[:at] + job[at + 4:at + 12] + job[at:at + 4] + job[at + 12:]
+    return job
+
+
+def around_zero(change):
+    """Two loads on an interval about 0 and their sum, with their ends as `change` has them."""
+    good = jobs.load_on(on(constant(S), -3 * S, 2 * S))[:-8] + change(-3 * S, 2 * S)
+    return jobs.EDITION_1 + good + good + jobs.add(0, 1) + jobs.END
+
+
+def loaded_by_10(number):
+    """The load of a result by 0x10, without its ends."""
+    step = TIME_LOADS[number]
+    at = step.offsets['interval']
+    return TIME[:step.offset] + bytes([BY_NAME['load'].byte]) + TIME[step.offset + 1:at] + TIME[at + 8:]
+
+
+def from_one_on_intervals():
+    """Results counted from 1, so that the sum of results 1 and 2 is that of 2 and 3, on another interval."""
+    rows = [on(constant(S), *ends) for ends in ((0, S), (0, S), (0, 2 * S))]
+    return jobs.EDITION_1 + b''.join(map(jobs.load_on, rows)) + jobs.add(1, 2) + jobs.END
 
 
 def root_from_one(root, refusal):
@@ -187,9 +234,37 @@ MISTAKES += [(f'{name}, 0x22', tighter(job), words) for name, job, words in MIST
              if len(job) == len(GOOD) and job[ROOT_STEP.offset] == ROOT_STEP.command.byte]
 
 
+INTERVAL_MISTAKES = [
+    ('ends exchanged', on_times(lambda lower, upper: struct.pack('<2i', upper, lower)),
+     'every load by 0x14 has its ends exchanged'),
+    ('ends of one load exchanged', on_times(lambda lower, upper: struct.pack('<2i', upper, lower), [2]),
+     'the load of result 2 has its ends exchanged'),
+    ('ends in seconds', on_times(packed('<2i', lambda end: end // S)), 'may be in seconds or millimetres'),
+    ('ends of one load in seconds', on_times(lambda lower, upper: struct.pack('<2i', 2, 5), [1], on_times(
+        lambda lower, upper: struct.pack('<2i', 2 * S, 5 * S))), 'the load of result 1 has its ends in seconds'),
+    ('ends in seconds below 1', on_times(lambda lower, upper: bytes(8)), 'rounded before they were multiplied'),
+    ('equal ends', on_times(lambda lower, upper: struct.pack('<2i', lower, lower)), 'is not below its upper end 13,107,200'),
+    ('ends big-endian', on_times(packed('>2i')), 'every load by 0x14 has its ends big-endian'),
+    ('ends in floats', on_times(packed('<2f', lambda end: end / S)), '32-bit floating-point numbers as its ends'),
+    ('ends with a sign bit', around_zero(packed('<2I', lambda end: abs(end) | (end < 0) << 31)),
+     'sign of its ends in the highest bit'),
+    ('ends unsigned', around_zero(packed('<2I', lambda end: end + (1 << 31))), 'ends unsigned, with 2^31 added'),
+    ('ends before the radius', radius_last(), 'has its ends before its radius'),
+    ('no ends', shorter(lambda kind, raw: b'' if kind == 'interval' else raw, TIME), 'ends of each load by 0x14 are missing'),
+    ('ends of 8 bytes', shorter(lambda kind, raw: struct.pack('<2q', *struct.unpack('<2i', raw)) if kind == 'interval' else raw,
+                                TIME), 'have 8 bytes each'),
+    ('the bur by 0x10', loaded_by_10(0), 'the load of result 0 is by 0x10, so on -S..S; on 13,107,200'),
+    ('a curve by 0x10', loaded_by_10(2), 'the load of result 2 is by 0x10, so on -S..S; on 13,107,200'),
+    ('a curve on other ends', on_times(lambda lower, upper: struct.pack('<2i', 0, upper), [3]),
+     'the load of result 3 is by 0x14 with other ends; on 13,107,200'),
+    ('an end one unit off', on_times(lambda lower, upper: struct.pack('<2i', lower, upper + 1), [4]), 'differ by only 1 unit'),
+    ('results counted from 1, 19', from_one_on_intervals(), 'counted from 1'),
+]
+
+
 def main():
     missed = 0
-    for name, job, words in MISTAKES:
+    for name, job, words in MISTAKES + INTERVAL_MISTAKES:
         checked = Checked(job)
         lines = list(explain.explanation(job, checked))
         said = checked.text().splitlines()[-1]
@@ -199,12 +274,15 @@ def main():
             if not named:
                 print('\n'.join('      ' + line for line in lines[-6:]))
         missed += not named
-    for job in (GOOD, tighter(GOOD)):
+        if '0x14' in ''.join(lines) and (name, job, words) in MISTAKES:
+            print(f'{name}: a job without 0x14 is told of it')
+            missed += 1
+    for job in (GOOD, tighter(GOOD), TIME):
         good = '\n'.join(explain.explanation(job, Checked(job)))
         if 'mistake' in good or 'CAUTION' in good:
             print('a good job is said to have a mistake')
             missed += 1
-    print(f'{len(MISTAKES)} mistakes, {missed} not named')
+    print(f'{len(MISTAKES + INTERVAL_MISTAKES)} mistakes, {missed} not named')
     sys.exit(1 if missed else 0)
 
 

@@ -1,6 +1,7 @@
 """Tests of `ferruntzo solve`: every radius covers the error against the margin itself, sampled in exact
 arithmetic, for each shipped stretch and for random margins; mirrored margins give mirrored paths; a root is the command with
-the smaller radius; and curves that cannot be used are named.
+the smaller radius; a curve on its own interval gives stretches on it (tool_intervals.py); and curves that cannot be used are
+named.
 
   tool_solve.py [--tool tools/ferruntzo] [--jobcheck target/bin/jobcheck] [--samples K] [--seed N]
 """
@@ -20,6 +21,7 @@ ROOT = Path(__file__).resolve().parent.parent
 sys.path.insert(0, str(ROOT / 'tools'))
 
 import oracle                                                           # noqa: E402
+import tool_intervals                                                   # noqa: E402
 from ferruntzo_tool import arithmetic as ar                             # noqa: E402
 from ferruntzo_tool import covered, exact                               # noqa: E402
 from ferruntzo_tool import solve as solver                              # noqa: E402
@@ -67,17 +69,20 @@ def series(rng):
 
 def shipped(samples):
     """The error of each shipped stretch against its margin, in units, beside its radius."""
-    margin, accident = (read_curve(str(ROOT / 'examples' / name)) for name in ('margin.json', 'accident.json'))
+    margin, accident, time = (read_curve(str(ROOT / 'examples' / name)) for name in (
+        'margin.json', 'accident.json', 'machine_time.json'))
     run = margin.runs[0]
     middle = solver.halves(run, run[0].low, run[0].high)
     first = solver.cut_out(run, run[0].low, middle)
     second = solver.cut_out(run, middle, run[0].high)
     run = accident.runs[0]
     whole = solver.cut_out(run, run[0].low, run[0].high)
+    passed = solver.cut_out(time.runs[0], time.runs[0][0].low, time.runs[0][0].high)
     rows = [('stretch', margin, first, (13, 14), True), ('stretch32', margin, first, (13, 14), True),
             ('stretch32', margin, second, (27, 28), True), ('accident_covered', accident, whole, (13, 14), True),
             ('accident_degree_12', accident, whole, (13, 14), True), ('accident', accident, whole, (13, 14), False),
-            ('stretch_tight', margin, first, (13, 14), True), ('accident_tight', accident, whole, (13, 14), True)]
+            ('stretch_tight', margin, first, (13, 14), True), ('accident_tight', accident, whole, (13, 14), True),
+            ('machine_time', time, passed, (13, 14), True)]
     for name, curve, stretch, results, good in rows:
         job = (ROOT / 'examples' / f'{name}.job').read_bytes()
         models = oracle.check_job(job)[2]
@@ -356,6 +361,7 @@ def main():
         random_margins(rng, 14, Path(name), options.margins)
         mirrored_margins(rng, Path(name), options.margins // 2)
         cautions(rng, 14, Path(name), options.margins // 2)
+        tool_intervals.curves(expect, run, Path(name), Random(options.seed), random_series, 14, Options, options.margins)
         commands(run, Path(name))
         written(run, Path(name))
     print(f'solve: {len(wrong)} wrong')

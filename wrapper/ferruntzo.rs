@@ -38,7 +38,7 @@ pub use proposals::{
 
 /// One unit is 1/S.
 pub const S: i32 = 1 << 20;
-/// The largest weight and the largest radius of a model, and the largest N of a test.
+/// The largest weight, radius and size of an end of a model, and the largest N of a test.
 pub const LIMIT: i32 = 1 << 28;
 /// The largest degree.
 pub const MAX_DEGREE: usize = 32;
@@ -49,8 +49,8 @@ pub const MAX_RESULTS: usize = 32;
 /// The kept degree of a product that leaves the choice open: 32.
 pub const DEFAULT_KEPT: u32 = 255;
 
-/// Numbers in a model area: degree, coefficients, radius.
-pub const MODEL_SIZE: usize = 35;
+/// Numbers in a model area: degree, coefficients, radius, lower end, upper end.
+pub const MODEL_SIZE: usize = 37;
 /// Numbers in a candidate area: degree, coefficients.
 pub const CANDIDATE_SIZE: usize = 34;
 /// Numbers of a proposal for a quotient: degree, coefficients of h, then of w.
@@ -66,7 +66,7 @@ pub const NUMBERS_SIZE: usize = 3;
 /// The former name of [`NUMBERS_SIZE`].
 pub const REPORT_SIZE: usize = NUMBERS_SIZE;
 /// Numbers in the work area of a job: 32 models.
-pub const WORK_SIZE: usize = 1120;
+pub const WORK_SIZE: usize = 1184;
 /// Numbers in the answer of a job: count, command.
 pub const ANSWER_SIZE: usize = 2;
 /// Numbers in the answer of two proposals: chosen, radius.
@@ -81,8 +81,10 @@ pub const QUOTIENT_RECORD_SIZE: usize = 67;
 pub const OUTCOME_SIZE: usize = 1;
 
 const RADIUS: usize = 34;
+const LOWER: usize = 35;
+const UPPER: usize = 36;
 
-/// The numbered refusals of document 01, and numbers 14 to 17 of document 02.
+/// The numbered refusals of document 01, and numbers 14 to 19 of document 02.
 #[derive(Clone, Copy, Debug, PartialEq, Eq, Hash)]
 #[repr(u32)]
 pub enum Refusal {
@@ -92,7 +94,7 @@ pub enum Refusal {
     BadModel = 2,
     /// The result's weight or radius is above 2^28, or its degree above 32.
     LargeResult = 3,
-    /// The point p is not from −S to S.
+    /// The point p is not from the model's lower end to its upper end.
     PointOutside = 4,
     /// m ≥ S: the helper is too far from the inverse.
     NotContracting = 5,
@@ -120,11 +122,15 @@ pub enum Refusal {
     LargeProposal = 16,
     /// Tighter root test: no whole r from 0 to S has 2·M·r² + b·S² ≤ (S − m)·S·r.
     NoRadius = 17,
+    /// A model's ends: the lower is not below the upper, or one is not from −2^28 to 2^28.
+    BadEnds = 18,
+    /// Two operands are on different intervals.
+    DifferentIntervals = 19,
 }
 
 impl Refusal {
     /// All refusals, by rising number.
-    pub const ALL: [Refusal; 17] = [
+    pub const ALL: [Refusal; 19] = [
         Refusal::ShortArea,
         Refusal::BadModel,
         Refusal::LargeResult,
@@ -142,9 +148,11 @@ impl Refusal {
         Refusal::NotFinite,
         Refusal::LargeProposal,
         Refusal::NoRadius,
+        Refusal::BadEnds,
+        Refusal::DifferentIntervals,
     ];
 
-    /// Its number, 1 to 17.
+    /// Its number, 1 to 19.
     pub fn number(self) -> u32 {
         self as u32
     }
@@ -161,7 +169,7 @@ impl fmt::Display for Refusal {
             Refusal::ShortArea => "an area or a proposal is too short",
             Refusal::BadModel => "bad model or candidate",
             Refusal::LargeResult => "result too large",
-            Refusal::PointOutside => "point outside -S..S",
+            Refusal::PointOutside => "point outside the interval",
             Refusal::NotContracting => "helper too far from the inverse",
             Refusal::LargeResidual => "residual too large",
             Refusal::HelperNotPositive => "helper not positive",
@@ -175,6 +183,8 @@ impl fmt::Display for Refusal {
             Refusal::NotFinite => "a divisor begins with zero, or a value is not finite",
             Refusal::LargeProposal => "proposal too large",
             Refusal::NoRadius => "no radius satisfies the tighter root test",
+            Refusal::BadEnds => "wrong ends of a model",
+            Refusal::DifferentIntervals => "operands on different intervals",
         };
         write!(f, "refused {}: {}", self.number(), reason)
     }
@@ -191,49 +201,86 @@ fn accepted(number: u32) -> Result<(), Refusal> {
     }
 }
 
-/// A polynomial in the Chebyshev basis with an error radius: degree, coefficients of T_0 to T_32
-/// in units of 1/[`S`], radius in units. Any numbers may be put in; the library refuses bad ones.
+/// The ends of a model's interval, in units: x goes from lower/S to upper/S.
+#[derive(Clone, Copy, Debug, PartialEq, Eq, Hash)]
+pub struct Interval {
+    /// The lower end l.
+    pub lower: i32,
+    /// The upper end u.
+    pub upper: i32,
+}
+
+impl Interval {
+    /// From −S to S: x goes from −1 to 1.
+    pub const STANDARD: Interval = Interval::new(-S, S);
+
+    /// The interval with these ends.
+    pub const fn new(lower: i32, upper: i32) -> Interval {
+        Interval { lower, upper }
+    }
+}
+
+/// A polynomial in the Chebyshev basis with an error radius on an interval: degree, coefficients of
+/// T_0 to T_32 in units of 1/[`S`], radius and ends in units. T_k is taken at
+/// (2·S·x − l − u)/(u − l), which goes from −1 to 1. Any numbers may be put in; the library refuses
+/// bad ones.
 ///
-/// The coefficients of products, integrals and models of series, and the T_k(x) inside an evaluation, are
-/// rounded to the nearest whole number, a tie to the even one, so that a mirrored curve has mirrored
-/// answers: include/ferruntzo.h says which.
+/// The coefficients of products, integrals and models of series, and inside an evaluation the point
+/// where T_k is taken and the T_k, are rounded to the nearest whole number, a tie to the even one, so
+/// that a mirrored curve has mirrored answers: include/ferruntzo.h says which.
 #[derive(Clone, Copy, Debug, PartialEq, Eq)]
 #[repr(transparent)]
 pub struct Model([i32; MODEL_SIZE]);
 
 impl Model {
-    /// The zero model: degree 0, all zero.
-    pub const ZERO: Model = Model([0; MODEL_SIZE]);
+    /// All zero, the ends too: an area for the library to write to. As an operand it is refused.
+    const BLANK: Model = Model([0; MODEL_SIZE]);
 
-    /// A model of this degree, these coefficients and this radius.
+    /// The constant 0 with radius 0, on the standard interval.
+    pub const ZERO: Model = Model::BLANK.on(Interval::STANDARD);
+
+    /// A model of this degree, these coefficients and this radius, on the standard interval.
     pub fn new(degree: i32, coefficients: [i32; COEFFICIENTS], radius: i32) -> Model {
-        let mut numbers = [0; MODEL_SIZE];
-        numbers[0] = degree;
-        numbers[1..RADIUS].copy_from_slice(&coefficients);
-        numbers[RADIUS] = radius;
-        Model(numbers)
+        Candidate::new(degree, coefficients).with_radius(radius)
     }
 
-    /// The constant c, in units, with radius 0.
+    /// The constant c, in units, with radius 0, on the standard interval.
     pub fn constant(c: i32) -> Model {
         Candidate::constant(c).with_radius(0)
     }
 
-    /// The model of a power series, of the same degree; it allows the exact value of the series at
-    /// every x from −1 to 1.
+    /// The model with the same degree, coefficients and radius on this interval.
+    ///
+    /// ```
+    /// use ferruntzo::{Interval, Model, S};
+    ///
+    /// // A speed of 3 for ten seconds: a distance of 30, within a unit.
+    /// let speed = Model::constant(3 * S).on(Interval::new(0, 10 * S));
+    /// let distance = speed.integrate().unwrap().evaluate(10 * S).unwrap();
+    /// assert_eq!((distance.low, distance.high), (30 * S as i64 - 1, 30 * S as i64 + 1));
+    /// ```
+    pub const fn on(&self, interval: Interval) -> Model {
+        let mut numbers = self.0;
+        numbers[LOWER] = interval.lower;
+        numbers[UPPER] = interval.upper;
+        Model(numbers)
+    }
+
+    /// The model of a power series, of the same degree, on the standard interval; it allows the exact
+    /// value of the series at every x from −1 to 1.
     ///
     /// Refusals, in order: `BadSeries`, `LargeResult` (a weight near 2^28 can pass it by rounding).
     pub fn from_series(series: &Series) -> Result<Model, Refusal> {
-        let mut out = Model::ZERO;
+        let mut out = Model::BLANK;
         areas::from_series(&series.0, &mut out.0).map(|()| out)
     }
 
-    /// The model in these 35 numbers: degree, coefficients, radius.
+    /// The model in these 37 numbers: degree, coefficients, radius, lower end, upper end.
     pub fn from_numbers(numbers: [i32; MODEL_SIZE]) -> Model {
         Model(numbers)
     }
 
-    /// The 35 numbers: degree, coefficients, radius.
+    /// The 37 numbers: degree, coefficients, radius, lower end, upper end.
     pub fn numbers(&self) -> &[i32; MODEL_SIZE] {
         &self.0
     }
@@ -253,45 +300,52 @@ impl Model {
         self.0[RADIUS]
     }
 
-    /// The sum.
+    /// The ends of its interval.
+    pub fn interval(&self) -> Interval {
+        Interval::new(self.0[LOWER], self.0[UPPER])
+    }
+
+    /// The sum, on the interval of both.
     ///
-    /// Refusals, in order: `BadModel`, `LargeResult`.
+    /// Refusals, in order: of each model `BadModel`, `BadEnds`; `DifferentIntervals`, `LargeResult`.
     pub fn add(&self, other: &Model) -> Result<Model, Refusal> {
-        let mut out = Model::ZERO;
+        let mut out = Model::BLANK;
         areas::add(&self.0, &other.0, &mut out.0).map(|()| out)
     }
 
-    /// The difference.
+    /// The difference, on the interval of both.
     ///
-    /// Refusals, in order: `BadModel`, `LargeResult`.
+    /// Refusals, in order: of each model `BadModel`, `BadEnds`; `DifferentIntervals`, `LargeResult`.
     pub fn subtract(&self, other: &Model) -> Result<Model, Refusal> {
-        let mut out = Model::ZERO;
+        let mut out = Model::BLANK;
         areas::subtract(&self.0, &other.0, &mut out.0).map(|()| out)
     }
 
-    /// The product, cut to the kept degree (0 to 32, or [`DEFAULT_KEPT`]); what is dropped is paid for
-    /// in the radius.
+    /// The product, on the interval of both, cut to the kept degree (0 to 32, or [`DEFAULT_KEPT`]); what
+    /// is dropped is paid for in the radius.
     ///
-    /// Refusals, in order: `BadModel`, `BadValue` (the kept degree), `LargeResult`.
+    /// Refusals, in order: of each model `BadModel`, `BadEnds`; `DifferentIntervals`, `BadValue` (the
+    /// kept degree), `LargeResult`.
     pub fn multiply(&self, other: &Model, kept: u32) -> Result<Model, Refusal> {
-        let mut out = Model::ZERO;
+        let mut out = Model::BLANK;
         areas::multiply(&self.0, &other.0, kept, &mut out.0).map(|()| out)
     }
 
-    /// The integral from −1. Its radius bounds the exact primitive of every list of coefficients
+    /// The integral from l/S. Its radius bounds the exact primitive of every list of coefficients
     /// within e units of this model's in total. Of any values that the model allows, left-end value
-    /// times width summed over k ≥ 1 equal strips from −1 to x differs from the integral's
-    /// polynomial at x by at most its radius plus 2·L/k units, where L is the sum of |a_k|·k².
+    /// times width summed over k ≥ 1 equal strips from l/S to x differs from the integral's
+    /// polynomial at x by at most its radius plus L·(u − l)/(S·k) units, where L is the sum of
+    /// |a_k|·k², at every x of the interval.
     ///
-    /// Refusals, in order: `BadModel`, `LargeResult` (degree 32 always).
+    /// Refusals, in order: `BadModel`, `BadEnds`, `LargeResult` (degree 32 always).
     pub fn integrate(&self) -> Result<Model, Refusal> {
-        let mut out = Model::ZERO;
+        let mut out = Model::BLANK;
         areas::integrate(&self.0, &mut out.0).map(|()| out)
     }
 
-    /// Bounds in units of every value that the model allows at p/S.
+    /// Bounds in units of every value that the model allows at p/S, p from l to u.
     ///
-    /// Refusals, in order: `BadModel`, `PointOutside`.
+    /// Refusals, in order: `BadModel`, `BadEnds`, `PointOutside`.
     pub fn evaluate(&self, p: i32) -> Result<Bounds, Refusal> {
         let mut bounds = [0; BOUNDS_SIZE];
         areas::evaluate(&self.0, p, &mut bounds)?;
@@ -299,7 +353,8 @@ impl Model {
     }
 }
 
-/// A proposed answer or a helper: a model without a radius.
+/// A proposed answer or a helper: a model without a radius and ends. It is on the interval of the
+/// models that it is proposed for.
 #[derive(Clone, Copy, Debug, PartialEq, Eq)]
 #[repr(transparent)]
 pub struct Candidate([i32; CANDIDATE_SIZE]);
@@ -340,12 +395,12 @@ impl Candidate {
         &self.0[1..]
     }
 
-    /// The model with these coefficients and this radius.
+    /// The model with these coefficients and this radius, on the standard interval.
     pub fn with_radius(&self, radius: i32) -> Model {
-        let mut numbers = [0; MODEL_SIZE];
-        numbers[..RADIUS].copy_from_slice(&self.0);
-        numbers[RADIUS] = radius;
-        Model(numbers)
+        let mut model = Model::ZERO;
+        model.0[..RADIUS].copy_from_slice(&self.0);
+        model.0[RADIUS] = radius;
+        model
     }
 }
 
@@ -396,7 +451,7 @@ pub struct Bounds {
 /// An accepted candidate: the model with its radius, and document 01's m, N and b.
 #[derive(Clone, Copy, Debug, PartialEq, Eq)]
 pub struct Certificate {
-    /// The candidate with the radius that the test gives.
+    /// The candidate with the radius that the test gives, on the interval of f.
     pub model: Model,
     /// m: how far helper times divisor (or twice helper times root) is from 1, in units.
     pub m: u64,
@@ -409,9 +464,10 @@ pub struct Certificate {
 /// The former name of [`Certificate`].
 pub type Certified = Certificate;
 
-/// Tests the candidate h for f/g, with the helper w near 1/g.
+/// Tests the candidate h for f/g, with the helper w near 1/g, on the interval of f and g.
 ///
-/// Refusals, in order: `BadModel`, `NotContracting`, `LargeResidual`, `LargeResult`.
+/// Refusals, in order: of f and of g `BadModel`, `BadEnds`; `BadModel` of h or w,
+/// `DifferentIntervals`, `NotContracting`, `LargeResidual`, `LargeResult`.
 pub fn quotient(
     f: &Model,
     g: &Model,
@@ -419,7 +475,7 @@ pub fn quotient(
     w: &Candidate,
 ) -> Result<Certificate, Refusal> {
     let mut scratch = [0; SCRATCH_SIZE];
-    let mut model = Model::ZERO;
+    let mut model = Model::BLANK;
     let mut numbers = [0; NUMBERS_SIZE];
     areas::quotient(&f.0, &g.0, &h.0, &w.0, &mut scratch, &mut model.0, &mut numbers)?;
     let [m, n, b] = numbers;
@@ -447,12 +503,14 @@ pub struct Selection<'a> {
     pub coefficients: &'a [i32; COEFFICIENTS],
     /// The radius that the test gives, in units.
     pub radius: i32,
+    /// The interval of f and g.
+    pub interval: Interval,
 }
 
 impl Selection<'_> {
-    /// The model with this degree, these coefficients and this radius.
+    /// The model with this degree, these coefficients and this radius on this interval.
     pub fn model(&self) -> Model {
-        Model::new(self.degree, *self.coefficients, self.radius)
+        Model::new(self.degree, *self.coefficients, self.radius).on(self.interval)
     }
 }
 
@@ -460,11 +518,11 @@ impl Selection<'_> {
 /// with the smaller radius is chosen, the first if the radii are equal; if just one passes, that
 /// one. Numbers behind the 68 play no part.
 ///
-/// At every x from −1 to 1 no value that g allows is zero, and each value of f over one of g is
-/// allowed by the coefficients of the selection with its radius.
+/// At every x of the interval of f and g no value that g allows is zero, and each value of f over one
+/// of g is allowed by the coefficients of the selection with its radius.
 ///
 /// Refusals, if neither passes: what the first fails with, in order `ShortArea` (fewer than 68
-/// numbers), `BadModel`, `NotContracting`, `LargeResidual`, `LargeResult`.
+/// numbers), then those of [`quotient`].
 ///
 /// ```
 /// use ferruntzo::{quotient_of_two, Chosen, Model, CANDIDATE_SIZE, PROPOSAL_SIZE, S};
@@ -494,7 +552,8 @@ pub fn quotient_of_two<'a>(
     let (chosen, proposal) = chosen_of(answer[0], first, second);
     let coefficients = part.first_chunk().expect("a part of 33 numbers");
     // An accepted radius is at most 2^28.
-    Ok(Selection { chosen, degree: proposal[0], coefficients, radius: answer[1] as i32 })
+    let radius = answer[1] as i32;
+    Ok(Selection { chosen, degree: proposal[0], coefficients, radius, interval: f.interval() })
 }
 
 /// The proposal that the library's answer names.
@@ -506,13 +565,13 @@ fn chosen_of<'a>(number: u32, first: &'a [i32], second: &'a [i32]) -> (Chosen, &
     }
 }
 
-/// Tests the candidate h for the square root of f, with the helper w near 1/(2h).
+/// Tests the candidate h for the square root of f, with the helper w near 1/(2h), on the interval of f.
 ///
-/// Refusals, in order: `BadModel`, `HelperNotPositive`, `NotContracting`, `LargeResidual`,
-/// `NegativeDiscriminant`.
+/// Refusals, in order: of f `BadModel`, `BadEnds`; `BadModel` of h or w, `HelperNotPositive`,
+/// `NotContracting`, `LargeResidual`, `NegativeDiscriminant`.
 pub fn root(f: &Model, h: &Candidate, w: &Candidate) -> Result<Certificate, Refusal> {
     let mut scratch = [0; SCRATCH_SIZE];
-    let mut model = Model::ZERO;
+    let mut model = Model::BLANK;
     let mut numbers = [0; NUMBERS_SIZE];
     areas::root(&f.0, &h.0, &w.0, &mut scratch, &mut model.0, &mut numbers)?;
     let [m, n, b] = numbers;
@@ -523,8 +582,8 @@ pub fn root(f: &Model, h: &Candidate, w: &Candidate) -> Result<Certificate, Refu
 /// which 2·M·r² + b·S² ≤ (S − m)·S·r, where M is the weight of w. Where it accepts, `root`
 /// accepts too, with a radius that is never smaller; it can refuse what `root` accepts.
 ///
-/// Refusals, in order: `BadModel`, `HelperNotPositive`, `NotContracting`, `LargeResidual`,
-/// `NoRadius`.
+/// Refusals, in order: of f `BadModel`, `BadEnds`; `BadModel` of h or w, `HelperNotPositive`,
+/// `NotContracting`, `LargeResidual`, `NoRadius`.
 ///
 /// ```
 /// use ferruntzo::{root, tight_root, Candidate, Model, S};
@@ -537,7 +596,7 @@ pub fn root(f: &Model, h: &Candidate, w: &Candidate) -> Result<Certificate, Refu
 /// ```
 pub fn tight_root(f: &Model, h: &Candidate, w: &Candidate) -> Result<Certificate, Refusal> {
     let mut scratch = [0; SCRATCH_SIZE];
-    let mut model = Model::ZERO;
+    let mut model = Model::BLANK;
     let mut numbers = [0; NUMBERS_SIZE];
     areas::tight_root(&f.0, &h.0, &w.0, &mut scratch, &mut model.0, &mut numbers)?;
     let [m, n, b] = numbers;
@@ -562,7 +621,7 @@ impl CheckedJob {
         if i >= self.count {
             return None;
         }
-        let mut model = Model::ZERO;
+        let mut model = Model::BLANK;
         model.0.copy_from_slice(&self.work[MODEL_SIZE * i..MODEL_SIZE * (i + 1)]);
         Some(model)
     }
@@ -614,7 +673,7 @@ pub mod areas {
 
     pub use super::proposals::lent::{make_quotient, make_reciprocal, to_units};
 
-    /// a + b; `a`, `b` and `out` have 35 numbers.
+    /// a + b; `a`, `b` and `out` have 37 numbers.
     pub fn add(a: &[i32], b: &[i32], out: &mut [i32]) -> Result<(), Refusal> {
         // SAFETY: here and below, each pointer and length come from one live slice, and the borrow
         // checker keeps every written area apart from all others of the call.
@@ -623,7 +682,7 @@ pub mod areas {
         })
     }
 
-    /// a − b; `a`, `b` and `out` have 35 numbers.
+    /// a − b; `a`, `b` and `out` have 37 numbers.
     pub fn subtract(a: &[i32], b: &[i32], out: &mut [i32]) -> Result<(), Refusal> {
         // SAFETY: as in `add`.
         accepted(unsafe {
@@ -631,7 +690,7 @@ pub mod areas {
         })
     }
 
-    /// a·b cut to the kept degree; `a`, `b` and `out` have 35 numbers.
+    /// a·b cut to the kept degree; `a`, `b` and `out` have 37 numbers.
     pub fn multiply(a: &[i32], b: &[i32], kept: u32, out: &mut [i32]) -> Result<(), Refusal> {
         // SAFETY: as in `add`.
         accepted(unsafe {
@@ -641,7 +700,7 @@ pub mod areas {
         })
     }
 
-    /// The integral of a from −1; `a` and `out` have 35 numbers.
+    /// The integral of a from its lower end; `a` and `out` have 37 numbers.
     pub fn integrate(a: &[i32], out: &mut [i32]) -> Result<(), Refusal> {
         // SAFETY: as in `add`.
         accepted(unsafe {
@@ -649,7 +708,7 @@ pub mod areas {
         })
     }
 
-    /// The model of a power series; `series` has 34 numbers, `out` 35.
+    /// The model of a power series; `series` has 34 numbers, `out` 37.
     pub fn from_series(series: &[i32], out: &mut [i32]) -> Result<(), Refusal> {
         // SAFETY: as in `add`.
         accepted(unsafe {
@@ -657,7 +716,7 @@ pub mod areas {
         })
     }
 
-    /// Bounds at p/S; `a` has 35 numbers, `bounds` 2: low, high.
+    /// Bounds at p/S; `a` has 37 numbers, `bounds` 2: low, high.
     pub fn evaluate(a: &[i32], p: i32, bounds: &mut [i64]) -> Result<(), Refusal> {
         // SAFETY: as in `add`.
         accepted(unsafe {
@@ -665,7 +724,7 @@ pub mod areas {
         })
     }
 
-    /// The quotient test; `f` and `g` have 35 numbers, `h` and `w` 34, `scratch` 16, `out` 35,
+    /// The quotient test; `f` and `g` have 37 numbers, `h` and `w` 34, `scratch` 16, `out` 37,
     /// `numbers` 3: m, N, b.
     pub fn quotient(
         f: &[i32],
@@ -687,7 +746,7 @@ pub mod areas {
     }
 
     /// The quotient tests of two proposals, and the part that is chosen: the 33 coefficients of h in
-    /// the tighter proposal, or an empty part of `first` when refused. `f` and `g` have 35 numbers,
+    /// the tighter proposal, or an empty part of `first` when refused. `f` and `g` have 37 numbers,
     /// `scratch` 16, `answer` 2: chosen (1 or 2), radius.
     ///
     /// A proposal of fewer than 68 numbers fails with `ShortArea` by itself. `answer` is 0 and 0
@@ -715,7 +774,7 @@ pub mod areas {
         (tested, part)
     }
 
-    /// The root test; `f` has 35 numbers, `h` and `w` 34, `scratch` 16, `out` 35, `numbers` 3: m, N, b.
+    /// The root test; `f` has 37 numbers, `h` and `w` 34, `scratch` 16, `out` 37, `numbers` 3: m, N, b.
     pub fn root(
         f: &[i32],
         h: &[i32],
@@ -753,7 +812,7 @@ pub mod areas {
         })
     }
 
-    /// The check of a job; `work` has 1120 numbers, `scratch` 16, `answer` 2: count, command.
+    /// The check of a job; `work` has 1184 numbers, `scratch` 16, `answer` 2: count, command.
     ///
     /// `ShortArea` leaves `work` and `scratch` as they were, and an `answer` of 2 or more numbers at
     /// 0 and 0. After every other call the 16 numbers of `scratch` are zero, and those of `work` if the job is refused.

@@ -84,7 +84,7 @@ fn reciprocal_record(numbers: &[f64]) -> ReciprocalRecord {
 /// Makes a helper w for 1/g: w starts as the constant 1/g_0 and becomes w·(2 − g·w), for at most 12
 /// rounds, until it has settled. Every bit is fixed: include/ferruntzo.h says by which order.
 ///
-/// Refusals, in order: `BadModel`, `NotFinite` (g_0 is zero, or a value is not finite),
+/// Refusals, in order: `BadModel`, `BadEnds`, `NotFinite` (g_0 is zero, or a value is not finite),
 /// `LargeProposal` (the weight of w in units).
 pub fn make_reciprocal(g: &Model) -> Result<MadeReciprocal, Refusal> {
     let mut record = [0.0; RECIPROCAL_RECORD_SIZE];
@@ -98,8 +98,8 @@ pub fn make_reciprocal(g: &Model) -> Result<MadeReciprocal, Refusal> {
 
 /// Makes a candidate h for f/g with its helper w: w as [`make_reciprocal`] makes it, and h = f·w.
 ///
-/// Refusals, in order: `BadModel`, `NotFinite` (g_0 is zero, or a value of w or of f·w is not
-/// finite), `LargeProposal` (the weight of h or of w in units).
+/// Refusals, in order: of f and of g `BadModel`, `BadEnds`; `DifferentIntervals`, `NotFinite` (g_0 is
+/// zero, or a value of w or of f·w is not finite), `LargeProposal` (the weight of h or of w in units).
 ///
 /// ```
 /// use ferruntzo::{make_quotient, quotient, Model, Outcome, S};
@@ -141,7 +141,7 @@ pub fn to_units(values: &[f64; COEFFICIENTS]) -> Result<Candidate, Refusal> {
 pub(crate) mod lent {
     use crate::{accepted, raw, Refusal};
 
-    /// A helper for 1/g; `g` has 35 numbers, `record` 34 (w, the change), `w` 34, `outcome` 1
+    /// A helper for 1/g; `g` has 37 numbers, `record` 34 (w, the change), `w` 34, `outcome` 1
     /// (1 settled, 0 given up).
     ///
     /// After every refusal each of the three is zero in its size, unless it is itself too short.
@@ -160,7 +160,7 @@ pub(crate) mod lent {
         })
     }
 
-    /// A candidate and a helper for f/g; `f` and `g` have 35 numbers, `record` 67 (f times w, then w
+    /// A candidate and a helper for f/g; `f` and `g` have 37 numbers, `record` 67 (f times w, then w
     /// and the change), `h` and `w` 34, `outcome` 1 (1 settled, 0 given up).
     ///
     /// After every refusal each of the four is zero in its size, unless it is itself too short.

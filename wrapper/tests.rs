@@ -4,6 +4,8 @@ use std::format;
 use std::vec;
 use std::vec::Vec;
 
+#[path = "interval_tests.rs"]
+mod intervals;
 #[path = "proposal_tests.rs"]
 mod proposals;
 #[path = "selection_tests.rs"]
@@ -274,7 +276,7 @@ fn numbers_of_refusals() {
     for refusal in Refusal::ALL {
         assert_eq!(Refusal::from_number(refusal.number()), Some(refusal));
     }
-    for number in [0, 18, 255, u32::MAX] {
+    for number in [0, 20, 255, u32::MAX] {
         assert_eq!(Refusal::from_number(number), None);
     }
 }
@@ -300,6 +302,7 @@ fn header_agrees() {
         ("MAX_DEGREE", MAX_DEGREE),
         ("MAX_WEIGHT", LIMIT as usize),
         ("MAX_RADIUS", LIMIT as usize),
+        ("MAX_END", LIMIT as usize),
         ("MAX_RESIDUAL", LIMIT as usize),
         ("MAX_RESULTS", MAX_RESULTS),
         ("MODEL_SIZE", MODEL_SIZE),
@@ -320,6 +323,8 @@ fn header_agrees() {
         ("CHOSEN_SECOND", Chosen::Second as usize),
         ("COEFFICIENTS", COEFFICIENTS),
         ("PLACE_RADIUS", RADIUS),
+        ("PLACE_LOWER", LOWER),
+        ("PLACE_UPPER", UPPER),
         ("DEFAULT_KEPT", DEFAULT_KEPT as usize),
     ];
     for (name, value) in constants {

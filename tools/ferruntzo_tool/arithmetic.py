@@ -3,10 +3,10 @@
 from collections import namedtuple
 from math import isqrt
 
-from .tables import COEFFICIENTS, DEFAULT_KEPT, LIMIT, MAX_DEGREE, PLACES, S
+from .tables import COEFFICIENTS, DEFAULT_KEPT, LIMIT, MAX_DEGREE, PLACES, S, STANDARD, interval_text
 
-# coefficients has COEFFICIENTS numbers; a candidate is a model with radius 0.
-Model = namedtuple('Model', 'degree coefficients radius')
+# coefficients has COEFFICIENTS numbers; a candidate is a model with radius 0, whose interval plays no part.
+Model = namedtuple('Model', 'degree coefficients radius interval', defaults=(STANDARD,))
 
 
 class Refused(Exception):
@@ -17,10 +17,10 @@ class Refused(Exception):
         self.number, self.cause, self.numbers = number, cause, numbers
 
 
-def model(coefficients, radius=0, degree=None):
+def model(coefficients, radius=0, degree=None, interval=STANDARD):
     coefficients = list(coefficients)
     degree = len(coefficients) - 1 if degree is None else degree
-    return Model(degree, coefficients + [0] * (COEFFICIENTS - len(coefficients)), radius)
+    return Model(degree, coefficients + [0] * (COEFFICIENTS - len(coefficients)), radius, interval)
 
 
 def up(n, d):
@@ -66,6 +66,23 @@ def fault(m):
     return ''
 
 
+def ends_fault(interval):
+    """Why the ends of an interval are bad (refusal 18), or nothing."""
+    for what, end in zip(('lower', 'upper'), interval):
+        if abs(end) > LIMIT:
+            return f'its {what} end {end:,} is outside -2^28..2^28 = {-LIMIT:,} to {LIMIT:,}'
+    if interval.lower >= interval.upper:
+        return f'its lower end {interval.lower:,} is not below its upper end {interval.upper:,}'
+    return ''
+
+
+def common(a, b):
+    """The interval of both operands, or refusal 19."""
+    if a.interval != b.interval:
+        raise Refused(19, f'the first operand is on {interval_text(a.interval)}, the second on {interval_text(b.interval)}')
+    return a.interval
+
+
 def formed(m):
     """A result within its limits, or refusal 3."""
     for what, size in (('weight', weight(m.coefficients)), ('radius', m.radius)):
@@ -77,17 +94,18 @@ def formed(m):
 def add(a, b, sign=1):
     return formed(Model(max(a.degree, b.degree),
                         [u + sign * v for u, v in zip(a.coefficients, b.coefficients)],
-                        a.radius + b.radius))
+                        a.radius + b.radius, common(a, b)))
 
 
 def multiply(a, b, kept):
+    interval = common(a, b)
     row = products(a.coefficients, b.coefficients)
     degree = min(MAX_DEGREE if kept == DEFAULT_KEPT else kept, a.degree + b.degree)
     rounded = [near(row[k], 2 * S) for k in range(degree + 1)]
     lost = (sum(abs(row[k] - 2 * S * c) for k, c in enumerate(rounded)) + weight(row[degree + 1:])
             + 2 * (weight(a.coefficients) * b.radius + weight(b.coefficients) * a.radius
                    + a.radius * b.radius))
-    return formed(model(rounded, up(lost, 2 * S)))
+    return formed(model(rounded, up(lost, 2 * S), interval=interval))
 
 
 def _displaced(numbers):
@@ -102,6 +120,7 @@ def _displaced(numbers):
 
 def quotient(f, g, h, w):
     """The numbers of the quotient test for f/g; a refusal carries those that were formed."""
+    common(f, g)
     big_m, big_h = weight(w.coefficients), weight(h.coefficients)
     row = products(w.coefficients, g.coefficients)
     row[0] -= 2 * S * S
@@ -116,6 +135,11 @@ def quotient(f, g, h, w):
         raise Refused(3, f'the radius would be {numbers["radius"]:,}, above 2^28 = {LIMIT:,}',
                       **numbers)
     return numbers
+
+
+def tested(f, h, numbers):
+    """The result of a test that passed: h with its radius, on the interval of f."""
+    return h._replace(radius=numbers['radius'], interval=f.interval)
 
 
 def root_numbers(f, h, w):

@@ -106,7 +106,9 @@ def parser():
     checker(made)
 
     made = command('solve', 'make jobs for the path of a bur beside a margin',
-                   epilog='CURVE is a JSON file, or lines of x y in mm; docs/FORMAT.md has its form.\n\n'
+                   epilog='CURVE is a JSON file, or lines of x y in mm; docs/FORMAT.md has its form. A piece of a series may\n'
+                   'have its own interval, "interval_units": [lower, upper], whole numbers of 2^-20 (seconds of machine time\n'
+                   'times 2^20): its stretches are then loaded by 0x14, and what that saves is said below the table.\n\n'
                    'The column root says which command a root is: 0x22 (the tighter root test) where its radius\n'
                    'is the smaller, else 0x21 (the root test).\n\n'
                    'exit status: 0 all jobs within the limit, 1 some are not, 2 nothing made')

@@ -1,6 +1,6 @@
 """What a verdict covers: the loaded curves with their radii, and nothing beyond them."""
 
-from .reading import split
+from .reading import loaded, split
 from .tables import in_micrometres, is_load
 
 LEAST_DEGREE = 4                # a curve of a lower degree is hardly ever cut
@@ -12,7 +12,7 @@ def loads(job):
     number, found = 0, []
     for step in split(job)[0]:
         if is_load(step):
-            found.append((number, step.values['model']._replace(radius=step.values['radius'])))
+            found.append((number, loaded(step.values)))
         number += step.command.makes
     return found
 

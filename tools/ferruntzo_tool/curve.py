@@ -7,15 +7,17 @@ from collections import namedtuple
 from fractions import Fraction
 from math import hypot, lcm
 
+from .arithmetic import ends_fault
 from .exact import Series
 from .program import NotChecked, read_file
-from .tables import LIMIT, S, decimal
+from .tables import LIMIT, S, Interval, decimal
 
 SPAN = 1 << 20                  # parameters of a run that is one series
 SLOPE = 1 << 40                 # slopes of a curve through points are multiples of 1/SLOPE
 
-# x and y over the parameters low to high, both series in u from -1 to 1, in units.
-Piece = namedtuple('Piece', 'low high x y')
+# x and y over the parameters low to high, both series in u from -1 to 1, in units. own: the parameters are the units
+# of the piece's own interval.
+Piece = namedtuple('Piece', 'low high x y own', defaults=(False,))
 Curve = namedtuple('Curve', 'name bur side runs')
 
 
@@ -43,6 +45,21 @@ def series(numbers, factor, where):
     return Series([int(c * scale) for c in row], scale)
 
 
+def ends_of(given, where):
+    """The interval that a piece states, in units."""
+    if not isinstance(given, list) or len(given) != 2:
+        raise BadCurve(f'{where}: two whole numbers are needed, [lower, upper]')
+    ends = [exact(end, where) for end in given]
+    for end in ends:
+        if end.denominator != 1:
+            raise BadCurve(f'{where}: {float(end):.10g} is no whole number of units; a second or a millimetre has '
+                           f'2^20 = {S:,}')
+    interval = Interval(*map(int, ends))
+    if ends_fault(interval):
+        raise BadCurve(f'{where}: {ends_fault(interval)}')
+    return interval
+
+
 def from_series(given, factor, where):
     if not isinstance(given, list) or not given:
         raise BadCurve(f'{where}: a list of pieces with "x" and "y" is needed')
@@ -51,8 +68,12 @@ def from_series(given, factor, where):
         at = f'{where}, piece {i}'
         if not isinstance(piece, dict) or not {'x', 'y'} <= set(piece):
             raise BadCurve(f'{at}: "x" and "y" are needed')
-        runs.append([Piece(0, SPAN, series(piece['x'], factor, f'{at}, x'),
-                           series(piece['y'], factor, f'{at}, y'))])
+        named = [key for key in piece if key.lower().startswith('interval')]
+        if named not in ([], [INTERVAL]):
+            raise BadCurve(f'{at}: unknown key {named[0]!r}; its interval is "{INTERVAL}"')
+        low, high = ends_of(piece[INTERVAL], f'{at}, {INTERVAL}') if named else (0, SPAN)
+        runs.append([Piece(low, high, series(piece['x'], factor, f'{at}, x'),
+                           series(piece['y'], factor, f'{at}, y'), bool(named))])
     return runs
 
 
@@ -150,6 +171,7 @@ def text_points(text, name):
     return points
 
 
+INTERVAL = 'interval_units'     # of a piece
 KEYS = {'name', 'story', 'bur_mm', 'side', 'closed', 'points_mm', 'series_mm', 'series_units'}
 
 
@@ -168,6 +190,9 @@ def read_curve(name):
     except (json.JSONDecodeError, RecursionError) as error:
         raise BadCurve(f'{name}: no JSON: {error}') from error
     unknown = sorted(set(given) - KEYS)
+    if INTERVAL in unknown:
+        raise BadCurve(f'{name}: "{INTERVAL}" belongs into a piece of "series_mm" or "series_units", beside its "x" and '
+                       '"y"; a curve through points has none')
     if unknown:
         raise BadCurve(f'{name}: unknown key {unknown[0]!r}; there are {", ".join(sorted(KEYS))}')
     kinds = [key for key in ('points_mm', 'series_mm', 'series_units') if key in given]

@@ -4,11 +4,12 @@ import sys
 from itertools import zip_longest
 
 from . import arithmetic as ar
-from . import covered, misfit, misread, program
+from . import covered, misfit, misplaced, misread, program
 from .arithmetic import Refused
 from .program import NotChecked
 from .reading import Checked, blocks_of
-from .tables import DEFAULT_KEPT, LIMIT, REFUSAL, S, in_micrometres, is_load, is_root, is_tight
+from .tables import (DEFAULT_KEPT, LIMIT, REFUSAL, S, STANDARD, in_micrometres, interval_text, is_load,
+                     is_root, is_tight)
 
 
 def share(n, d):
@@ -19,12 +20,18 @@ def plain(units):
     return f'{units / S:.6g}'
 
 
+def operand_word(kind, value):
+    """What stands for an operand in the words of its command."""
+    if kind == 'interval':
+        return f'{value.lower:,} to {value.upper:,}'
+    return 'open (32)' if kind == 'kept' and value == DEFAULT_KEPT else value
+
+
 def head(outcome):
     """The command in words."""
     step = outcome.step
     made = f' makes result {outcome.result}' if outcome.result is not None else ''
-    words = {name: 'open (32)' if kind == 'kept' and step.values[name] == DEFAULT_KEPT else step.values[name]
-             for kind, name in step.command.operands}
+    words = {name: operand_word(kind, step.values[name]) for kind, name in step.command.operands}
     return f'command {step.number}, byte {step.offset}: {step.command.words.format(**words)}{made}'
 
 
@@ -105,6 +112,8 @@ def outcome_lines(outcome):
                + (': taken as exact' if m.radius == 0 else ''))
     elif m:
         yield f'    degree {m.degree}, radius {m.radius:,} ({in_micrometres(m.radius)})'
+    if m and m.interval != STANDARD:
+        yield f'    interval {interval_text(m.interval)}'
     if outcome.refusal:
         yield f'    REFUSED with {outcome.refusal}: {outcome.cause}'
 
@@ -144,7 +153,7 @@ def explanation(job, checked):
         for line in covered.cautions(job):
             yield 'CAUTION: ' + line + '.'
     lines = list(dict.fromkeys(([] if checked.accepted else misread.causes(job, checked))
-                               + misfit.causes(job, checked)))
+                               + misplaced.causes(job, checked) + misfit.causes(job, checked)))
     if lines:
         yield ''
         yield 'Likely mistakes (found by trying)'

@@ -6,7 +6,7 @@ from math import cos, pi, sqrt
 from . import arithmetic as ar
 from .arithmetic import Model
 from .reading import Checked, split, write_step
-from .tables import COEFFICIENTS, MAX_DEGREE, S, is_load, is_root, is_test
+from .tables import BY_NAME, COEFFICIENTS, MAX_DEGREE, S, is_load, is_root, is_test
 
 NODES = [cos(pi * (i + 0.5) / 24) for i in range(24)]
 TINY = 2000                     # units; a curve below it is 2 µm in all
@@ -108,7 +108,9 @@ def rewritten(job, steps, offset, edit):
         values = edit(step, dict(step.values))
         if values is None:
             return None
-        pieces.append(write_step(step.command, values))
+        # An edit that gives a load an interval makes it a load by 0x14.
+        command = BY_NAME['load_on'] if is_load(step) and 'interval' in values else step.command
+        pieces.append(write_step(command, values))
     made = b''.join(pieces) + job[offset:]
     return None if made == job else made
 
@@ -149,11 +151,11 @@ def score(checked, at):
     return radius is not None, checked.accepted, checked.command, -last, -(radius or 0)
 
 
-def tried(job, checked, at, enough):
+def tried(job, checked, at, enough, tries=edits):
     """The mistakes whose mending brings the job beyond command `at` and is `enough` by its radius."""
     steps, offset = split(job)
     found = []
-    for text, edit in edits(at):
+    for text, edit in tries(at):
         other = rewritten(job, steps, offset, edit)
         if other is None:
             continue
@@ -173,7 +175,8 @@ def sampled(m):
 def lowest(m, signed):
     """The least value of a curve (of its size, unless signed) at 401 points, and where."""
     row = m.coefficients[:last_place(m) + 1]
-    found = ((ar.value(row, i / 200) / S, i / 200) for i in range(-200, 201))
+    low, high = m.interval
+    found = ((ar.value(row, i / 200) / S, (low + high + i / 200 * (high - low)) / (2 * S)) for i in range(-200, 201))
     return min(found if signed else ((abs(v), x) for v, x in found))
 
 

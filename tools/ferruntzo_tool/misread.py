@@ -5,39 +5,41 @@ from .tables import BY_BYTE, WIDTH
 
 HEX = set(b'0123456789abcdefABCDEF \t\r\n')
 
-# How a block or a radius may have been written instead: name, bytes of the block whose degree
-# byte stands at a place, bytes of a load's radius.
+# How a block, a radius or an interval may have been written instead: name, kind of the operand, its bytes at a place.
 LAYOUTS = [
-    ('each block holds only its degree + 1 coefficients; it must always hold 33 (133 bytes)',
-     lambda job, at: 1 + 4 * (job[at] + 1), 4),
-    ('the radius of each load is missing (4 bytes behind the block)', lambda job, at: 133, 0),
-    ('the radius of each load has 8 bytes; it has 4', lambda job, at: 133, 8),
-    ('the radius of each load has 1 byte; it has 4', lambda job, at: 133, 1),
-    ('the blocks have no degree byte', lambda job, at: 132, 4),
-    ('each block holds 32 coefficients; it holds 33, T_0 to T_32', lambda job, at: 129, 4),
-    ('the degree of each block has 4 bytes; it has 1', lambda job, at: 136, 4),
-    ('the coefficients have 8 bytes each; they have 4', lambda job, at: 1 + 8 * 33, 4),
-    ('the coefficients have 2 bytes each; they have 4', lambda job, at: 1 + 2 * 33, 4),
+    ('each block holds only its degree + 1 coefficients; it must always hold 33 (133 bytes)', 'block',
+     lambda job, at: 1 + 4 * (job[at] + 1)),
+    ('the radius of each load is missing (4 bytes behind the block)', 'radius', lambda job, at: 0),
+    ('the radius of each load has 8 bytes; it has 4', 'radius', lambda job, at: 8),
+    ('the radius of each load has 1 byte; it has 4', 'radius', lambda job, at: 1),
+    ('the blocks have no degree byte', 'block', lambda job, at: 132),
+    ('each block holds 32 coefficients; it holds 33, T_0 to T_32', 'block', lambda job, at: 129),
+    ('the degree of each block has 4 bytes; it has 1', 'block', lambda job, at: 136),
+    ('the coefficients have 8 bytes each; they have 4', 'block', lambda job, at: 1 + 8 * 33),
+    ('the coefficients have 2 bytes each; they have 4', 'block', lambda job, at: 1 + 2 * 33),
+    ('the ends of each load by 0x14 are missing (4 bytes each, behind the radius)', 'interval', lambda job, at: 0),
+    ('the ends of each load by 0x14 have 8 bytes each; they have 4', 'interval', lambda job, at: 16),
 ]
 
 
-def walk(job, block_bytes, radius_bytes, chosen):
-    """Commands read in another layout at the chosen commands and blocks, and whether the last byte is
-    then the end."""
+def walk(job, other_kind, other_bytes, chosen):
+    """Commands read in another layout at the chosen commands and operands, and whether there is such a one and the last
+    byte is then the end."""
     at = number = 0
+    met = other_kind is None
     while at < len(job):
         command = BY_BYTE.get(job[at])
         if command is None or (command.name == 'edition') != (number == 0):
             return number, False
         if command.name == 'end':
-            return number, at == len(job) - 1
+            return number, met and at == len(job) - 1
         at += 1
         for kind, name in command.operands:
             if at >= len(job):
                 return number, False
-            other = chosen(number, name)
-            at += (block_bytes(job, at) if kind == 'block' and other else
-                   radius_bytes if kind == 'radius' and other else WIDTH[kind])
+            other = kind == other_kind and chosen(number, name)
+            at += other_bytes(job, at) if other else WIDTH[kind]
+            met = met or other
         number += 1
     return number, False
 
@@ -45,8 +47,8 @@ def walk(job, block_bytes, radius_bytes, chosen):
 def other_layouts(job, at):
     """Layouts with which the job ends well: everywhere, else, if it does not end well as it is, at the refused command or
     the one before."""
-    for name, block_bytes, radius_bytes in LAYOUTS:
-        number, ended = walk(job, block_bytes, radius_bytes, lambda number, name: True)
+    for name, kind, other_bytes in LAYOUTS:
+        number, ended = walk(job, kind, other_bytes, lambda number, name: True)
         if ended and number > 1:
             yield f'read so, the job ends well: {name}'
             return
@@ -54,10 +56,10 @@ def other_layouts(job, at):
     if walk(job, None, None, lambda number, name: False)[1]:
         return
     for place in (at, at - 1):
-        for block in ('radius', 'h', 'w', 'model'):
-            for name, block_bytes, radius_bytes in LAYOUTS:
-                if walk(job, block_bytes, radius_bytes, lambda number, name: (number, name) == (place, block))[1]:
-                    yield f'read so at {block} of command {place} alone, the job ends well: {name}'
+        for operand in ('radius', 'h', 'w', 'model', 'interval'):
+            for name, kind, other_bytes in LAYOUTS:
+                if walk(job, kind, other_bytes, lambda number, name: (number, name) == (place, operand))[1]:
+                    yield f'read so at {operand} of command {place} alone, the job ends well: {name}'
                     return
 
 
@@ -109,9 +111,9 @@ def causes(job, checked):
         found += after_end(job, checked)
     if checked.refusal == 10 and checked.offset == len(job) and Checked(job + b'\0').accepted:
         found.append('the end is missing: a job ends with the byte 00')
-    if checked.refusal in (2, 9, 10, 11, 12, 13) or checked.command < 3:
+    if checked.refusal in (2, 9, 10, 11, 12, 13, 18) or checked.command < 3:
         found += other_layouts(job, checked.command)
-    if checked.refusal in (3, 5, 6, 8, 12, 17):
+    if checked.refusal in (3, 5, 6, 8, 12, 17, 19):
         lowered = counted_from_one(job)
         other = Checked(lowered) if lowered is not None else checked
         if other.accepted or (checked.refusal == 12 and other.command > checked.command):

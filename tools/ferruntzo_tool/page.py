@@ -7,7 +7,7 @@ from pathlib import Path
 from . import __version__, covered, explain, program, svg
 from .program import NotChecked
 from .reading import Checked
-from .tables import REFUSAL, S, in_micrometres, is_load
+from .tables import REFUSAL, S, STANDARD, argument, in_micrometres, is_load
 
 STYLE = '''
 :root { color-scheme: light dark; --back: #fff; --text: #1a1a1a; --soft: #5c5c5c; --line: #d0d0d0; --curve: #0b5394;
@@ -83,20 +83,25 @@ def verdict_part(checked, options):
 
 
 def table(checked, ends):
+    # A job on the standard interval alone has no column for it.
+    own = any(m.interval != STANDARD for m in checked.results)
     yield ('<div class="scroll"><table><thead><tr><th scope="col">result</th><th scope="col">made by</th>'
-           '<th scope="col">degree</th><th scope="col">radius, units</th><th scope="col">radius, µm</th>'
+           + ('<th scope="col">x</th>' if own else '')
+           + '<th scope="col">degree</th><th scope="col">radius, units</th><th scope="col">radius, µm</th>'
            '<th scope="col">remark</th></tr></thead><tbody>')
     suspects = {i for i, m in covered.loads(checked.job) if covered.cut(m)}
     for outcome in checked.outcomes:
         i, m = outcome.result, outcome.model
         if i is None:
             continue
-        words = explain.head(outcome).split(': ', 1)[1].split(' makes ')[0]
+        words = 'load' if is_load(outcome.step) else explain.head(outcome).split(': ', 1)[1].split(' makes ')[0]
         remarks = (['read this one'] if i in ends else []) + (['may have been cut'] if i in suspects else [])
         if is_load(outcome.step) and m.radius == 0:
             remarks.append('taken as exact')
         yield (f'<tr{" class=" + chr(34) + "end" + chr(34) if i in ends else ""}><td>{i}</td>'
-               f'<td>{escape(words)}</td><td>{m.degree}</td><td>{m.radius:,}</td>'
+               f'<td>{escape(words)}</td>'
+               + (f'<td>{argument(m.interval.lower)}&#160;to&#160;{argument(m.interval.upper)}</td>' if own else '')
+               + f'<td>{m.degree}</td><td>{m.radius:,}</td>'
                f'<td>{escape(in_micrometres(m.radius)[:-3])}</td><td>{escape(", ".join(remarks))}</td></tr>')
     yield '</tbody></table></div>'
     yield paragraph('A step that is not a length (a square, a quotient, a scaled normal) has its radius in thousandths of '
@@ -110,7 +115,7 @@ def figures(checked, ends, options):
         yield (f'<figure id="result-{i}"><figcaption><strong>{escape(told)}</strong></figcaption>'
                '<div class="pair">'
                + svg.curve(m, f'Result {i} along the stretch, with its band', 'mm' if i in ends else 'value')
-               + svg.strip(m.radius, options.limit_um if i in ends else None,
+               + svg.strip(m, options.limit_um if i in ends else None,
                            f'The band of result {i} alone, in micrometres') + '</div></figure>')
 
 
@@ -122,7 +127,10 @@ def page(name, job, checked, options):
     if checked.accepted:
         ends = checked.last_results()
         body += ['<h2>Results</h2>', *table(checked, ends)]
-        if len(ends) == 2:
+        if len(ends) == 2 and checked.results[ends[0]].interval != checked.results[ends[1]].interval:
+            body.append(paragraph(f'Results {ends[0]} and {ends[1]} are on different intervals, so they are not drawn '
+                                  'against each other.'))
+        elif len(ends) == 2:
             body += ['<h2>The path</h2>', '<figure class="path"><figcaption>'
                      f'Results {ends[0]} and {ends[1]} against each other, in mm; its band is far thinner than the '
                      'line unless the radius is large.</figcaption>'

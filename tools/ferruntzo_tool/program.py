@@ -7,7 +7,7 @@ import sys
 from collections import namedtuple
 from pathlib import Path
 
-from .tables import PROGRAM_BYTES
+from .tables import MAX_JOB_BYTES, PROGRAM_BYTES
 
 TIME_LIMIT = 60                 # seconds for one job; a job takes about a millisecond
 
@@ -56,7 +56,7 @@ def read_job(name):
         raise NotChecked(f'{name}: cannot be read: {error.strerror or error}') from error
     if len(job) > PROGRAM_BYTES:
         raise NotChecked(f'{name}: more than the {PROGRAM_BYTES:,} bytes that the program reads; a job has at '
-                         'most 8,480')
+                         f'most {MAX_JOB_BYTES:,}')
     return job
 
 

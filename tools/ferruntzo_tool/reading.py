@@ -5,8 +5,8 @@ from collections import namedtuple
 
 from . import arithmetic as ar
 from .arithmetic import Model, Refused
-from .tables import (BY_BYTE, COEFFICIENTS, DEFAULT_KEPT, EDITIONS, MAX_DEGREE, MAX_RESULTS,
-                     WIDTH, width)
+from .tables import (BY_BYTE, COEFFICIENTS, DEFAULT_KEPT, EDITIONS, Interval, MAX_DEGREE, MAX_RESULTS,
+                     STANDARD, WIDTH, width)
 
 # A command as it stands in the job: its number, offset, row of the table and operands by name.
 Step = namedtuple('Step', 'number offset command values offsets')
@@ -28,12 +28,16 @@ def operand(kind, data):
         return read_block(data)
     if kind == 'radius':
         return struct.unpack('<I', data)[0]
+    if kind == 'interval':
+        return Interval(*struct.unpack('<2i', data))
     return data[0]
 
 
 def write_operand(kind, value):
     if kind == 'block':
         return write_block(value)
+    if kind == 'interval':
+        return struct.pack('<2i', *value)
     return struct.pack('<I', value) if kind == 'radius' else bytes([value])
 
 
@@ -90,7 +94,7 @@ def _byte_fault(job, offset, number):
 
 
 def _value_fault(step, count):
-    """Refusals 9, 12, 13 and 2 of the operands."""
+    """Refusals 9, 12, 13, 2 and 18 of the operands."""
     values, offsets = step.values, step.offsets
     if step.command.name == 'edition' and values['edition'] not in EDITIONS:
         return 9, f'edition {values["edition"]} at byte {offsets["edition"]} is not known'
@@ -107,29 +111,36 @@ def _value_fault(step, count):
     for name, m in blocks_of(step):
         if ar.fault(m):
             return 2, f'block {name} at byte {offsets[name]}: {ar.fault(m)}'
+        if ar.ends_fault(m.interval):
+            return 18, f'the interval at byte {offsets["interval"]}: {ar.ends_fault(m.interval)}'
     return 0, ''
 
 
+def loaded(values):
+    """The model of a load: its block with its radius and its interval."""
+    return values['model']._replace(radius=values['radius'], interval=values.get('interval', STANDARD))
+
+
 def blocks_of(step):
-    """The blocks of a command with their names; a load's radius is that of its model."""
-    radius = step.values.get('radius', 0)
-    return [(name, step.values[name]._replace(radius=radius))
+    """The blocks of a command with their names; that of a load as its model."""
+    return [(name, loaded(step.values) if name == 'model' else step.values[name])
             for kind, name in step.command.operands if kind == 'block']
 
 
-def _tested(values, numbers):
-    return values['h']._replace(radius=numbers['radius']), numbers
+def _tested(values, results, numbers):
+    return ar.tested(results[values['f']], values['h'], numbers), numbers
 
 
 # The model and the numbers of a test that a command gives for its operands v and the results r.
 RULES = {
-    'load': lambda v, r: (v['model']._replace(radius=v['radius']), {}),
+    'load': lambda v, r: (loaded(v), {}),
+    'load_on': lambda v, r: (loaded(v), {}),
     'add': lambda v, r: (ar.add(r[v['a']], r[v['b']]), {}),
     'subtract': lambda v, r: (ar.add(r[v['a']], r[v['b']], -1), {}),
     'multiply': lambda v, r: (ar.multiply(r[v['a']], r[v['b']], v['kept']), {}),
-    'quotient': lambda v, r: _tested(v, ar.quotient(r[v['f']], r[v['g']], v['h'], v['w'])),
-    'root': lambda v, r: _tested(v, ar.root(r[v['f']], v['h'], v['w'])),
-    'tight_root': lambda v, r: _tested(v, ar.tight_root(r[v['f']], v['h'], v['w'])),
+    'quotient': lambda v, r: _tested(v, r, ar.quotient(r[v['f']], r[v['g']], v['h'], v['w'])),
+    'root': lambda v, r: _tested(v, r, ar.root(r[v['f']], v['h'], v['w'])),
+    'tight_root': lambda v, r: _tested(v, r, ar.tight_root(r[v['f']], v['h'], v['w'])),
 }
 
 

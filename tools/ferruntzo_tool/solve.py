@@ -10,19 +10,20 @@ from collections import namedtuple
 from math import isqrt
 from pathlib import Path
 
-from . import candidates, exact, program
-from .arithmetic import Refused, add, model, multiply, near, up, weight
+from . import candidates, exact, program, saving
+from .arithmetic import Refused, add, model, multiply, near, tested, up, weight
 from .curve import BadCurve, read_curve
 from .exact import Series
 from .program import NotChecked
 from .reading import write_step
-from .tables import BY_NAME, LIMIT, MAX_DEGREE, S, in_micrometres
+from .tables import BY_NAME, LIMIT, MAX_DEGREE, S, STANDARD, Interval, argument, in_micrometres
 
 SHORTEST = 1 << 8               # parameters; a stretch is not cut below twice that
+MOST_CUTS = 12                  # of an own interval into halves, so that a limit out of reach ends as well
 PRECISION = 1 << 120            # of lengths in verify
 ROOTS = tuple(candidates.ROOT_ENDS)     # the commands for a root
 
-Stretch = namedtuple('Stretch', 'low high parts')       # parts: (low, high, x, y) in their own -1..1
+Stretch = namedtuple('Stretch', 'low high parts interval')      # parts: (low, high, x, y) in their own -1..1
 Solved = namedtuple('Solved', 'stretch job results loads scale bur sign')
 
 
@@ -42,7 +43,7 @@ def cut_out(run, low, high):
             a, b, d = end - start, start + end - piece.low - piece.high, piece.high - piece.low
             parts.append((start, end, exact.restricted(piece.x, a, b, d),
                           exact.restricted(piece.y, a, b, d)))
-    return Stretch(low, high, parts)
+    return Stretch(low, high, parts, Interval(low, high) if run[0].own else STANDARD)
 
 
 def halves(run, low, high):
@@ -50,7 +51,8 @@ def halves(run, low, high):
     joints = [piece.low for piece in run if low < piece.low < high]
     if joints:
         return min(joints, key=lambda at: abs(2 * at - low - high))
-    return (low + high) // 2 if high - low >= 2 * SHORTEST else None
+    shortest = max(run[-1].high - run[0].low >> MOST_CUTS, 1) if run[0].own else SHORTEST
+    return (low + high) // 2 if high - low >= 2 * shortest else None
 
 
 def derived(stretch, axis, scale, sign):
@@ -92,7 +94,7 @@ def covering(stretch, parts, degree):
         radius = max(radius, exact.distance(curve, own))
     if radius > LIMIT or weight(row) > LIMIT:
         raise Refused(2, 'the curve does not fit a load')
-    return model(row, radius)
+    return model(row, radius, interval=stretch.interval)
 
 
 def plain(stretch, axis):
@@ -128,7 +130,8 @@ class Job:
         return len(self.results) - 1
 
     def load(self, m):
-        return self._made('load', {'model': m, 'radius': m.radius}, m)
+        name = 'load' if m.interval == STANDARD else 'load_on'
+        return self._made(name, {'model': m, 'radius': m.radius, 'interval': m.interval}, m)
 
     def add(self, a, b, name='add'):
         sign = 1 if name == 'add' else -1
@@ -143,12 +146,12 @@ class Job:
 
     def quotient(self, f, g):
         h, w, numbers = candidates.quotient(self.results[f], self.results[g])
-        return self._made('quotient', {'f': f, 'g': g, 'h': h, 'w': w}, h._replace(radius=numbers['radius']))
+        return self._made('quotient', {'f': f, 'g': g, 'h': h, 'w': w}, tested(self.results[f], h, numbers))
 
     def root(self, f):
         h, w, numbers = candidates.root(self.results[f], self.roots)
         self.used.append(numbers['command'])
-        return self._made(numbers['command'], {'f': f, 'h': h, 'w': w}, h._replace(radius=numbers['radius']))
+        return self._made(numbers['command'], {'f': f, 'h': h, 'w': w}, tested(self.results[f], h, numbers))
 
     def ended(self):
         return bytes(self.bytes) + write_step(BY_NAME['end'], {})
@@ -159,12 +162,12 @@ class Job:
             f'accepted {len(self.results)}\n'
 
 
-def bur_load(bur):
+def bur_load(bur, interval=STANDARD):
     """The bur's radius in mm as a constant; its radius covers the rounding."""
     units = bur * S
     whole = near(units.numerator, units.denominator)
     missed = abs(units - whole)
-    return model([whole], up(missed.numerator, missed.denominator))
+    return model([whole], up(missed.numerator, missed.denominator), interval=interval)
 
 
 def add_loads(job, bur, loads, kept=MAX_DEGREE):
@@ -191,7 +194,7 @@ def add_stretch(job, bur, stretch, side, degree=None, scale=None, kept=MAX_DEGRE
 
 def solve_stretch(stretch, bur, side, degree=None, scale=None, kept=MAX_DEGREE, roots=ROOTS):
     job = Job(roots)
-    at = job.load(bur_load(bur))
+    at = job.load(bur_load(bur, stretch.interval))
     _, loads, scale = add_stretch(job, at, stretch, side, degree, scale, kept)
     return Solved(stretch, job, job.results, loads, scale, bur, 1 if side == 'left' else -1)
 
@@ -270,6 +273,9 @@ def solve(curve, bur, side, options):
             yield from refine(run, run[0].low, run[-1].high, make, options.limit_um)
         else:
             ends = uniform(run, options.stretches)
+            if len(set(ends)) < len(ends):
+                raise Unsolvable(f'the interval from {ends[0]} to {ends[-1]} has fewer units than {options.stretches} '
+                                 'stretches; are its ends in units?')
             for low, high in zip(ends, ends[1:]):
                 yield from refine(run, low, high, make, None)
 
@@ -283,6 +289,8 @@ def row(i, solved, error):
     radii = f'{loads[0].radius}, {loads[1].radius}, {max(m.radius for m in loads[2:])}'
     root, = (f'0x{BY_NAME[name].byte:02x}' for name in solved.job.used)
     told = '' if error is None else f'   largest error against the margin {error:.3f} units'
+    if solved.stretch.interval != STANDARD:
+        told += f'   x from {argument(solved.stretch.low)} to {argument(solved.stretch.high)}'
     return (f'{i:>7}  {degrees:<12} {solved.scale:>5}  {radii:<24}  {root} {worst:>15,} '
             f'{in_micrometres(worst)[:-3]:>12}' + told)
 
@@ -310,13 +318,14 @@ def main(options):
                            '--bur-mm')
         checker = program.find(options.jobcheck)
         print(HEAD)
-        worst, jobs = 0, []
+        worst, jobs, own = 0, [], []
         for solved in solve(curve, bur, options.side or curve.side or 'left', options):
             job, name = solved.job.ended(), f'{options.curve}: stretch {len(jobs)}'
             answer = program.run(checker, job, name)
             if answer.text != solved.job.text():
                 raise NotChecked(f'{name}: jobcheck does not print what was solved for; is it the '
-                                 'program of this version? (--only-0x21 makes jobs for those older than 3.2.0)')
+                                 'program of this version? (--only-0x21 makes jobs for those older than 3.2.0; an own '
+                                 'interval needs 4.0.0)')
             error = verified(solved, options.verify) if options.verify else None
             if error is not None and error > final(solved):
                 raise NotChecked(f'{name}: the error against the margin, {error:.3f} units, is above '
@@ -324,6 +333,9 @@ def main(options):
             print(row(len(jobs), solved, error), flush=True)
             worst = max(worst, final(solved))
             jobs.append(job)
+            if solved.stretch.interval != STANDARD:
+                own.append(solved)
+        told = list(saving.lines(own, checker, options.curve)) if own else []
         # Only now: a curve that cannot be solved to its end leaves the folder as it was.
         if options.output:
             write_jobs(Path(options.output), Path(options.curve).stem or 'job', jobs)
@@ -335,6 +347,8 @@ def main(options):
         return 2
     print(f'{len(jobs)} stretch{"es" if len(jobs) > 1 else ""}, accepted by jobcheck; largest radius {worst:,} '
           f'unit{"" if worst == 1 else "s"} = {in_micrometres(worst)}, against the margin itself.')
+    for line in told:
+        print(line)
     if options.limit_um is not None and worst * 1000 > options.limit_um * S:
         print(f'BEYOND the limit of {options.limit_text} µm: take more stretches or a higher degree.')
         return 1

@@ -4,11 +4,12 @@ from html import escape
 from math import ceil, cos, floor, hypot, log10, pi
 
 from .arithmetic import value
-from .tables import S
+from .tables import S, argument
 
 POINTS = 121
 WIDTH, HEIGHT = 560, 210
 LEFT, RIGHT, TOP, BOTTOM = 90, 12, 12, 30
+LETTER = 7                      # width of a digit with the room that it needs
 
 
 def ticks(low, high, wanted=6):
@@ -19,6 +20,12 @@ def ticks(low, high, wanted=6):
     step, digits = 10 ** power * factor, max(-power - (factor == 10), 0)
     for i in range(ceil(low / step - 1e-9), floor(high / step + 1e-9) + 1):
         yield i * step, f'{i * step + 0.0:.{digits}f}'
+
+
+def within(x, text):
+    """The place nearest to x for the middle of a text that keeps within the drawing."""
+    half = LETTER * len(text) / 2
+    return min(max(x, half), WIDTH - half)
 
 
 class Frame:
@@ -47,13 +54,22 @@ class Frame:
             y = self.y(v)
             yield f'<line class="grid" x1="{LEFT}" x2="{right}" y1="{y:.1f}" y2="{y:.1f}"/>'
             yield f'<text class="left" x="{LEFT - 6}" y="{y + 4:.1f}">{text}</text>'
-        for v, text in ticks(self.x_low, self.x_high):
-            x = self.x(v)
+        for x, at, text in self.below():
             yield f'<line class="grid" x1="{x:.1f}" x2="{x:.1f}" y1="{TOP}" y2="{floor_y}"/>'
-            yield f'<text class="below" x="{x:.1f}" y="{floor_y + 14}">{text}</text>'
+            yield f'<text class="below" x="{at:.1f}" y="{floor_y + 14}">{text}</text>'
         yield f'<text class="below" x="{(LEFT + right) / 2:.0f}" y="{self.height - 3}">{escape(x_name)}</text>'
         yield (f'<text class="below" transform="translate(12 {(TOP + floor_y) / 2:.0f}) rotate(-90)">'
                f'{escape(y_name)}</text>')
+
+    def below(self):
+        """Places of round numbers, with their text and its own place: as many as stand beside one another."""
+        found = []
+        for wanted in (6, 4, 3, 2, 1):
+            found = [(self.x(v), within(self.x(v), text), text) for v, text in ticks(self.x_low, self.x_high, wanted)]
+            longest = max((len(text) for _, _, text in found), default=0)
+            if all(right[1] - left[1] >= LETTER * longest for left, right in zip(found, found[1:])):
+                break
+        return found
 
     def drawing(self, title, parts):
         return (f'<svg viewBox="0 0 {WIDTH} {self.height}" role="img" '
@@ -65,16 +81,22 @@ def places():
     return [-cos(pi * i / (POINTS - 1)) for i in range(POINTS)]
 
 
+def ends(m):
+    """x at both ends of a result's interval."""
+    return m.interval.lower / S, m.interval.upper / S
+
+
 def samples(m):
-    row = m.coefficients[:m.degree + 1]
-    return [(x, value(row, x) / S) for x in places()]
+    """Points of a result over x of its interval; T_k is taken at y from -1 to 1."""
+    row, (low, high) = m.coefficients[:m.degree + 1], ends(m)
+    return [((low + high + y * (high - low)) / 2, value(row, y) / S) for y in places()]
 
 
 def curve(m, title, unit):
     """The curve of a result with the band of its radius; the band may be thinner than the line."""
     pairs, e = samples(m), m.radius / S
     values = [v for _, v in pairs]
-    frame = Frame((-1, 1), (min(values) - e, max(values) + e))
+    frame = Frame(ends(m), (min(values) - e, max(values) + e))
     band = [(x, v + e) for x, v in pairs] + [(x, v - e) for x, v in reversed(pairs)]
     return frame.drawing(title, [
         *frame.axes('place x on the stretch', unit),
@@ -82,11 +104,11 @@ def curve(m, title, unit):
         f'<polyline class="curve" points="{frame.points(pairs)}"/>'])
 
 
-def strip(radius, limit_um, title):
+def strip(m, limit_um, title):
     """The band alone, in micrometres about the curve, with the limit where there is one."""
-    e = radius * 1000 / S
+    e = m.radius * 1000 / S
     reach = max(e, float(limit_um) if limit_um else 0) or 1e-3
-    frame = Frame((-1, 1), (-reach, reach), 110)
+    frame = Frame(ends(m), (-reach, reach), 110)
     top, bottom = frame.y(e), frame.y(-e)
     parts = [*frame.axes('place x on the stretch', 'µm'),
              f'<rect class="band" x="{LEFT}" width="{WIDTH - LEFT - RIGHT}" y="{top:.2f}" '
@@ -100,7 +122,7 @@ def strip(radius, limit_um, title):
 
 
 def path(first, second, title):
-    """Two results against each other, with equal scales: the path in the plane."""
+    """Two results on one interval against each other, with equal scales: the path in the plane."""
     pairs = [(u, v) for (_, u), (_, v) in zip(samples(first), samples(second))]
     us, vs = [u for u, _ in pairs], [v for _, v in pairs]
     height = 360
@@ -111,10 +133,12 @@ def path(first, second, title):
     frame = Frame((middle_u - half_u, middle_u + half_u), (middle_v - half_v, middle_v + half_v), height)
     frame.y_low, frame.y_high = middle_v - half_v, middle_v + half_v
     parts = [*frame.axes('mm', 'mm'), f'<polyline class="curve" points="{frame.points(pairs)}"/>']
-    for name, end, inner in (('x = -1', pairs[0], pairs[3]), ('x = 1', pairs[-1], pairs[-4])):
+    for at, end, inner in ((first.interval.lower, pairs[0], pairs[3]), (first.interval.upper, pairs[-1], pairs[-4])):
         x, y = frame.x(end[0]), frame.y(end[1])
         dx, dy = x - frame.x(inner[0]), y - frame.y(inner[1])
-        far = 22 / (hypot(dx, dy) or 1)         # the name stands beyond the end, away from the curve
+        name, length = f'x = {argument(at)}', hypot(dx, dy) or 1
+        # The name stands beyond the end, away from the curve; a long one further off where that is sideways.
+        far = (22 + LETTER / 2 * max(len(name) - 6, 0) * abs(dx) / length) / length
         parts.append(f'<circle class="dot" cx="{x:.1f}" cy="{y:.1f}" r="3"/>'
-                     f'<text class="word below" x="{x + far * dx:.1f}" y="{y + far * dy + 4:.1f}">{name}</text>')
+                     f'<text class="word below" x="{within(x + far * dx, name):.1f}" y="{y + far * dy + 4:.1f}">{name}</text>')
     return frame.drawing(title, parts)

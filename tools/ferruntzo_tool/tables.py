@@ -5,16 +5,21 @@ from collections import namedtuple
 from fractions import Fraction
 
 S = 1 << 20                     # one unit is 1/S mm
-LIMIT = 1 << 28                 # of weight, radius and N, in units
+LIMIT = 1 << 28                 # of weight, radius, N and the size of an end, in units
 MAX_DEGREE = 32
 COEFFICIENTS = 33
 PLACES = 2 * MAX_DEGREE + 1     # of a list C
 MAX_RESULTS = 32
+MAX_JOB_BYTES = 8488            # no longer job is ever accepted
 PROGRAM_BYTES = 65536           # the program reads no longer job
 DEFAULT_KEPT = 0xFF
 
+# The ends of an interval, in units.
+Interval = namedtuple('Interval', 'lower upper')
+STANDARD = Interval(-S, S)      # of a load by 0x10
+
 # What an operand is, and its width in bytes.
-WIDTH = {'edition': 1, 'result': 1, 'kept': 1, 'block': 133, 'radius': 4}
+WIDTH = {'edition': 1, 'result': 1, 'kept': 1, 'block': 133, 'radius': 4, 'interval': 8}
 
 # byte, name, operands in the order of the job (kind, what it is called), whether a result arises, and
 # its words. A new command is a row here and its rule in reading.RULES. A block called model makes a
@@ -29,6 +34,8 @@ COMMANDS = [
     Command(0x12, 'subtract', (('result', 'a'), ('result', 'b')), True, 'result {a} - result {b}'),
     Command(0x13, 'multiply', (('result', 'a'), ('result', 'b'), ('kept', 'kept')), True,
             'result {a} × result {b}, kept degree {kept}'),
+    Command(0x14, 'load_on', (('block', 'model'), ('radius', 'radius'), ('interval', 'interval')), True,
+            'load on {interval}'),
     Command(0x20, 'quotient', (('result', 'f'), ('result', 'g'), ('block', 'h'), ('block', 'w')), True,
             'quotient: result {f} over result {g}'),
     Command(0x21, 'root', (('result', 'f'), ('block', 'h'), ('block', 'w')), True,
@@ -73,8 +80,8 @@ REFUSALS = [
             'check the degree byte, zero the coefficients beyond it, rescale so that the weight fits'),
     Refusal(3, 'LARGE_RESULT', 'the weight or the radius of a result is above 2^28',
             'the values left the range up to 256 mm: rescale, or take a shorter stretch'),
-    Refusal(4, 'POINT_OUTSIDE', 'a point of an evaluation is outside -S..S',
-            'evaluate from -S to S; a job never causes it'),
+    Refusal(4, 'POINT_OUTSIDE', "a point of an evaluation is outside its model's interval",
+            'evaluate from the lower end to the upper; a job never causes it'),
     Refusal(5, 'NOT_CONTRACTING', 'the helper w is too far from the inverse (m >= S)',
             'bring w nearer to 1/g, or to 1/(2h) for a root: raise its degree; if g or h comes '
             'near zero, take a shorter stretch'),
@@ -108,6 +115,12 @@ REFUSALS = [
             'bring h nearer to the root and w nearer to 1/(2h); make the radius of f smaller; keep f, with its '
             'radius, away from zero: take a shorter stretch. Or take the root test (0x21) where it accepts the same '
             'candidates: the lines about this command in `ferruntzo explain` say so'),
+    Refusal(18, 'BAD_ENDS', 'the ends of an interval are wrong: the lower is not below the upper, or one is outside '
+            '-2^28..2^28',
+            'write the lower end, then the upper, each signed, in 4 bytes and in units (a number of seconds or '
+            'millimetres times 2^20)'),
+    Refusal(19, 'DIFFERENT_INTERVALS', 'the two operands of a command are on different intervals',
+            'load all that is combined by 0x14 with the same two ends, constants too; a load by 0x10 is on -S..S'),
 ]
 REFUSAL = {refusal.number: refusal for refusal in REFUSALS}
 
@@ -121,6 +134,16 @@ def decimal(text):
     if not DECIMAL.fullmatch(text):
         raise ValueError(text)
     return Fraction(text)
+
+
+def interval_text(interval):
+    """An interval in words: its ends in units, and x itself."""
+    return f'{interval.lower:,} to {interval.upper:,} (x from {argument(interval.lower)} to {argument(interval.upper)})'
+
+
+def argument(units):
+    """The x of a place on an interval; ten figures tell neighbours apart."""
+    return f'{units / S:.10g}'
 
 
 def in_micrometres(units):

@@ -5,6 +5,8 @@ A command stands on a line of its own, its blocks on the lines below it:
     load radius 0               # result 0
       model degree 2: 238026804 0 119013376
     multiply 0 0 kept 32        # result 1; `kept open` is the byte 0xff
+    load_on radius 0 interval 0 2097152     # result 2; lower end, upper end
+      model degree 0: 4194304
     bytes 0d 0a                 # bytes that are no command
 
 Coefficients that are not written are zero. # begins a remark. Nothing is judged: a bad job has a
@@ -16,7 +18,7 @@ from pathlib import Path
 from .arithmetic import Model
 from .program import NotChecked, read_file
 from .reading import split, write_operand
-from .tables import BY_NAME, COEFFICIENTS, DEFAULT_KEPT
+from .tables import BY_NAME, COEFFICIENTS, DEFAULT_KEPT, Interval
 
 HEAD = '# ferruntzo job text 1'
 PER_LINE = 8                    # coefficients
@@ -41,6 +43,8 @@ def coefficient_lines(m):
 def inline(kind, value):
     if kind == 'kept':
         return 'kept open' if value == DEFAULT_KEPT else f'kept {value}'
+    if kind == 'interval':
+        return f'interval {value.lower} {value.upper}'
     return f'radius {value}' if kind == 'radius' else str(value)
 
 
@@ -56,7 +60,7 @@ def listing(job):
         if step.command.makes:
             told += f', result {result}'
             result += 1
-        yield f'{" ".join(words):<24}# {told}'
+        yield f'{" ".join(words):<23} # {told}'
         for kind, name in step.command.operands:
             if kind == 'block':
                 first, *rest = coefficient_lines(step.values[name])
@@ -114,16 +118,20 @@ class Assembler:
         for kind, name in command.operands:
             if kind == 'block':
                 continue
-            if kind in ('kept', 'radius'):
+            if kind in ('kept', 'radius', 'interval'):
                 if not rest or rest.pop(0) != kind:
-                    self.fail(f'"{kind}" and a number are missing behind {command.name}')
-            if not rest:
+                    told = 'its two ends' if kind == 'interval' else 'a number'
+                    self.fail(f'"{kind}" and {told} are missing behind {command.name}')
+            if len(rest) < 1 + (kind == 'interval'):
                 self.fail(f'{command.name} lacks its operand {name}')
             word = rest.pop(0)
             if kind == 'kept' and word == 'open':
                 self.values[name] = DEFAULT_KEPT
             elif kind == 'radius':
                 self.values[name] = self.number(word, 0, (1 << 32) - 1, 'radius')
+            elif kind == 'interval':
+                self.values[name] = Interval(*(self.number(end, -1 << 31, (1 << 31) - 1, 'end of an interval')
+                                               for end in (word, rest.pop(0))))
             else:
                 self.values[name] = self.number(word, 0, 255, name if kind != 'result' else 'result')
         if rest:

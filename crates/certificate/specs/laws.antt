@@ -25,3 +25,5 @@ pub mod TightTheorem
 pub mod Examples
 pub mod TightExamples
 pub mod GroupExamples
+pub mod IntervalExamples
+pub mod FormerTests

@@ -5,10 +5,10 @@ ghost use Prim.Native.Nat.{suc, _+_, _*_, _-_, _≤_, _<_, _^_};
 ghost use lib.ListN.{take};
 ghost use Rattle.integer.specs.definitions.Rounding.{upℕ};
 ghost use Rattle.chebyshev.specs.definitions.Coefficients.{weight as weightOf};
-ghost use Rattle.model.specs.definitions.Models.{scale, maxDegree, maxWeight, maxRadius, good, candidateModel};
+ghost use Rattle.model.specs.definitions.Models.{scale, maxDegree, maxWeight, maxRadius, good};
 ghost use Rattle.certificate.specs.definitions.Quotient.{quotientContraction, quotientResidual};
 ghost use Rattle.certificate.specs.definitions.Root.{rootContraction, rootResidual};
-ghost use Rattle.certificate.specs.definitions.InnerContracts.{Ready};
+ghost use Rattle.certificate.specs.definitions.InnerContracts.{Ready, standardCandidate};
 use crate::residual::residual;
 use integer::rounding::up_unsigned;
 use model::types::COEFFICIENTS;
@@ -36,8 +36,8 @@ fn terms(coefficients: &[i32; COEFFICIENTS], degree: u32) -> &[i32]
 
 // m of the quotient; `weight` is M.
 pub(crate) fn quotient_contraction(part: &mut [i64], g: Model, w: Candidate, weight: u64) -> u64
-    requires { ⌜ Ready (now part) (candidateModel w) g × (weight ≡ weightOf (w .coefficients)) ⌝ }
-    ensures { λ r. ⌜ r ≡ quotientContraction g (candidateModel w) ⌝ }
+    requires { ⌜ Ready (now part) (standardCandidate w) g × (weight ≡ weightOf (w .coefficients)) ⌝ }
+    ensures { λ r. ⌜ r ≡ quotientContraction g (standardCandidate w) ⌝ }
 {
     let constant = [ONE];
     let distance = residual(
@@ -57,9 +57,9 @@ pub(crate) fn quotient_residual(
     h: Candidate,
     weight: u64,
 ) -> u64
-    requires { ⌜ Ready (now part) g (candidateModel h) × (good f ≡ true) ⌝ }
+    requires { ⌜ Ready (now part) g (standardCandidate h) × (good f ≡ true) ⌝ }
     requires { ⌜ weight ≡ weightOf (h .coefficients) ⌝ }
-    ensures { λ r. ⌜ r ≡ quotientResidual f g (candidateModel h) ⌝ }
+    ensures { λ r. ⌜ r ≡ quotientResidual f g (standardCandidate h) ⌝ }
 {
     let distance = residual(
         part,
@@ -75,8 +75,8 @@ pub(crate) fn quotient_residual(
 
 // m of the root.
 pub(crate) fn root_contraction(part: &mut [i64], h: Candidate, w: Candidate) -> u64
-    requires { ⌜ Ready (now part) (candidateModel w) (candidateModel h) ⌝ }
-    ensures { λ r. ⌜ r ≡ rootContraction (candidateModel h) (candidateModel w) ⌝ }
+    requires { ⌜ Ready (now part) (standardCandidate w) (standardCandidate h) ⌝ }
+    ensures { λ r. ⌜ r ≡ rootContraction (standardCandidate h) (standardCandidate w) ⌝ }
 {
     let constant = [HALF];
     let distance = residual(
@@ -90,8 +90,8 @@ pub(crate) fn root_contraction(part: &mut [i64], h: Candidate, w: Candidate) -> 
 
 // N of the root.
 pub(crate) fn root_residual(part: &mut [i64], f: Model, h: Candidate) -> u64
-    requires { ⌜ Ready (now part) (candidateModel h) (candidateModel h) × (good f ≡ true) ⌝ }
-    ensures { λ r. ⌜ r ≡ rootResidual f (candidateModel h) ⌝ }
+    requires { ⌜ Ready (now part) (standardCandidate h) (standardCandidate h) × (good f ≡ true) ⌝ }
+    ensures { λ r. ⌜ r ≡ rootResidual f (standardCandidate h) ⌝ }
 {
     let distance = residual(
         part,

@@ -3,7 +3,6 @@ ghost use mathlib.Core.Path.{_≡_};
 ghost use Prim.Native.Nat.{_<_};
 ghost use lib.ListN.{length};
 ghost use Rattle.chebyshev.specs.definitions.Coefficients.{weight};
-ghost use Rattle.model.specs.definitions.Models.{candidateModel};
 ghost use Rattle.certificate.specs.definitions.Tests.{scratchSize, scratchAfter, testOf};
 ghost use Rattle.certificate.specs.definitions.Quotient.{quotientTest};
 ghost use Rattle.certificate.specs.definitions.InnerContracts.{QuotientReady};
@@ -15,9 +14,11 @@ use crate::numbers::quotient_residual;
 use crate::scratch::clear_scratch;
 use crate::types::SCRATCH_SIZE;
 use crate::types::TestOutcome;
-use model::measure::measure;
+use model::measure::fault_of;
+use model::measure::is_good;
 use model::measure::measure_candidate;
 use model::types::Candidate;
+use model::types::Interval;
 use model::types::Model;
 use model::types::Refusal;
 
@@ -31,7 +32,7 @@ fn test_good(
     w: Candidate,
     w_weight: u64,
 ) -> TestOutcome
-    requires { ⌜ QuotientReady (now part) f g (candidateModel h) (candidateModel w) ⌝ }
+    requires { ⌜ QuotientReady (now part) f g h w ⌝ }
     requires { ⌜ («h_weight» ≡ weight (h .coefficients)) × («w_weight» ≡ weight (w .coefficients)) ⌝ }
     ensures { λ (r : TestOutcome). ⌜ testOf r ≡ quotientTest scratchSize f g h w ⌝ }
 {
@@ -41,7 +42,7 @@ fn test_good(
         if n <= Model::MAX_RADIUS {
             let b = displacement(w_weight, n);
             let radius = quotient_radius(b, m);
-            TestOutcome::formed(h, radius, m, n, b)
+            TestOutcome::formed(h, f.interval, radius, m, n, b)
         } else {
             TestOutcome::refused(Refusal::LargeResidual)
         }
@@ -55,18 +56,24 @@ fn test_in(part: &mut [i64], f: Model, g: Model, h: Candidate, w: Candidate) -> 
     requires { ⌜ 0 < length (now part) ⌝ }
     ensures { λ (r : TestOutcome). ⌜ testOf r ≡ quotientTest scratchSize f g h w ⌝ }
 {
-    if measure(f).good {
-        if measure(g).good {
-            let of_h = measure_candidate(h);
-            if of_h.good {
-                let of_w = measure_candidate(w);
-                if of_w.good {
-                    return test_good(part, f, g, h, of_h.weight, w, of_w.weight);
-                }
-            }
-        }
+    if !is_good(f) {
+        return TestOutcome::refused(fault_of(f));
     }
-    TestOutcome::refused(Refusal::BadModel)
+    if !is_good(g) {
+        return TestOutcome::refused(fault_of(g));
+    }
+    let of_h = measure_candidate(h);
+    if !of_h.good {
+        return TestOutcome::refused(Refusal::BadModel);
+    }
+    let of_w = measure_candidate(w);
+    if !of_w.good {
+        return TestOutcome::refused(Refusal::BadModel);
+    }
+    if !Interval::is_same(f.interval, g.interval) {
+        return TestOutcome::refused(Refusal::DifferentIntervals);
+    }
+    test_good(part, f, g, h, of_h.weight, w, of_w.weight)
 }
 
 pub fn quotient(f: Model, g: Model, h: Candidate, w: Candidate, scratch: &mut [i64]) -> TestOutcome

@@ -6,7 +6,7 @@ ghost use Rattle.chebyshev.specs.definitions.Coefficients.{weight as weightOf, 
 ghost use Rattle.model.specs.definitions.Models.{coefficientCount, candidateModel};
 ghost use Rattle.certificate.specs.definitions.Tests.{scratchSize, scratchAfter, testOf};
 ghost use Rattle.certificate.specs.definitions.Root.{rootTest};
-ghost use Rattle.certificate.specs.definitions.InnerContracts.{RootReady, RootLast, reachOf, numbersOutcome, rootEnd};
+ghost use Rattle.certificate.specs.definitions.InnerContracts.{RootReady, RootLast, reachOf, rootReach, rootEnd};
 use crate::numbers::SCALE;
 use crate::numbers::displacement;
 use crate::numbers::root_contraction;
@@ -17,10 +17,12 @@ use crate::types::RootNumbers;
 use crate::types::RootRule;
 use crate::types::SCRATCH_SIZE;
 use crate::types::TestOutcome;
-use model::measure::measure;
+use model::measure::fault_of;
+use model::measure::is_good;
 use model::measure::measure_candidate;
 use model::types::COEFFICIENTS;
 use model::types::Candidate;
+use model::types::Interval;
 use model::types::Model;
 use model::types::Refusal;
 use radius::least_radius::least_radius;
@@ -48,8 +50,8 @@ fn numbers_of_good(
     w: Candidate,
     weight: u64,
 ) -> RootNumbers
-    requires { ⌜ RootReady (now part) f (candidateModel h) (candidateModel w) × (weight ≡ weightOf (w .coefficients)) ⌝ }
-    ensures { λ (r : RootNumbers). ⌜ reachOf r ≡ numbersOutcome scratchSize f h w ⌝ }
+    requires { ⌜ RootReady (now part) f h w × (weight ≡ weightOf (w .coefficients)) ⌝ }
+    ensures { λ (r : RootNumbers). ⌜ reachOf r ≡ rootReach scratchSize f h w ⌝ }
 {
     if total(&w.coefficients) <= 0 {
         return RootNumbers::Refused(Refusal::HelperNotPositive);
@@ -76,22 +78,24 @@ fn numbers_of_good(
 // The places through N, over a part of the scratch of any length from 1.
 fn numbers_in(part: &mut [i64], f: Model, h: Candidate, w: Candidate) -> RootNumbers
     requires { ⌜ 0 < length (now part) ⌝ }
-    ensures { λ (r : RootNumbers). ⌜ reachOf r ≡ numbersOutcome scratchSize f h w ⌝ }
+    ensures { λ (r : RootNumbers). ⌜ reachOf r ≡ rootReach scratchSize f h w ⌝ }
 {
-    if measure(f).good {
-        if measure_candidate(h).good {
-            let of_w = measure_candidate(w);
-            if of_w.good {
-                return numbers_of_good(part, f, h, w, of_w.weight);
-            }
-        }
+    if !is_good(f) {
+        return RootNumbers::Refused(fault_of(f));
     }
-    RootNumbers::Refused(Refusal::BadModel)
+    if !measure_candidate(h).good {
+        return RootNumbers::Refused(Refusal::BadModel);
+    }
+    let of_w = measure_candidate(w);
+    if !of_w.good {
+        return RootNumbers::Refused(Refusal::BadModel);
+    }
+    numbers_of_good(part, f, h, w, of_w.weight)
 }
 
 // The places through N, and b.
 pub(crate) fn root_numbers(f: Model, h: Candidate, w: Candidate, scratch: &mut [i64]) -> RootNumbers
-    ensures { λ (r : RootNumbers). ⌜ reachOf r ≡ numbersOutcome (length (now (scratch .entry))) f h w ⌝ }
+    ensures { λ (r : RootNumbers). ⌜ reachOf r ≡ rootReach (length (now (scratch .entry))) f h w ⌝ }
     ensures { λ _. ⌜ now (scratch .exit) ≡ scratchAfter (now (scratch .entry)) ⌝ }
 {
     if scratch.len() < SCRATCH_SIZE {
@@ -103,39 +107,61 @@ pub(crate) fn root_numbers(f: Model, h: Candidate, w: Candidate, scratch: &mut [
 }
 
 // Command 0x21's discriminant and radius, never too large. 8·b·M may pass 64 bits, so b is compared with (S-m)² / (8·M).
-fn by_discriminant(h: Candidate, weight: u64, m: u64, n: u64, b: u64) -> TestOutcome
-    requires { ⌜ RootLast (candidateModel h) weight m b ⌝ }
-    ensures { λ (r : TestOutcome). ⌜ testOf r ≡ rootEnd RootRule.ByDiscriminant (candidateModel h) weight m n b ⌝ }
+fn by_discriminant(
+    h: Candidate,
+    interval: Interval,
+    weight: u64,
+    m: u64,
+    n: u64,
+    b: u64,
+) -> TestOutcome
+    requires { ⌜ RootLast (candidateModel interval h) weight m b ⌝ }
+    ensures { λ (r : TestOutcome). ⌜ testOf r ≡ rootEnd RootRule.ByDiscriminant (candidateModel interval h) weight m n b ⌝ }
 {
     let gap = SCALE - m;
     if b <= gap * gap / (8 * weight) {
         let radius = root_radius(b, m);
-        TestOutcome::accepted(h, radius as u32, m, n, b)
+        TestOutcome::accepted(h, interval, radius as u32, m, n, b)
     } else {
         TestOutcome::refused(Refusal::NegativeDiscriminant)
     }
 }
 
 // Command 0x22's least radius. It is at most S, so the result is never too large.
-fn by_least_radius(h: Candidate, weight: u64, m: u64, n: u64, b: u64) -> TestOutcome
-    requires { ⌜ RootLast (candidateModel h) weight m b ⌝ }
-    ensures { λ (r : TestOutcome). ⌜ testOf r ≡ rootEnd RootRule.ByLeastRadius (candidateModel h) weight m n b ⌝ }
+fn by_least_radius(
+    h: Candidate,
+    interval: Interval,
+    weight: u64,
+    m: u64,
+    n: u64,
+    b: u64,
+) -> TestOutcome
+    requires { ⌜ RootLast (candidateModel interval h) weight m b ⌝ }
+    ensures { λ (r : TestOutcome). ⌜ testOf r ≡ rootEnd RootRule.ByLeastRadius (candidateModel interval h) weight m n b ⌝ }
 {
     let least = least_radius(weight, m, b);
     match least {
-        FoundRadius::Found(radius) => TestOutcome::accepted(h, radius as u32, m, n, b),
+        FoundRadius::Found(radius) => TestOutcome::accepted(h, interval, radius as u32, m, n, b),
         FoundRadius::Missing => TestOutcome::refused(Refusal::NoRadius),
     }
 }
 
 // The places behind N and b.
-fn root_result(rule: RootRule, h: Candidate, weight: u64, m: u64, n: u64, b: u64) -> TestOutcome
-    requires { ⌜ RootLast (candidateModel h) weight m b ⌝ }
-    ensures { λ (r : TestOutcome). ⌜ testOf r ≡ rootEnd rule (candidateModel h) weight m n b ⌝ }
+fn root_result(
+    rule: RootRule,
+    h: Candidate,
+    interval: Interval,
+    weight: u64,
+    m: u64,
+    n: u64,
+    b: u64,
+) -> TestOutcome
+    requires { ⌜ RootLast (candidateModel interval h) weight m b ⌝ }
+    ensures { λ (r : TestOutcome). ⌜ testOf r ≡ rootEnd rule (candidateModel interval h) weight m n b ⌝ }
 {
     match rule {
-        RootRule::ByDiscriminant => by_discriminant(h, weight, m, n, b),
-        RootRule::ByLeastRadius => by_least_radius(h, weight, m, n, b),
+        RootRule::ByDiscriminant => by_discriminant(h, interval, weight, m, n, b),
+        RootRule::ByLeastRadius => by_least_radius(h, interval, weight, m, n, b),
     }
 }
 
@@ -157,6 +183,6 @@ pub fn root(
             contraction: m,
             residual: n,
             displacement: b,
-        } => root_result(rule, h, weight, m, n, b),
+        } => root_result(rule, h, f.interval, weight, m, n, b),
     }
 }

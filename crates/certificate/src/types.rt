@@ -6,6 +6,7 @@ ghost use Rattle.model.specs.definitions.Outcomes.{numberOf};
 ghost use Rattle.certificate.specs.definitions.Tests.{withRadius, testOf};
 ghost use Rattle.certificate.specs.definitions.InnerContracts.{refusedTest, passedTest, formedTest};
 use model::types::Candidate;
+use model::types::Interval;
 use model::types::Model;
 use model::types::Refusal;
 use model::types::Verdict;
@@ -35,21 +36,22 @@ impl TestOutcome {
         }
     }
 
-    // A test that passes: h with its radius.
+    // A test that passes: h with its radius, on its operand's interval.
     pub(crate) fn accepted(
         h: Candidate,
+        interval: Interval,
         radius: u32,
         contraction: u64,
         residual: u64,
         displacement: u64,
     ) -> TestOutcome
         ensures { λ (r : TestOutcome).
-            ⌜ testOf r ≡ passedTest (withRadius (candidateModel h) radius) contraction residual displacement ⌝ }
+            ⌜ testOf r ≡ passedTest (withRadius (candidateModel interval h) radius) contraction residual displacement ⌝ }
     {
         let coefficients = h.coefficients;
         TestOutcome {
             verdict: Verdict::Accepted,
-            model: Model::new(h.degree, coefficients, radius),
+            model: Model::new(h.degree, coefficients, radius, interval),
             contraction,
             residual,
             displacement,
@@ -59,16 +61,25 @@ impl TestOutcome {
     // A test that passes unless its result is too large.
     pub(crate) fn formed(
         h: Candidate,
+        interval: Interval,
         radius: u64,
         contraction: u64,
         residual: u64,
         displacement: u64,
     ) -> TestOutcome
-        requires { ⌜ good (candidateModel h) ≡ true ⌝ }
-        ensures { λ (r : TestOutcome). ⌜ testOf r ≡ formedTest (candidateModel h) radius contraction residual displacement ⌝ }
+        requires { ⌜ good (candidateModel interval h) ≡ true ⌝ }
+        ensures { λ (r : TestOutcome).
+            ⌜ testOf r ≡ formedTest (candidateModel interval h) radius contraction residual displacement ⌝ }
     {
         if radius <= Model::MAX_RADIUS {
-            return TestOutcome::accepted(h, radius as u32, contraction, residual, displacement);
+            return TestOutcome::accepted(
+                h,
+                interval,
+                radius as u32,
+                contraction,
+                residual,
+                displacement,
+            );
         }
         TestOutcome::refused(Refusal::LargeResult)
     }

@@ -1,3 +1,5 @@
 pub mod ScratchLaws
 pub mod TightLaws
 pub mod Examples
+pub mod FormerAnswers
+pub mod IntervalExamples

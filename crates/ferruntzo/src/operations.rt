@@ -104,7 +104,7 @@ pub extern "C" fn ferruntzo_multiply(a: &[i32], b: &[i32], kept: u32, out: &mut 
     perform(Operation::Multiply(kept), a, b, out)
 }
 
-// The integral of a from -1.
+// The integral of a from its lower end.
 #[no_mangle]
 pub extern "C" fn ferruntzo_integrate(a: &[i32], out: &mut [i32]) -> u32
     ensures { λ r. ⌜ operationAnswer r (now (out .exit)) ≡ unaryAnswer integration (now (a .entry)) (now (out .entry)) ⌝ }

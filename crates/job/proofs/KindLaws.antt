@@ -12,7 +12,7 @@ use types.Run.{OneOf, miss}
 use Rattle.job.specs.definitions.Reading.{maxResults, badKind, badNames, badBytes, nameBytes, valueBytes, makesResult, isEnd}
 use Rattle.job.specs.definitions.Decode.{kindIn, layoutFor, makerAt, commandAt}
 use Rattle.job.specs.declared.types.Operation.{Operation}
-use Rattle.job.specs.declared.types.Operation.the-variants.{Load, Add, Subtract, Multiply, Quotient, Root}
+use Rattle.job.specs.declared.types.Operation.the-variants.{Load, Add, Subtract, Multiply, LoadOn, Quotient, Root}
 use Rattle.job.specs.declared.types.Kind.{Kind}
 use Rattle.job.specs.declared.types.Kind.the-variants.{End, Edition, Result, Unknown}
 use Rattle.job.proofs.types.Kind.{the-type}
@@ -47,6 +47,7 @@ operation-agrees Load = record { names-inside = omega arith; values-inside = ome
 operation-agrees Add = record { names-inside = omega arith; values-inside = omega arith; named = λ job at count. refl }
 operation-agrees Subtract = record { names-inside = omega arith; values-inside = omega arith; named = λ job at count. refl }
 operation-agrees Multiply = record { names-inside = omega arith; values-inside = omega arith; named = λ job at count. refl }
+operation-agrees LoadOn = record { names-inside = omega arith; values-inside = omega arith; named = λ job at count. refl }
 operation-agrees Quotient = record { names-inside = omega arith; values-inside = omega arith; named = λ job at count. refl }
 operation-agrees (Root rule) = record { names-inside = omega arith; values-inside = omega arith; named = λ job at count. refl }
 

@@ -10,7 +10,7 @@ use lib.ListN.{length}
 use Rattle.integer.specs.laws.OrderedRingLaws.{lt-le}
 use Rattle.integer.specs.definitions.Fraction.{ℚ}
 use Rattle.integer.specs.laws.FractionOrder.{ℚ-ordered}
-use Rattle.model.specs.definitions.Allowed.{Allows}
+use Rattle.model.specs.definitions.Allowed.{Allows, OnInterval}
 use Rattle.model.specs.declared.types.Model.{Model}
 use Rattle.job.specs.definitions.Operations.{Maker, quotient, root, resultAt, namesBad}
 use Rattle.job.specs.definitions.Decode.{Command, result}
@@ -41,18 +41,22 @@ module _ (job : List ℕ) (rs : List Model) (e : jobOutcome job ≡ accepted rs)
   allowed : (x v : ℚ) (i : ℕ) → i < length rs → Allows (storedResult work i) x v → Allows (resultAt rs i) x v
   allowed x v i h = subst (λ (m : Model). Allows m x v) (result-held holds i h)
 
+  -- on its stored interval, on its own
+  here : (x : ℚ) (i : ℕ) → i < length rs → OnInterval (storedResult work i .interval) x → OnInterval (resultAt rs i .interval) x
+  here x i h = subst (λ (m : Model). OnInterval (m .interval) x) (result-held holds i h)
+
   results : Results job (length rs) work
   results = record {
     commands = cs;
     read = accepted-read job rs e .1;
     made = subst⁻¹ (Made cs) (models-held holds) all-made;
     vouched = λ i h x on. record {
-      overlaps = λ box p. subst⁻¹ (λ (m : Model). Overlaps (box i) m x) (result-held holds i h) (overlaps all-made x on box p);
+      overlaps = λ box p. subst⁻¹ (λ (m : Model). Overlaps (box i) m x) (result-held holds i h) (overlaps all-made x box p (here x i h on));
       divisor = λ j k d w f v a.
-          divisor-nonzero all-made x on i j k d w f v (allowed x v k (omega (arith, both-below i j k (named i (quotient j k d w) f))) a);
+          divisor-nonzero all-made x i j k d w f (here x i h on) v (allowed x v k (omega (arith, both-below i j k (named i (quotient j k d w) f))) a);
       radicand = λ j rule d w f v a n.
           let p =
-          radicand-positive all-made x on i j rule d w f v (allowed x v j (omega (arith, leb-false i j (named i (root rule j d w) f))) a) in
+          radicand-positive all-made x i j rule d w f (here x i h on) v (allowed x v j (omega (arith, leb-false i j (named i (root rule j d w) f))) a) in
           n (lt-le ℚ-ordered p);
     };
   }

@@ -8,6 +8,7 @@ pub mod RequirementLaws
 pub mod MadeLaws
 pub mod MadeUnique
 pub mod WorkLaws
+pub mod GoodResults
 pub mod Accepted
 pub mod Hull
 pub mod Claim
@@ -24,3 +25,8 @@ pub mod ExampleJob
 pub mod ExampleValues
 pub mod ExampleBoxes
 pub mod ExampleUse
+pub mod IntervalExamples
+pub mod FormerOperations
+pub mod FormerCommands
+pub mod FormerJob
+pub mod FormerWork

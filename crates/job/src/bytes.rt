@@ -2,10 +2,10 @@
 ghost use mathlib.Core.Path.{_≡_};
 ghost use Prim.Native.Nat.{_+_, _≤_, _<_};
 ghost use lib.ListN.{length};
-ghost use Rattle.model.specs.definitions.Models.{candidateModel};
-ghost use Rattle.job.specs.definitions.Bytes.{unsignedAt, signed as signedOf, signedsAt, blockAt};
+ghost use Rattle.job.specs.definitions.Bytes.{unsignedAt, signed as signedOf, signedsAt, candidateAt, blockAt, intervalAt};
 use model::types::COEFFICIENTS;
 use model::types::Candidate;
+use model::types::Interval;
 use model::types::Model;
 
 fn widen(b: u8) -> u32
@@ -50,7 +50,7 @@ fn read_coefficients(s: &[u8], i: usize) -> [i32; COEFFICIENTS]
 // The block from i on, as a candidate.
 pub(crate) fn read_candidate(s: &[u8], i: usize) -> Candidate
     requires { ⌜ i + 133 ≤ length (now s) ⌝ }
-    ensures { λ (r : Candidate). ⌜ candidateModel r ≡ blockAt (now (s .entry)) i 0 ⌝ }
+    ensures { λ (r : Candidate). ⌜ r ≡ candidateAt (now (s .entry)) i ⌝ }
 {
     let degree = widen(s[i]);
     let coefficients = read_coefficients(s, i + 1);
@@ -60,12 +60,22 @@ pub(crate) fn read_candidate(s: &[u8], i: usize) -> Candidate
     }
 }
 
-// The block from i on, with a radius.
-pub(crate) fn read_model(s: &[u8], i: usize, radius: u32) -> Model
+// The two ends from i on.
+pub(crate) fn read_interval(s: &[u8], i: usize) -> Interval
+    requires { ⌜ i + 8 ≤ length (now s) ⌝ }
+    ensures { λ (r : Interval). ⌜ r ≡ intervalAt (now (s .entry)) i ⌝ }
+{
+    let lower = to_signed(read_unsigned(s, i));
+    let upper = to_signed(read_unsigned(s, i + 4));
+    Interval { lower, upper }
+}
+
+// The block from i on, with a radius and an interval.
+pub(crate) fn read_model(s: &[u8], i: usize, radius: u32, interval: Interval) -> Model
     requires { ⌜ i + 133 ≤ length (now s) ⌝ }
-    ensures { λ (r : Model). ⌜ r ≡ blockAt (now (s .entry)) i radius ⌝ }
+    ensures { λ (r : Model). ⌜ r ≡ blockAt (now (s .entry)) i radius interval ⌝ }
 {
     let block = read_candidate(s, i);
     let coefficients = block.coefficients;
-    Model::new(block.degree, coefficients, radius)
+    Model::new(block.degree, coefficients, radius, interval)
 }

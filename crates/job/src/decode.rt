@@ -68,7 +68,13 @@ pub(crate) fn shape_of(b: u8) -> Shape
             names: Names::Two,
             values: OperandValues::KeptDegree,
         },
-        0x14..=0x1f => UNKNOWN,
+        0x14 => Shape {
+            kind: Kind::Result(Operation::LoadOn),
+            width: 145,
+            names: Names::Nothing,
+            values: OperandValues::Any,
+        },
+        0x15..=0x1f => UNKNOWN,
         0x20 => Shape {
             kind: Kind::Result(Operation::Quotient),
             width: 268,

@@ -6,17 +6,20 @@ ghost use lib.IntN.{ℤ};
 ghost use lib.ListN.{length};
 ghost use Rattle.model.specs.definitions.Outcomes.{outcomeOf};
 ghost use Rattle.certificate.specs.definitions.Tests.{testOf};
-ghost use Rattle.job.specs.definitions.Bytes.{byteAt};
+ghost use Rattle.model.specs.definitions.Load.{loading};
+ghost use Rattle.job.specs.definitions.Bytes.{byteAt, unsignedAt, blockAt};
 ghost use Rattle.job.specs.definitions.Decode.{keptByte, makerAt};
 ghost use Rattle.job.specs.definitions.Work.{storedResult};
 ghost use Rattle.job.specs.definitions.InnerContracts.{untestedOutcome, Performs, Operable, NamesOne, NamesTwo, Clear};
 use crate::bytes::read_candidate;
+use crate::bytes::read_interval;
 use crate::bytes::read_model;
 use crate::bytes::read_unsigned;
 use crate::types::Operation;
 use crate::work::stored_result;
 use certificate::types::RootRule;
 use certificate::types::TestOutcome;
+use model::types::Interval;
 use model::types::Model;
 use model::types::ModelOutcome;
 
@@ -59,12 +62,31 @@ fn untested(o: ModelOutcome) -> TestOutcome
     }
 }
 
+// The block and the radius behind a command byte, as a model on an interval.
+fn load_block(job: &[u8], at: usize, interval: Interval) -> TestOutcome
+    requires { ⌜ at + 138 ≤ length (now job) ⌝ }
+    ensures { λ (r : TestOutcome). ⌜ testOf r
+        ≡ untestedOutcome (loading (blockAt (now (job .entry)) (at + 1) (unsignedAt (now (job .entry)) (at + 134)) interval)) ⌝ }
+{
+    let radius = read_unsigned(job, at + 134);
+    let m = read_model(job, at + 1, radius, interval);
+    untested(model::load::load(m))
+}
+
 fn load(job: &[u8], at: usize) -> TestOutcome
     requires { ⌜ at + 138 ≤ length (now job) ⌝ }
     ensures { λ (r : TestOutcome). ⌜ ((w : List ℤ) → Performs (makerAt Operation.Load (now (job .entry)) at) w (testOf r)) ⌝ }
 {
-    let m = read_model(job, at + 1, read_unsigned(job, at + 134));
-    untested(model::load::load(m))
+    let interval = Interval::standard();
+    load_block(job, at, interval)
+}
+
+fn load_on(job: &[u8], at: usize) -> TestOutcome
+    requires { ⌜ at + 146 ≤ length (now job) ⌝ }
+    ensures { λ (r : TestOutcome). ⌜ ((w : List ℤ) → Performs (makerAt Operation.LoadOn (now (job .entry)) at) w (testOf r)) ⌝ }
+{
+    let interval = read_interval(job, at + 138);
+    load_block(job, at, interval)
 }
 
 fn add(job: &[u8], at: usize, work: &[i32]) -> TestOutcome
@@ -146,6 +168,7 @@ pub(crate) fn operate(
         Operation::Add => add(job, at, work),
         Operation::Subtract => subtract(job, at, work),
         Operation::Multiply => multiply(job, at, work),
+        Operation::LoadOn => load_on(job, at),
         Operation::Quotient => quotient(job, at, work, scratch),
         Operation::Root(rule) => root(rule, job, at, work, scratch),
     }

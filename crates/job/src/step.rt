@@ -1,4 +1,4 @@
-// One command: its reading, its operation, and its result's 35 numbers of the work area.
+// One command: its reading, its operation, and its result's 37 numbers of the work area.
 ghost use mathlib.Core.Path.{_≡_};
 ghost use Rattle.certificate.specs.definitions.Tests.{testOf};
 ghost use Rattle.job.specs.definitions.Decode.{commandAt};

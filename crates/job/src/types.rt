@@ -8,6 +8,7 @@ pub enum Operation {
     Add,
     Subtract,
     Multiply,
+    LoadOn,
     Quotient,
     Root(RootRule),
 }

@@ -1,4 +1,4 @@
-// The work area: result i in its own 35 numbers from 35 i on.
+// The work area: result i in its own 37 numbers from 37 i on.
 ghost use mathlib.Core.Path.{_≡_};
 ghost use mathlib.Core.List.{_++_};
 ghost use Prim.Native.Nat.{_≤_, _<_};
@@ -12,7 +12,7 @@ use model::area::read;
 use model::area::write;
 use model::types::Model;
 
-pub const WORK_SIZE: usize = 1120;
+pub const WORK_SIZE: usize = 1184;
 
 // Writes a model as result i.
 pub(crate) fn store(work: &mut [i32], i: usize, m: Model)
@@ -32,7 +32,7 @@ pub fn stored_result(work: &[i32], i: usize) -> Model
     read(&work[a..a + MODEL_SIZE])
 }
 
-// The first 1,120 numbers become zero.
+// The first 1,184 numbers become zero.
 pub(crate) fn clear_work(work: &mut [i32])
     requires { ⌜ workSize ≤ length (now work) ⌝ }
     ensures { λ _. ⌜ now (work .exit) ≡ zeros workSize ++ drop workSize (now (work .entry)) ⌝ }

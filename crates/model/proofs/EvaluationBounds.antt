@@ -1,9 +1,10 @@
 -- From V and W to the bounds of an evaluation: the numbers on the way fit 64 bits.
-use mathlib.Core.Path.{_≡_, ap}
+use mathlib.Core.Path.{_≡_, refl, ap}
 use mathlib.Core.Bool.{true}
 use Prim.Native.Nat.{ℕ, _+_, _^_, _≤_}
 use native.Mathlib.Omega.{arith}
 use lib.IntN.{ℤ, pos, natAbs, _+ℤ_, _-ℤ_, _*ℤ_}
+use lib.ListN.{length}
 use mir.Syntax.{w64}
 use mir.Val.{SFits, toZ}
 use mir.Facts.{toZ-pos}
@@ -11,34 +12,61 @@ use Rattle.integer.specs.laws.Parts.{abs-add, abs-sub, abs-mul}
 use Rattle.integer.specs.laws.Machine.{abs-fits}
 use Rattle.integer.specs.definitions.Rounding.{floor, up}
 use Rattle.integer.specs.laws.RoundingSize.{floor-size, up-size}
-use Rattle.model.specs.definitions.Models.{scale, terms, good}
+use Rattle.model.specs.definitions.InnerContracts.{Evaluable}
+use Rattle.model.specs.definitions.Models.{scale, coefficientCount, terms, good}
 use Rattle.model.specs.laws.ModelLaws.{Good, good-is}
 use Rattle.model.specs.laws.GoodLaws.{length-terms, weight-terms}
-use Rattle.model.specs.definitions.Evaluate.{pointSum, pointError, lowBound, highBound}
-use Rattle.model.specs.laws.EvaluationLaws.{sum-size, error-size}
+use Rattle.model.specs.definitions.Evaluate.{mappedPoint, mapsExactly, valueSum, errorSum, lowBound, highBound}
+use Rattle.model.specs.definitions.Intervals.{contains}
+use Rattle.model.specs.laws.MappedPoint.{mapped-inside}
+use Rattle.model.specs.laws.EvaluationLaws.{sum-size, error-size, lipschitz-size, growth-size}
 use Rattle.model.specs.declared.types.Model.{Model}
 
--- v and w are V and W of a good model at a point inside
+-- v is V of a good model at a point inside, and w is W, which is the sum of two numbers
 pub record Sums (a : Model) (p v : ℤ) (w : ℕ) : Type 0 where
   pub passed : good a ≡ true
-  pub inside : natAbs p ≤ scale
-  pub value-is : v ≡ pointSum p 0 (terms a)
-  pub error-is : w ≡ pointError 0 (terms a)
+  pub inside : contains (a .interval) p ≡ true
+  pub value-is : v ≡ valueSum a p
+  pub error-is : w ≡ errorSum a p
+
+module _ (a : Model) (passed : good a ≡ true) where
+  -- where the point is taken to
+  module _ (p q : ℤ) (inside : contains (a .interval) p ≡ true) (e : q ≡ mappedPoint (a .interval) p) where
+    pub mapped-small : natAbs q ≤ scale
+    mapped-small = omega (arith, ap natAbs e, mapped-inside (good-is a passed .ends) p inside)
+
+    pub fits-mapped : SFits w64 q
+    fits-mapped = abs-fits w64 q (omega (arith, mapped-small))
+
+    pub evaluable : length (a .coefficients) ≡ coefficientCount → Evaluable (a .degree) (a .coefficients) q
+    evaluable all = record { all = all; degree-fits = good-is a passed .degree-fits; light = good-is a passed .weight-fits; inside = mapped-small }
 
 module _ {a : Model} {p v : ℤ} {w : ℕ} (s : Sums a p v w) where
   is-good : Good a
   is-good = good-is a (s .passed)
 
+  mapped : natAbs (mappedPoint (a .interval) p) ≤ scale
+  mapped = mapped-small a (s .passed) p (mappedPoint (a .interval) p) (s .inside) refl
+
   fourfold-size : natAbs (pos 4 *ℤ v) ≤ 2 ^ 61
-  fourfold-size = omega (arith, abs-mul (pos 4) v, ap natAbs (s .value-is), sum-size p 0 32 (terms a) (s .inside) (omega (arith, length-terms a (s .passed))), weight-terms a (s .passed))
+  fourfold-size =
+      omega (arith, abs-mul (pos 4) v, ap natAbs (s .value-is), sum-size (mappedPoint (a .interval) p) 0 32 (terms a) mapped (omega (arith, length-terms a (s .passed))), weight-terms a (s .passed))
 
-  pub error-small : w ≤ 2 ^ 38
-  error-small = omega (arith, s .error-is, error-size 0 32 (terms a) (omega (arith, length-terms a (s .passed))), weight-terms a (s .passed))
+  pub error-small : w ≤ 2 ^ 50
+  error-small =
+      omega (
+        arith,
+        s .error-is,
+        error-size 0 32 (terms a) (omega (arith, length-terms a (s .passed))),
+        lipschitz-size 0 32 (terms a) (omega (arith, length-terms a (s .passed))),
+        growth-size (mapsExactly (a .interval) p) (terms a),
+        weight-terms a (s .passed),
+      )
 
-  below-size : natAbs (pos 4 *ℤ v -ℤ pos w) ≤ 2 ^ 61 + 2 ^ 38
+  below-size : natAbs (pos 4 *ℤ v -ℤ pos w) ≤ 2 ^ 61 + 2 ^ 50
   below-size = omega (arith, abs-sub (pos 4 *ℤ v) (pos w), fourfold-size, error-small)
 
-  above-size : natAbs (pos 4 *ℤ v +ℤ pos w) ≤ 2 ^ 61 + 2 ^ 38
+  above-size : natAbs (pos 4 *ℤ v +ℤ pos w) ≤ 2 ^ 61 + 2 ^ 50
   above-size = omega (arith, abs-add (pos 4 *ℤ v) (pos w), fourfold-size, error-small)
 
   pub error-word : toZ w64 w ≡ pos w

@@ -4,6 +4,7 @@ pub mod Round
 pub mod InnerContracts
 pub mod Area
 pub mod Allowed
+pub mod Intervals
 pub mod Load
 pub mod Add
 pub mod Multiply

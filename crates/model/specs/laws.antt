@@ -1,5 +1,6 @@
 pub mod OutcomeLaws
 pub mod AreaLaws
+pub mod IntervalLaws
 pub mod ModelLaws
 pub mod PlaceLaws
 pub mod ValueLaws
@@ -14,13 +15,19 @@ pub mod ResultLaws
 pub mod GoodResults
 pub mod IntegralLaws
 pub mod IntegralSound
+pub mod ExactIntegral
 pub mod StripsSound
 pub mod EvaluationError
 pub mod EvaluationLaws
+pub mod MappedPoint
 pub mod EvaluationSound
 pub mod MirrorLaws
 pub mod MirrorAllowed
 pub mod MirroredOperations
+pub mod MirroredEvaluation
 pub mod Examples
+pub mod StandardInterval
 pub mod StripExamples
 pub mod MirrorExamples
+pub mod FormerNumbers
+pub mod IntervalExamples

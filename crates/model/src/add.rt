@@ -6,8 +6,10 @@ ghost use Rattle.chebyshev.specs.definitions.Coefficients.{weight, addLists, sc
 ghost use Rattle.model.specs.definitions.InnerContracts.{Summands, combination};
 ghost use Rattle.model.specs.definitions.Outcomes.{outcomeOf};
 ghost use Rattle.model.specs.definitions.Add.{addition, subtraction};
+use crate::measure::fault_of;
 use crate::measure::is_good;
 use crate::types::COEFFICIENTS;
+use crate::types::Interval;
 use crate::types::Model;
 use crate::types::ModelOutcome;
 use crate::types::Refusal;
@@ -44,10 +46,13 @@ fn combine_models(a: Model, b: Model, sign: i32) -> ModelOutcome
     ensures { λ (r : ModelOutcome). ⌜ outcomeOf r ≡ combination sign a b ⌝ }
 {
     if !is_good(a) {
-        return ModelOutcome::refused(Refusal::BadModel);
+        return ModelOutcome::refused(fault_of(a));
     }
     if !is_good(b) {
-        return ModelOutcome::refused(Refusal::BadModel);
+        return ModelOutcome::refused(fault_of(b));
+    }
+    if !Interval::is_same(a.interval, b.interval) {
+        return ModelOutcome::refused(Refusal::DifferentIntervals);
     }
     let sum = combine(&a.coefficients, &b.coefficients, sign);
     let coefficients = sum.coefficients;
@@ -57,7 +62,7 @@ fn combine_models(a: Model, b: Model, sign: i32) -> ModelOutcome
         a.degree
     };
     let radius = a.radius as u64 + b.radius as u64;
-    ModelOutcome::formed(degree, coefficients, sum.weight, radius)
+    ModelOutcome::formed(degree, coefficients, sum.weight, radius, a.interval)
 }
 
 pub fn add(a: Model, b: Model) -> ModelOutcome

@@ -1,4 +1,5 @@
-// Areas of signed 32-bit numbers: a model is its degree, its coefficients and its radius, a candidate the first two.
+// Areas of signed 32-bit numbers: a model is its degree, its coefficients, its radius and its ends, a candidate the
+// first two.
 ghost use mathlib.Core.Path.{_≡_};
 ghost use Prim.Native.Nat.{_≤_};
 ghost use lib.ListN.{length};
@@ -6,11 +7,17 @@ ghost use Rattle.model.specs.definitions.Area.{modelSize, candidateSize,
 ghost use Rattle.model.specs.definitions.Area.{areaCandidate, words, Storable};
 use crate::types::COEFFICIENTS;
 use crate::types::Candidate;
+use crate::types::Interval;
 use crate::types::Model;
 
-pub const MODEL_SIZE: usize = 35;
+pub const MODEL_SIZE: usize = 37;
 
 pub const CANDIDATE_SIZE: usize = 34;
+
+// Where the ends stand.
+const LOWER: usize = 35;
+
+const UPPER: usize = 36;
 
 // 2^32
 const WORD: u64 = 4294967296;
@@ -51,7 +58,7 @@ pub fn read_candidate(area: &[i32]) -> Candidate
     }
 }
 
-// The model whose 35 numbers these are.
+// The model whose 37 numbers these are.
 pub fn read(area: &[i32]) -> Model
     requires { ⌜ length (now area) ≡ modelSize ⌝ }
     ensures { λ (r : Model). ⌜ r ≡ areaModel (now (area .entry)) ⌝ }
@@ -59,7 +66,10 @@ pub fn read(area: &[i32]) -> Model
     let candidate = read_candidate(&area[..CANDIDATE_SIZE]);
     let coefficients = candidate.coefficients;
     let radius = unsigned(area[CANDIDATE_SIZE]);
-    Model::new(candidate.degree, coefficients, radius)
+    let lower = area[LOWER];
+    let upper = area[UPPER];
+    let interval = Interval { lower, upper };
+    Model::new(candidate.degree, coefficients, radius, interval)
 }
 
 // The model in an area, which may be longer.
@@ -70,7 +80,7 @@ pub fn model_in(area: &[i32]) -> Model
     read(&area[..MODEL_SIZE])
 }
 
-// The 35 numbers of a model.
+// The 37 numbers of a model.
 pub fn write(area: &mut [i32], m: Model)
     requires { ⌜ (length (now area) ≡ modelSize) × Storable m ⌝ }
     ensures { λ _. ⌜ now (area .exit) ≡ words m ⌝ }
@@ -79,4 +89,9 @@ pub fn write(area: &mut [i32], m: Model)
     copy(&coefficients, &mut area[1..CANDIDATE_SIZE]);
     area[0] = m.degree as i32;
     area[CANDIDATE_SIZE] = m.radius as i32;
+    let interval = m.interval;
+    let lower = interval.lower;
+    let upper = interval.upper;
+    area[LOWER] = lower;
+    area[UPPER] = upper;
 }

@@ -1,12 +1,17 @@
 // Evaluate at p/S: a pass over the coefficients forms V and W, from which the bounds are taken.
 ghost use mathlib.Core.Path.{_≡_};
-ghost use Prim.Native.Nat.{suc};
+ghost use mathlib.Core.Bool.{true};
+ghost use Prim.Native.Nat.{suc, _≤_};
 ghost use lib.ListN.{take};
-ghost use Rattle.model.specs.definitions.InnerContracts.{Evaluable};
-ghost use Rattle.model.specs.definitions.Evaluate.{pointSum, pointError, boundsOf, evaluation};
+ghost use Rattle.model.specs.definitions.InnerContracts.{Evaluable, errorFactor, errorFrom};
+ghost use Rattle.model.specs.definitions.Intervals.{goodEnds};
+ghost use Rattle.model.specs.definitions.Models.{maxDegree};
+ghost use Rattle.model.specs.definitions.Evaluate.{pointSum, mappedPoint, mapsExactly, boundsOf, evaluation};
+use crate::measure::fault_of;
 use crate::measure::is_good;
 use crate::types::BoundsOutcome;
 use crate::types::COEFFICIENTS;
+use crate::types::Interval;
 use crate::types::Model;
 use crate::types::Refusal;
 use crate::types::Verdict;
@@ -18,17 +23,55 @@ const POINT_FACTOR: i64 = 1024;
 // 2^32 = 4·2^30, the scale of 4V and W.
 const SUM_SCALE: i64 = 4294967296;
 
-// V and W of document 01.
+// V and W of document 01, at the mapped point.
 struct PointSums {
     value: i64,
     error: u64,
 }
 
-// One pass over the coefficients up to the degree, with t_k and t_(k+1) at hand.
-fn point_sums(degree: u32, coefficients: &[i32; COEFFICIENTS], p: i64) -> PointSums
+// A point of an interval taken to one from -1 to 1, and whether that is exact.
+struct MappedPoint {
+    point: i64,
+    exact: bool,
+}
+
+fn map_point(i: Interval, p: i32) -> MappedPoint
+    requires { ⌜ goodEnds i ≡ true ⌝ }
+    ensures { λ (r : MappedPoint). ⌜ r .point ≡ mappedPoint i p ⌝ }
+    ensures { λ (r : MappedPoint). ⌜ r .exact ≡ mapsExactly i p ⌝ }
+{
+    let low = i.lower;
+    let high = i.upper;
+    let lower = low as i64;
+    let upper = high as i64;
+    let extent = upper - lower;
+    let numerator = Model::SCALE * (2 * (p as i64) - lower - upper);
+    let point = integer::rounding::near(numerator, extent);
+    let rest = integer::absolute::magnitude(point * extent - numerator);
+    MappedPoint {
+        point,
+        exact: rest == 0,
+    }
+}
+
+// What |a_k| counts for in W: k·(k-1), and 2^11·k² more where the point was rounded.
+fn error_factor(k: usize, exact: bool) -> u64
+    requires { ⌜ k ≤ maxDegree ⌝ }
+    ensures { λ r. ⌜ r ≡ errorFactor exact k ⌝ }
+{
+    let square = k * k;
+    if exact {
+        (square - k) as u64
+    } else {
+        (2049 * square - k) as u64
+    }
+}
+
+// One pass over the coefficients up to the degree, with t_k and t_(k+1) at hand; `exact` is whether nothing was rounded in p.
+fn point_sums(degree: u32, coefficients: &[i32; COEFFICIENTS], p: i64, exact: bool) -> PointSums
     requires { ⌜ Evaluable degree (now coefficients) p ⌝ }
     ensures { λ (r : PointSums). ⌜ r .value ≡ pointSum p 0 (take (suc degree) (now (coefficients .entry))) ⌝ }
-    ensures { λ (r : PointSums). ⌜ r .error ≡ pointError 0 (take (suc degree) (now (coefficients .entry))) ⌝ }
+    ensures { λ (r : PointSums). ⌜ r .error ≡ errorFrom exact 0 (take (suc degree) (now (coefficients .entry))) ⌝ }
 {
     let n = degree as usize;
     let mut value: i64 = 0;
@@ -39,7 +82,8 @@ fn point_sums(degree: u32, coefficients: &[i32; COEFFICIENTS], p: i64) -> PointS
     while k <= n {
         let c = coefficients[k] as i64;
         value += c * t;
-        error += integer::absolute::magnitude(c) * ((k * k - k) as u64);
+        let size = integer::absolute::magnitude(c);
+        error += size * error_factor(k, exact);
         let after = integer::rounding::near(2 * p * next, Model::SCALE) - t;
         t = next;
         next = after;
@@ -52,9 +96,9 @@ pub fn evaluate(a: Model, p: i32) -> BoundsOutcome
     ensures { λ (r : BoundsOutcome). ⌜ boundsOf r ≡ evaluation a p ⌝ }
 {
     if is_good(a) {
-        let point = p as i64;
-        if integer::absolute::magnitude(point) <= Model::SCALE as u64 {
-            let sums = point_sums(a.degree, &a.coefficients, point);
+        if Interval::contains(a.interval, p) {
+            let mapped = map_point(a.interval, p);
+            let sums = point_sums(a.degree, &a.coefficients, mapped.point, mapped.exact);
             let value = 4 * sums.value;
             let error = sums.error as i64;
             let radius = a.radius as i64;
@@ -74,7 +118,7 @@ pub fn evaluate(a: Model, p: i32) -> BoundsOutcome
         }
     } else {
         BoundsOutcome {
-            verdict: Verdict::Refused(Refusal::BadModel),
+            verdict: Verdict::Refused(fault_of(a)),
             low: 0,
             high: 0,
         }

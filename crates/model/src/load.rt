@@ -2,10 +2,10 @@
 ghost use mathlib.Core.Path.{_≡_};
 ghost use Rattle.model.specs.definitions.Outcomes.{outcomeOf};
 ghost use Rattle.model.specs.definitions.Load.{loading};
+use crate::measure::fault_of;
 use crate::measure::is_good;
 use crate::types::Model;
 use crate::types::ModelOutcome;
-use crate::types::Refusal;
 use crate::types::Verdict;
 
 pub fn load(m: Model) -> ModelOutcome
@@ -17,6 +17,6 @@ pub fn load(m: Model) -> ModelOutcome
             model: m,
         }
     } else {
-        ModelOutcome::refused(Refusal::BadModel)
+        ModelOutcome::refused(fault_of(m))
     }
 }

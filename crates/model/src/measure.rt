@@ -3,20 +3,23 @@ ghost use mathlib.Core.Path.{_≡_};
 ghost use Prim.Native.Nat.{_<_, _^_};
 ghost use lib.ListN.{length};
 ghost use Rattle.chebyshev.specs.definitions.Coefficients.{weight};
-ghost use Rattle.model.specs.definitions.Models.{coefficientCount, makeModel, candidateModel, good};
+ghost use Rattle.model.specs.definitions.Models.{coefficientCount, partsWithinLimits, withinLimits, good, fault};
+ghost use Rattle.model.specs.definitions.Outcomes.{numberOf};
 use crate::types::COEFFICIENTS;
 use crate::types::Candidate;
+use crate::types::Interval;
 use crate::types::Model;
+use crate::types::Refusal;
 
 pub struct Measured {
     pub good: bool,
     pub weight: u64,
 }
 
-// A model with radius 0, given by its parts.
+// The degree, the weight and what lies beyond the degree, of a model with radius 0 given by its parts.
 fn measure_parts(degree: u32, coefficients: &[i32; COEFFICIENTS]) -> Measured
     requires { ⌜ length (now coefficients) ≡ coefficientCount ⌝ }
-    ensures { λ (r : Measured). ⌜ r .good ≡ good (makeModel degree (now (coefficients .entry)) 0) ⌝ }
+    ensures { λ (r : Measured). ⌜ r .good ≡ partsWithinLimits degree (now (coefficients .entry)) 0 ⌝ }
     ensures { λ (r : Measured). ⌜ r .weight ≡ weight (now (coefficients .entry)) ⌝ }
 {
     let n = degree as usize;
@@ -45,8 +48,9 @@ fn measure_parts(degree: u32, coefficients: &[i32; COEFFICIENTS]) -> Measured
     }
 }
 
-pub fn measure(m: Model) -> Measured
-    ensures { λ (r : Measured). ⌜ (r .good ≡ good m) × (r .weight ≡ weight (m .coefficients)) ⌝ }
+// All but the ends.
+fn measure_limits(m: Model) -> Measured
+    ensures { λ (r : Measured). ⌜ (r .good ≡ withinLimits m) × (r .weight ≡ weight (m .coefficients)) ⌝ }
 {
     let parts = measure_parts(m.degree, &m.coefficients);
     if m.radius as u64 <= Model::MAX_RADIUS {
@@ -59,8 +63,24 @@ pub fn measure(m: Model) -> Measured
     }
 }
 
+pub fn measure(m: Model) -> Measured
+    ensures { λ (r : Measured). ⌜ (r .good ≡ good m) × (r .weight ≡ weight (m .coefficients)) ⌝ }
+{
+    let limits = measure_limits(m);
+    if Interval::is_good(m.interval) {
+        limits
+    } else {
+        Measured {
+            good: false,
+            weight: limits.weight,
+        }
+    }
+}
+
+// A candidate's ends are its operand's.
 pub fn measure_candidate(c: Candidate) -> Measured
-    ensures { λ (r : Measured). ⌜ (r .good ≡ good (candidateModel c)) × (r .weight ≡ weight (c .coefficients)) ⌝ }
+    ensures { λ (r : Measured).
+        ⌜ (r .good ≡ partsWithinLimits (c .degree) (c .coefficients) 0) × (r .weight ≡ weight (c .coefficients)) ⌝ }
 {
     measure_parts(c.degree, &c.coefficients)
 }
@@ -70,6 +90,20 @@ pub fn is_good(m: Model) -> bool
     ensures { λ r. ⌜ r ≡ good m ⌝ }
 {
     measure(m).good
+}
+
+// Why a model is not good: its ends count only where nothing else is wrong. Where they are good, it is not measured again.
+pub fn fault_of(m: Model) -> Refusal
+    ensures { λ (r : Refusal). ⌜ numberOf r ≡ fault m ⌝ }
+{
+    if Interval::is_good(m.interval) {
+        return Refusal::BadModel;
+    }
+    if measure_limits(m).good {
+        Refusal::BadEnds
+    } else {
+        Refusal::BadModel
+    }
 }
 
 // The sum of the absolute values of a list.

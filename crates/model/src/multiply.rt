@@ -8,10 +8,12 @@ ghost use Rattle.model.specs.definitions.InnerContracts.{Factors, Limite
 ghost use Rattle.model.specs.definitions.Models.{scale, coefficientCount, productSize};
 ghost use Rattle.model.specs.definitions.Outcomes.{outcomeOf};
 ghost use Rattle.model.specs.definitions.Multiply.{productModel, multiplication};
+use crate::measure::fault_of;
 use crate::measure::measure;
 use crate::products::add_products;
 use crate::round::Rounded;
 use crate::round::round;
+use crate::types::Interval;
 use crate::types::Model;
 use crate::types::ModelOutcome;
 use crate::types::PRODUCT_SIZE;
@@ -65,6 +67,7 @@ fn multiply_good(a: Model, b: Model, weight_a: u64, weight_b: u64, kept: u32) ->
         coefficients,
         product.weight,
         up_unsigned(loss, UNIT as u64),
+        a.interval,
     )
 }
 
@@ -73,11 +76,14 @@ pub fn multiply(a: Model, b: Model, kept: u32) -> ModelOutcome
 {
     let first = measure(a);
     if !first.good {
-        return ModelOutcome::refused(Refusal::BadModel);
+        return ModelOutcome::refused(fault_of(a));
     }
     let second = measure(b);
     if !second.good {
-        return ModelOutcome::refused(Refusal::BadModel);
+        return ModelOutcome::refused(fault_of(b));
+    }
+    if !Interval::is_same(a.interval, b.interval) {
+        return ModelOutcome::refused(Refusal::DifferentIntervals);
     }
     let degree = if kept == KEEP_ALL {
         Model::MAX_DEGREE

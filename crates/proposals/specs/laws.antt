@@ -15,3 +15,5 @@ pub mod FiniteLaws
 pub mod EndingLaws
 pub mod FiniteMaking
 pub mod Examples
+pub mod FormerProposals
+pub mod IntervalExamples

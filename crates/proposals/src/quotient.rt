@@ -6,7 +6,9 @@ use crate::reciprocal::make;
 use crate::types::QuotientOutcome;
 use crate::units::to_units;
 use crate::values::values_of;
+use model::measure::fault_of;
 use model::measure::is_good;
+use model::types::Interval;
 use model::types::Model;
 use model::types::Refusal;
 use model::types::Verdict;
@@ -17,10 +19,13 @@ pub fn make_quotient(f: Model, g: Model) -> QuotientOutcome
     ensures { λ (r : QuotientOutcome). ⌜ quotientOf r ≡ quotientProposal f g ⌝ }
 {
     if !is_good(f) {
-        return QuotientOutcome::refused(Refusal::BadModel);
+        return QuotientOutcome::refused(fault_of(f));
     }
     if !is_good(g) {
-        return QuotientOutcome::refused(Refusal::BadModel);
+        return QuotientOutcome::refused(fault_of(g));
+    }
+    if !Interval::is_same(f.interval, g.interval) {
+        return QuotientOutcome::refused(Refusal::DifferentIntervals);
     }
     let dividend = f.coefficients;
     let divisor = g.coefficients;

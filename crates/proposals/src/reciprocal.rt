@@ -10,6 +10,7 @@ use crate::types::ReciprocalOutcome;
 use crate::types::zero_round;
 use crate::units::to_units;
 use crate::values::values_of;
+use model::measure::fault_of;
 use model::measure::is_good;
 use model::types::COEFFICIENTS;
 use model::types::Model;
@@ -45,7 +46,7 @@ pub fn make_reciprocal(g: Model) -> ReciprocalOutcome
     ensures { λ (r : ReciprocalOutcome). ⌜ reciprocalOf r ≡ reciprocalProposal g ⌝ }
 {
     if !is_good(g) {
-        return ReciprocalOutcome::refused(Refusal::BadModel);
+        return ReciprocalOutcome::refused(fault_of(g));
     }
     let coefficients = g.coefficients;
     let made = make(coefficients);

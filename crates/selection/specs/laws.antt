@@ -2,3 +2,5 @@ pub mod ProposalLaws
 pub mod SelectLaws
 pub mod SelectSound
 pub mod Examples
+pub mod FormerSelection
+pub mod IntervalExamples

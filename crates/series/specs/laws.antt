@@ -3,3 +3,4 @@ pub mod ConversionLaws
 pub mod ConversionSound
 pub mod MirroredConversion
 pub mod Examples
+pub mod FormerConversion

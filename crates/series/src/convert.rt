@@ -14,6 +14,7 @@ use model::measure::measure_candidate;
 use model::round::round;
 use model::types::COEFFICIENTS;
 use model::types::Candidate;
+use model::types::Interval;
 use model::types::ModelOutcome;
 use model::types::Refusal;
 
@@ -57,11 +58,13 @@ fn convert_good(s: Series) -> ModelOutcome
     add_expanded(&mut sums, &all[..count], &table);
     let rounded = round(&sums[..count], count, UNIT);
     let coefficients = rounded.coefficients;
+    let interval = Interval::standard();
     ModelOutcome::formed(
         s.degree,
         coefficients,
         rounded.weight,
         up_unsigned(rounded.loss, UNIT as u64),
+        interval,
     )
 }
 

@@ -10,8 +10,9 @@ use Rattle.chebyshev.specs.definitions.Coefficients.{weight, subtractLists, sca
 use Rattle.chebyshev.specs.definitions.TwoSums.{placesFrom}
 use Rattle.model.specs.definitions.Models.{scale, productSize, terms}
 use Rattle.model.specs.definitions.Outcomes.{Outcome, outcome}
+use Rattle.model.specs.declared.types.Candidate.{Candidate}
 use Rattle.model.specs.declared.types.Model.{Model}
-use Rattle.certificate.specs.definitions.Tests.{scratchPlace, Certificate, zeroCertificate}
+use Rattle.certificate.specs.definitions.Tests.{scratchPlace, placed, Certificate, zeroCertificate}
 use Rattle.certificate.specs.definitions.Quotient.{quotientPlacesFor, quotientCertificateFor}
 use Rattle.certificate.specs.definitions.Root.{rootPlacesFor, rootRulePlaces, rootCertificateFor}
 use Rattle.certificate.specs.declared.types.RootRule.{RootRule}
@@ -68,9 +69,10 @@ quotientResidualIn size f g h =
     + 2 * weight (h .coefficients) * g .radius)
     (2 * scale)
 
-unfoldable pub quotientInGroups : ℕ → ℕ → ℕ → Model → Model → Model → Model → Outcome Certificate
+unfoldable pub quotientInGroups : ℕ → ℕ → ℕ → Model → Model → Candidate → Candidate → Outcome Certificate
 quotientInGroups size need len f g h w =
-    quotientFor need len (quotientContractionIn size g w) (quotientResidualIn size f g h) f g h w
+    quotientFor need len (quotientContractionIn size g (placed f w)) (quotientResidualIn size f g (placed f h)) f g (placed f h)
+    (placed f w)
 
 -- ---- the root tests
 
@@ -90,5 +92,7 @@ rootResidualIn size f h =
     (differenceInGroups size (terms h) (terms h) (scaleList ℤ-ring (pos (2 * scale)) (f .coefficients)) + 2 * scale * f .radius)
     (2 * scale)
 
-unfoldable pub rootInGroups : RootRule → ℕ → ℕ → ℕ → Model → Model → Model → Outcome Certificate
-rootInGroups rule size need len f h w = rootFor rule need len (rootContractionIn size h w) (rootResidualIn size f h) f h w
+unfoldable pub rootInGroups : RootRule → ℕ → ℕ → ℕ → Model → Candidate → Candidate → Outcome Certificate
+rootInGroups rule size need len f h w =
+    rootFor rule need len (rootContractionIn size (placed f h) (placed f w)) (rootResidualIn size f (placed f h)) f (placed f h)
+    (placed f w)

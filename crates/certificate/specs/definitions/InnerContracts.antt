@@ -7,12 +7,14 @@ use lib.IntN.{ℤ, pos}
 use lib.ListN.{length}
 use Rattle.integer.specs.definitions.Integer.{ℤ-ring}
 use Rattle.chebyshev.specs.definitions.Coefficients.{weight, subtractLists, scaleList}
+use Rattle.model.specs.definitions.Intervals.{standardInterval, sameInterval}
 use Rattle.model.specs.definitions.Models.{scale, productSize, maxWeight}
 use Rattle.model.specs.definitions.Models.{good, candidateModel, largePlace}
 use Rattle.model.specs.definitions.Outcomes.{Outcome, accepted, refused, outcome, numberOf}
 use Rattle.model.specs.declared.types.Model.{Model}
 use Rattle.model.specs.declared.types.Candidate.{Candidate}
-use Rattle.certificate.specs.definitions.Tests.{Certificate, makeCertificate, zeroCertificate, withRadius, displacement}
+use Rattle.certificate.specs.definitions.Tests.{Certificate, makeCertificate, zeroCertificate}
+use Rattle.certificate.specs.definitions.Tests.{placed, withRadius, displacement}
 use Rattle.certificate.specs.definitions.Groups.{group}
 use Rattle.certificate.specs.definitions.Root.{rootPlaces, rootLastPlaces, rootModel, rootContraction, rootResidual}
 use Rattle.certificate.specs.declared.types.RootRule.{RootRule}
@@ -33,6 +35,10 @@ pub record Subtrahend (f : List ℤ) : Type 0 where
   pub short : length f ≤ productSize
   pub weight-fits : weight f ≤ maxWeight
 
+-- a candidate on −S and S: m, N and b do not ask where T_k is taken
+abbrev pub standardCandidate : Candidate → Model
+standardCandidate c = candidateModel standardInterval c
+
 -- a part of the scratch, of any length from 1, and two good models whose list C is formed in it
 pub record Ready (part : List ℤ) (a b : Model) : Type 0 where
   pub room : 0 < length part
@@ -40,19 +46,20 @@ pub record Ready (part : List ℤ) (a b : Model) : Type 0 where
   pub second-good : good b ≡ true
 
 -- such a part, and good models and candidates of a quotient test
-pub record QuotientReady (part : List ℤ) (f g h w : Model) : Type 0 where
+pub record QuotientReady (part : List ℤ) (f g : Model) (h w : Candidate) : Type 0 where
   pub room : 0 < length part
   pub good-f : good f ≡ true
   pub good-g : good g ≡ true
-  pub good-h : good h ≡ true
-  pub good-w : good w ≡ true
+  pub good-h : good (placed f h) ≡ true
+  pub good-w : good (placed f w) ≡ true
+  pub same-interval : sameInterval (f .interval) (g .interval) ≡ true
 
 -- the same for a root test
-pub record RootReady (part : List ℤ) (f h w : Model) : Type 0 where
+pub record RootReady (part : List ℤ) (f : Model) (h w : Candidate) : Type 0 where
   pub room : 0 < length part
   pub good-f : good f ≡ true
-  pub good-h : good h ≡ true
-  pub good-w : good w ≡ true
+  pub good-h : good (placed f h) ≡ true
+  pub good-w : good (placed f w) ≡ true
 
 -- what the last places of a root test are given, where M is the weight of w
 pub record RootLast (h : Model) (M m b : ℕ) : Type 0 where
@@ -112,10 +119,8 @@ abbrev pub reachOf : RootNumbers → Outcome Reach
 reachOf (Refused v) = refused (numberOf v) zeroReach
 reachOf (Reached k m n b) = accepted (makeReach k m n b)
 
-unfoldable pub rootReach : ℕ → Model → Model → Model → Outcome Reach
+unfoldable pub rootReach : ℕ → Model → Candidate → Candidate → Outcome Reach
 rootReach len f h w =
-    let n = rootResidual f h in
-    outcome (rootPlaces len f h w) (makeReach (weight (w .coefficients)) (rootContraction h w) n (displacement w n)) zeroReach
-
-abbrev pub numbersOutcome : ℕ → Model → Candidate → Candidate → Outcome Reach
-numbersOutcome len f h w = rootReach len f (candidateModel h) (candidateModel w)
+    let m = rootContraction (placed f h) (placed f w) in
+    let n = rootResidual f (placed f h) in
+    outcome (rootPlaces len f h w) (makeReach (weight (w .coefficients)) m n (displacement (placed f w) n)) zeroReach

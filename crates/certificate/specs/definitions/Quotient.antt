@@ -7,12 +7,12 @@ use lib.IntN.{pos}
 use Rattle.integer.specs.definitions.Integer.{ℤ-ring}
 use Rattle.integer.specs.definitions.Rounding.{upℕ}
 use Rattle.chebyshev.specs.definitions.Coefficients.{weight, subtractLists, scaleList}
-use Rattle.model.specs.definitions.Models.{scale, candidateModel, badPlace, largePlace}
+use Rattle.model.specs.definitions.Models.{scale, badPlace, differentPlace, largePlace}
 use Rattle.model.specs.definitions.Outcomes.{Outcome, outcome}
 use Rattle.model.specs.definitions.Multiply.{productList}
 use Rattle.model.specs.declared.types.Model.{Model}
 use Rattle.model.specs.declared.types.Candidate.{Candidate}
-use Rattle.certificate.specs.definitions.Tests.{scratchSize, scratchPlace, withRadius, displacement}
+use Rattle.certificate.specs.definitions.Tests.{scratchSize, scratchPlace, placed, withRadius, displacement}
 use Rattle.certificate.specs.definitions.Tests.{Certificate, makeCertificate, zeroCertificate, testPlaces}
 
 -- "m = up((weight(2S² − C(w,g)) + 2·M·e_g)/(2S))"
@@ -35,35 +35,33 @@ quotientResidual f g h =
 unfoldable pub quotientModel : Model → ℕ → ℕ → Model
 quotientModel h m b = withRadius h (upℕ (b * scale) (scale - m))
 
--- Quotient f/g, for m and N, behind the place of the scratch. "each model, in operand order, h then w"; "The test: m < S and
--- N ≤ 2^28."
+-- Quotient f/g, for m and N, behind the place of the scratch. "each model, in operand order, h then w"; S-24's 19 for
+-- f and g on different intervals "after the models"; "The test: m < S and N ≤ 2^28."
 abbrev pub quotientPlacesFor : ℕ → ℕ → Model → Model → Model → Model → List (Bool × ℕ)
 quotientPlacesFor m n f g h w =
-    badPlace f ∷ badPlace g ∷ badPlace h ∷ badPlace w
+    badPlace f ∷ badPlace g ∷ badPlace h ∷ badPlace w ∷ differentPlace f g
     ∷ (testPlaces m n ++ (largePlace (quotientModel h m (displacement w n)) ∷ []))
 
 -- what is given behind them
 abbrev pub quotientCertificateFor : ℕ → ℕ → Model → Model → Certificate
 quotientCertificateFor m n h w = let b = displacement w n in makeCertificate (quotientModel h m b) m n b
 
--- the same for the m and N above
-abbrev pub quotientPlacesBehind : Model → Model → Model → Model → List (Bool × ℕ)
-quotientPlacesBehind f g h w = quotientPlacesFor (quotientContraction g w) (quotientResidual f g h) f g h w
+-- the same for candidates, and the m and N above
+abbrev pub quotientPlacesBehind : Model → Model → Candidate → Candidate → List (Bool × ℕ)
+quotientPlacesBehind f g h w =
+    quotientPlacesFor (quotientContraction g (placed f w)) (quotientResidual f g (placed f h)) f g (placed f h) (placed f w)
 
-abbrev pub quotientCertificate : Model → Model → Model → Model → Certificate
-quotientCertificate f g h w = quotientCertificateFor (quotientContraction g w) (quotientResidual f g h) h w
+abbrev pub quotientCertificate : Model → Model → Candidate → Candidate → Certificate
+quotientCertificate f g h w =
+    quotientCertificateFor (quotientContraction g (placed f w)) (quotientResidual f g (placed f h)) (placed f h) (placed f w)
 
 -- all places, with a scratch of len numbers, of which `need` are needed
-abbrev pub quotientPlaces : ℕ → ℕ → Model → Model → Model → Model → List (Bool × ℕ)
+abbrev pub quotientPlaces : ℕ → ℕ → Model → Model → Candidate → Candidate → List (Bool × ℕ)
 quotientPlaces need len f g h w = scratchPlace need len ∷ quotientPlacesBehind f g h w
 
-unfoldable pub quotientNeeding : ℕ → ℕ → Model → Model → Model → Model → Outcome Certificate
+unfoldable pub quotientNeeding : ℕ → ℕ → Model → Model → Candidate → Candidate → Outcome Certificate
 quotientNeeding need len f g h w = outcome (quotientPlaces need len f g h w) (quotientCertificate f g h w) zeroCertificate
 
--- 02, S-17: "Number 1 is now given below 16". In 01 it was given below 65.
-abbrev pub quotientOutcome : ℕ → Model → Model → Model → Model → Outcome Certificate
-quotientOutcome len f g h w = quotientNeeding scratchSize len f g h w
-
--- the entry's definition. "A candidate is a model without a radius (taken as 0)."
+-- the entry's definition. 02, S-17: "Number 1 is now given below 16". In 01 it was given below 65.
 abbrev pub quotientTest : ℕ → Model → Model → Candidate → Candidate → Outcome Certificate
-quotientTest len f g h w = quotientOutcome len f g (candidateModel h) (candidateModel w)
+quotientTest len f g h w = quotientNeeding scratchSize len f g h w

@@ -10,13 +10,13 @@ use lib.Signed.{leZ}
 use Rattle.integer.specs.definitions.Integer.{ℤ-ring}
 use Rattle.integer.specs.definitions.Rounding.{upℕ}
 use Rattle.chebyshev.specs.definitions.Coefficients.{weight, subtractLists, scaleList, coefficientSum}
-use Rattle.model.specs.definitions.Models.{scale, candidateModel, badPlace, largePlace}
+use Rattle.model.specs.definitions.Models.{scale, badPlace, largePlace}
 use Rattle.model.specs.definitions.Outcomes.{Outcome, outcome}
 use Rattle.model.specs.definitions.Multiply.{productList}
 use Rattle.radius.specs.definitions.LeastRadius.{leastRadius, isMissing, radiusOf}
 use Rattle.model.specs.declared.types.Model.{Model}
 use Rattle.model.specs.declared.types.Candidate.{Candidate}
-use Rattle.certificate.specs.definitions.Tests.{scratchSize, scratchPlace, withRadius, displacement}
+use Rattle.certificate.specs.definitions.Tests.{scratchSize, scratchPlace, placed, withRadius, displacement}
 use Rattle.certificate.specs.definitions.Tests.{Certificate, makeCertificate, zeroCertificate, testPlaces}
 use Rattle.certificate.specs.declared.types.RootRule.{RootRule}
 use Rattle.certificate.specs.declared.types.RootRule.the-variants.{ByDiscriminant, ByLeastRadius}
@@ -69,31 +69,30 @@ rootCertificateFor rule m n h w =
 
 -- ---- the tests
 
--- places and certificate, for the m and N above
-abbrev pub rootPlacesBehind : RootRule → Model → Model → Model → List (Bool × ℕ)
+-- places and certificate, for candidates, and the m and N above
+abbrev pub rootPlacesBehind : RootRule → Model → Candidate → Candidate → List (Bool × ℕ)
 rootPlacesBehind rule f h w =
-    let m = rootContraction h w in
-    let n = rootResidual f h in
-    rootPlacesFor m n f h w ++ rootRulePlaces rule m n h w
+    let m = rootContraction (placed f h) (placed f w) in
+    let n = rootResidual f (placed f h) in
+    rootPlacesFor m n f (placed f h) (placed f w) ++ rootRulePlaces rule m n (placed f h) (placed f w)
 
-abbrev pub rootCertificate : RootRule → Model → Model → Model → Certificate
-rootCertificate rule f h w = rootCertificateFor rule (rootContraction h w) (rootResidual f h) h w
+abbrev pub rootCertificate : RootRule → Model → Candidate → Candidate → Certificate
+rootCertificate rule f h w =
+    rootCertificateFor rule (rootContraction (placed f h) (placed f w)) (rootResidual f (placed f h)) (placed f h) (placed f w)
 
 -- all places, with a scratch of len numbers, of which `need` are needed
-abbrev pub rootTestPlaces : RootRule → ℕ → ℕ → Model → Model → Model → List (Bool × ℕ)
+abbrev pub rootTestPlaces : RootRule → ℕ → ℕ → Model → Candidate → Candidate → List (Bool × ℕ)
 rootTestPlaces rule need len f h w = scratchPlace need len ∷ rootPlacesBehind rule f h w
 
-unfoldable pub rootNeeding : RootRule → ℕ → ℕ → Model → Model → Model → Outcome Certificate
+unfoldable pub rootNeeding : RootRule → ℕ → ℕ → Model → Candidate → Candidate → Outcome Certificate
 rootNeeding rule need len f h w = outcome (rootTestPlaces rule need len f h w) (rootCertificate rule f h w) zeroCertificate
 
--- 02, S-17: "Number 1 is now given below 16". In 01 it was given below 65.
-abbrev pub rootOutcome : RootRule → ℕ → Model → Model → Model → Outcome Certificate
-rootOutcome rule len f h w = rootNeeding rule scratchSize len f h w
-
 -- the places through N, which every root command shares
-unfoldable pub rootPlaces : ℕ → Model → Model → Model → List (Bool × ℕ)
-rootPlaces len f h w = scratchPlace scratchSize len ∷ rootPlacesFor (rootContraction h w) (rootResidual f h) f h w
+unfoldable pub rootPlaces : ℕ → Model → Candidate → Candidate → List (Bool × ℕ)
+rootPlaces len f h w =
+    scratchPlace scratchSize len
+    ∷ rootPlacesFor (rootContraction (placed f h) (placed f w)) (rootResidual f (placed f h)) f (placed f h) (placed f w)
 
--- the entry's definition. "A candidate is a model without a radius (taken as 0)."
+-- the entry's definition. 02, S-17: "Number 1 is now given below 16". In 01 it was given below 65.
 abbrev pub rootTest : RootRule → ℕ → Model → Candidate → Candidate → Outcome Certificate
-rootTest rule len f h w = rootOutcome rule len f (candidateModel h) (candidateModel w)
+rootTest rule len f h w = rootNeeding rule scratchSize len f h w

@@ -8,8 +8,9 @@ use lib.IntN.{ℤ, pos}
 use lib.ListN.{replicate, drop, length}
 use Rattle.integer.specs.definitions.Rounding.{upℕ}
 use Rattle.chebyshev.specs.definitions.Coefficients.{weight}
-use Rattle.model.specs.definitions.Models.{scale, maxRadius, makeModel, zeroModel}
+use Rattle.model.specs.definitions.Models.{scale, maxRadius, makeModel, zeroModel, candidateModel}
 use Rattle.model.specs.definitions.Outcomes.{Outcome, judged}
+use Rattle.model.specs.declared.types.Candidate.{Candidate}
 use Rattle.model.specs.declared.types.Model.{Model}
 use Rattle.certificate.specs.declared.types.TestOutcome.{TestOutcome}
 
@@ -28,11 +29,17 @@ scratchPlace need len = (ltb len need, 1)
 unfoldable pub scratchAfter : List ℤ → List ℤ
 scratchAfter s = cond (leb scratchSize (length s)) (replicate scratchSize (pos 0) ++ drop scratchSize s) s
 
+-- ---- their candidates
+
+-- "A candidate is a model without a radius (taken as 0)." S-24: "A candidate has its operand's interval.", that of f
+abbrev pub placed : Model → Candidate → Model
+placed f c = candidateModel (f .interval) c
+
 -- ---- their numbers
 
--- "Result h with radius"
+-- "Result h with radius", on h's interval
 abbrev pub withRadius : Model → ℕ → Model
-withRadius h e = makeModel (h .degree) (h .coefficients) e
+withRadius h e = makeModel (h .degree) (h .coefficients) e (h .interval)
 
 -- "b = up(M·N/S)"
 unfoldable pub displacement : Model → ℕ → ℕ

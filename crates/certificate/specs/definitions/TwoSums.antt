@@ -84,7 +84,8 @@ RootHolds f h w =
 
 -- "Result h with radius", and m, N and b
 abbrev pub rootGiven : Model → Model → Model → ℕ → Certificate
-rootGiven f h w r = makeCertificate (makeModel (h .degree) (h .coefficients) r) (root-m h w) (root-N f h) (root-b f h w)
+rootGiven f h w r =
+    makeCertificate (makeModel (h .degree) (h .coefficients) r (h .interval)) (root-m h w) (root-N f h) (root-b f h w)
 
 -- ---- the tighter root test
 

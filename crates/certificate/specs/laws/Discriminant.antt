@@ -17,12 +17,14 @@ use Rattle.integer.specs.laws.Difference.{<-parts}
 use Rattle.integer.specs.definitions.Rounding.{upℕ}
 use Rattle.chebyshev.specs.definitions.Coefficients.{weight, addLists, subtractLists, scaleList, coefficientSum}
 use Rattle.chebyshev.specs.definitions.Product.{product, addAtBy, addPairBy, addTermBy, addTermsBy}
-use Rattle.model.specs.definitions.Models.{scale, good, tooLarge, makeModel, constantModel, zeroModel}
+use Rattle.model.specs.definitions.Intervals.{goodEnds, sameInterval}
+use Rattle.model.specs.definitions.Models.{partsWithinLimits, scale, good, tooLarge, standardModel, constantModel, zeroModel}
 use Rattle.model.specs.definitions.Multiply.{productList}
 use Rattle.model.specs.definitions.Outcomes.{number, passing}
-use Rattle.certificate.specs.definitions.Root.{rootOutcome, rootNeeding, rootPlaces, rootContraction, rootResidual, rootModel}
+use Rattle.certificate.specs.definitions.Root.{rootTest, rootNeeding, rootPlaces, rootContraction, rootResidual, rootModel}
 use Rattle.certificate.specs.declared.types.RootRule.the-variants.{ByDiscriminant}
-use Rattle.certificate.specs.definitions.Tests.{displacement}
+use Rattle.certificate.specs.definitions.Tests.{displacement, placed}
+use Rattle.certificate.specs.laws.Examples.{candidate}
 
 pub discriminant-quotient : (b M m : ℕ) → 0 < M → (8 * b * M ≤ (scale - m) * (scale - m)) ↔ (b ≤ (scale - m) * (scale - m) / (8 * M))
 discriminant-quotient b M m h =
@@ -55,18 +57,18 @@ weight-positive a h = omega (arith, sum-weight a, <-parts (pos 0) (coefficientSu
 -- m, N, b, 8·b·M, the same modulo 2^64, (S−m)² and the test's number, where f has radius e
 abbrev numbers : ℕ → List ℕ
 numbers e =
-    let f = makeModel 0 (pos (2 ^ 28) ∷ replicate 32 (pos 0)) e in
-    let h = constantModel (pos (2 ^ 11)) in
-    let w = constantModel (pos (2 ^ 28)) in
-    let m = rootContraction h w in
-    let n = rootResidual f h in
-    let b = displacement w n in
+    let f = standardModel 0 (pos (2 ^ 28) ∷ replicate 32 (pos 0)) e in
+    let h = candidate (2 ^ 11) in
+    let w = candidate (2 ^ 28) in
+    let m = rootContraction (placed f h) (placed f w) in
+    let n = rootResidual f (placed f h) in
+    let b = displacement (placed f w) n in
     let d = 8 * b * weight (w .coefficients) in
-    m ∷ n ∷ b ∷ d ∷ (d % 2 ^ 64) ∷ ((scale - m) * (scale - m)) ∷ number (rootOutcome ByDiscriminant 16 f h w) ∷ []
+    m ∷ n ∷ b ∷ d ∷ (d % 2 ^ 64) ∷ ((scale - m) * (scale - m)) ∷ number (rootTest ByDiscriminant 16 f h w) ∷ []
 
 pub wrapped-discriminant : (numbers 0 ∷ numbers 4 ∷ [])
     ≡ (0 ∷ (2 ^ 28 - 4) ∷ (2 ^ 36 - 2 ^ 10) ∷ (2 ^ 67 - 2 ^ 41) ∷ (2 ^ 64 - 2 ^ 41) ∷ 2 ^ 40 ∷ 8 ∷ [])
     ∷ (0 ∷ 2 ^ 28 ∷ 2 ^ 36 ∷ 2 ^ 67 ∷ 0 ∷ 2 ^ 40 ∷ 8 ∷ [])
     ∷ []
-unfolding rootNeeding rootPlaces rootContraction rootResidual rootModel displacement coefficientSum productList passing good tooLarge constantModel zeroModel weight addLists subtractLists scaleList addAtBy addPairBy addTermBy addTermsBy product upℕ
+unfolding rootNeeding rootPlaces rootContraction rootResidual rootModel displacement coefficientSum productList passing sameInterval goodEnds partsWithinLimits good tooLarge constantModel zeroModel weight addLists subtractLists scaleList addAtBy addPairBy addTermBy addTermsBy product upℕ
 wrapped-discriminant = refl

@@ -5,11 +5,13 @@ use mathlib.Core.Logic.{_↔_}
 use mathlib.Core.Bool.{true}
 use Prim.Native.Nat.{ℕ, _^_, _≤_, _<_}
 use borrow.Author.Tests.{ltb-false, le-ltb}
+use Rattle.model.specs.definitions.Intervals.{sameInterval}
 use Rattle.model.specs.definitions.Models.{scale, maxRadius, good, makeModel}
 use Rattle.model.specs.definitions.Outcomes.{accepted}
+use Rattle.model.specs.declared.types.Candidate.{Candidate}
 use Rattle.model.specs.declared.types.Model.{Model}
-use Rattle.certificate.specs.definitions.Tests.{scratchSize, displacement, Certificate, makeCertificate}
-use Rattle.certificate.specs.definitions.Quotient.{quotientOutcome, quotientContraction, quotientResidual, quotientModel, quotientCertificate}
+use Rattle.certificate.specs.definitions.Tests.{scratchSize, displacement, Certificate, makeCertificate, placed}
+use Rattle.certificate.specs.definitions.Quotient.{quotientTest, quotientContraction, quotientResidual, quotientModel, quotientCertificate}
 use Rattle.certificate.specs.definitions.TwoSums.{quotient-m, quotient-N, quotient-b, quotientRadius}
 use Rattle.certificate.specs.laws.TwoSumsLaws.{productList-good}
 use Rattle.certificate.specs.laws.Stages.{large-radius}
@@ -23,27 +25,35 @@ residual-is : (f g h : Model) → good g ≡ true → good h ≡ true → quotie
 unfolding quotient-N quotientResidual
 residual-is f g h gg gh = rw (productList-good g h gg gh)
 
-module _ (len : ℕ) (f g h w : Model) (enough : scratchSize ≤ len)
-    (gf : good f ≡ true) (gg : good g ≡ true) (gh : good h ≡ true) (gw : good w ≡ true) where
+module _ (len : ℕ) (f g : Model) (h w : Candidate) (enough : scratchSize ≤ len)
+    (gf : good f ≡ true) (gg : good g ≡ true) (gh : good (placed f h) ≡ true) (gw : good (placed f w) ≡ true)
+    (same : sameInterval (f .interval) (g .interval) ≡ true) where
+  -- the candidates on f's interval
+  abbrev h′ : Model
+  h′ = placed f h
+
+  abbrev w′ : Model
+  w′ = placed f w
+
   -- "The test: m < S and N ≤ 2^28.", and the result's radius is within 2^28
   abbrev pub QuotientHolds : Type 0
-  QuotientHolds = (quotient-m g w < scale) × (quotient-N f g h ≤ 2 ^ 28) × (quotientRadius f g h w ≤ 2 ^ 28)
+  QuotientHolds = (quotient-m g w′ < scale) × (quotient-N f g h′ ≤ 2 ^ 28) × (quotientRadius f g h′ w′ ≤ 2 ^ 28)
 
   -- "Result h with radius up(b·S/(S−m))", and 01's m, N and b
   abbrev pub quotientGiven : Certificate
   quotientGiven =
-      makeCertificate (makeModel (h .degree) (h .coefficients) (quotientRadius f g h w)) (quotient-m g w) (quotient-N f g h) (quotient-b f g h w)
+      makeCertificate (makeModel (h .degree) (h .coefficients) (quotientRadius f g h′ w′) (f .interval)) (quotient-m g w′) (quotient-N f g h′) (quotient-b f g h′ w′)
 
   given-is : quotientCertificate f g h w ≡ quotientGiven
   unfolding quotientRadius quotient-b displacement quotientModel
-  given-is = rw (← contraction-is g w gg gw, ← residual-is f g h gg gh)
+  given-is = rw (← contraction-is g w′ gg gw, ← residual-is f g h′ gg gh)
 
   conditions-holds : QuotientConditions len f g h w ↔ QuotientHolds
   unfolding quotientRadius quotient-b displacement quotientModel
   conditions-holds =
       let radius = (quotientResult f g h w) .radius in
-      let large = large-radius h radius gh in
-      rw (← contraction-is g w gg gw, ← residual-is f g h gg gh) (
+      let large = large-radius h′ radius gh in
+      rw (← contraction-is g w′ gg gw, ← residual-is f g h′ gg gh) (
         λ c. (c .contraction, c .residual, ltb-false maxRadius radius (sym large ∙ c .result)),
         λ t. record {
           scratch = enough;
@@ -51,6 +61,7 @@ module _ (len : ℕ) (f g h w : Model) (enough : scratchSize ≤ len)
           good-g = gg;
           good-h = gh;
           good-w = gw;
+          same-interval = same;
           contraction = t .0;
           residual = t .1;
           result = large ∙ le-ltb maxRadius radius (t .2);
@@ -58,10 +69,10 @@ module _ (len : ℕ) (f g h w : Model) (enough : scratchSize ≤ len)
       )
 
   -- accepted where the test holds
-  pub quotient-accepted : QuotientHolds → quotientOutcome len f g h w ≡ accepted quotientGiven
+  pub quotient-accepted : QuotientHolds → quotientTest len f g h w ≡ accepted quotientGiven
   quotient-accepted t = quotient-result len f g h w (conditions-holds .1 t) ∙ ap accepted given-is
 
   -- and only there
-  pub quotient-accepted-only : {c : Certificate} → quotientOutcome len f g h w ≡ accepted c → QuotientHolds × (c ≡ quotientGiven)
+  pub quotient-accepted-only : {c : Certificate} → quotientTest len f g h w ≡ accepted c → QuotientHolds × (c ≡ quotientGiven)
   quotient-accepted-only e =
       let (conditions, same) = quotient-passes len f g h w e in (conditions-holds .0 conditions, same ∙ given-is)

@@ -16,28 +16,29 @@ use Rattle.model.specs.definitions.Outcomes.{accepted, Passed}
 use Rattle.model.specs.laws.PlaceLaws.{outcome-passed, outcome-accepted, not-of-true, passed-append}
 use Rattle.radius.specs.definitions.LeastRadius.{leastRadius, isMissing, IsLeast}
 use Rattle.radius.specs.laws.LeastLaws.{found-is, least-found, least-is}
+use Rattle.model.specs.declared.types.Candidate.{Candidate}
 use Rattle.model.specs.declared.types.Model.{Model}
-use Rattle.certificate.specs.definitions.Tests.{scratchSize, displacement, Certificate, zeroCertificate}
-use Rattle.certificate.specs.definitions.Root.{rootPlaces, rulePlace, ruleRadius, rootLastPlaces, rootModel, rootContraction, rootResidual, rootTestPlaces, rootCertificate, rootOutcome, rootNeeding}
+use Rattle.certificate.specs.definitions.Tests.{scratchSize, displacement, Certificate, zeroCertificate, placed}
+use Rattle.certificate.specs.definitions.Root.{rootPlaces, rulePlace, ruleRadius, rootLastPlaces, rootModel, rootContraction, rootResidual, rootTestPlaces, rootCertificate, rootTest, rootNeeding}
 use Rattle.certificate.specs.declared.types.RootRule.{RootRule}
 use Rattle.certificate.specs.declared.types.RootRule.the-variants.{ByDiscriminant, ByLeastRadius}
 
 -- b and the result of the test
-abbrev pub rootDisplacement : Model → Model → Model → ℕ
-rootDisplacement f h w = displacement w (rootResidual f h)
+abbrev pub rootDisplacement : Model → Candidate → Candidate → ℕ
+rootDisplacement f h w = displacement (placed f w) (rootResidual f (placed f h))
 
-abbrev pub rootResult : RootRule → Model → Model → Model → Model
-rootResult rule f h w = rootModel rule h (weight (w .coefficients)) (rootContraction h w) (rootDisplacement f h w)
+abbrev pub rootResult : RootRule → Model → Candidate → Candidate → Model
+rootResult rule f h w = rootModel rule (placed f h) (weight (w .coefficients)) (rootContraction (placed f h) (placed f w)) (rootDisplacement f h w)
 
 -- refusals 1, 2 three times, 7, 5 and 6 are not due
-pub record NumbersConditions (len : ℕ) (f h w : Model) : Type 0 where
+pub record NumbersConditions (len : ℕ) (f : Model) (h w : Candidate) : Type 0 where
   pub scratch : scratchSize ≤ len
   pub good-f : good f ≡ true
-  pub good-h : good h ≡ true
-  pub good-w : good w ≡ true
+  pub good-h : good (placed f h) ≡ true
+  pub good-w : good (placed f w) ≡ true
   pub helper : pos 0 <ℤ coefficientSum (w .coefficients)
-  pub contraction : rootContraction h w < scale
-  pub residual : rootResidual f h ≤ maxRadius
+  pub contraction : rootContraction (placed f h) (placed f w) < scale
+  pub residual : rootResidual f (placed f h) ≤ maxRadius
 
 -- what a rule asks behind N and b: that 8, or 17, is not due
 abbrev pub RuleHolds : RootRule → ℕ → ℕ → ℕ → Type 0
@@ -49,9 +50,9 @@ rule-holds ByDiscriminant M m b = (λ e. ltb-false _ _ e, λ d. le-ltb _ _ d)
 rule-holds ByLeastRadius M m b =
     (λ e. least-found M m b _ (found-is (leastRadius M m b) e), λ l. ap isMissing (least-is M m b _ l))
 
-pub record RootConditions (rule : RootRule) (len : ℕ) (f h w : Model) : Type 0 where
+pub record RootConditions (rule : RootRule) (len : ℕ) (f : Model) (h w : Candidate) : Type 0 where
   pub numbers : NumbersConditions len f h w
-  pub holds : RuleHolds rule (weight (w .coefficients)) (rootContraction h w) (rootDisplacement f h w)
+  pub holds : RuleHolds rule (weight (w .coefficients)) (rootContraction (placed f h) (placed f w)) (rootDisplacement f h w)
 
 positive-above : (z : ℤ) → pos 0 <ℤ z → leZ z (pos 0) ≡ false
 positive-above z h = pick (leZ z (pos 0)) refl
@@ -60,31 +61,31 @@ positive-above z h = pick (leZ z (pos 0)) refl
     pick true e = absurd (omega (arith, le-yes z (pos 0) e, <-parts (pos 0) z .0 h))
     pick false e = refl
 
-module _ (len : ℕ) (f h w : Model) where
+module _ (len : ℕ) (f : Model) (h w : Candidate) where
   pub numbers-conditions : Passed (rootPlaces len f h w) ↔ NumbersConditions len f h w
   unfolding rootPlaces
   numbers-conditions = (
     λ p. record {
       scratch = ltb-false len scratchSize (p .0);
       good-f = not-false (good f) (p .1 .0);
-      good-h = not-false (good h) (p .1 .1 .0);
-      good-w = not-false (good w) (p .1 .1 .1 .0);
+      good-h = not-false (good (placed f h)) (p .1 .1 .0);
+      good-w = not-false (good (placed f w)) (p .1 .1 .1 .0);
       helper = le-false (coefficientSum (w .coefficients)) (pos 0) (p .1 .1 .1 .1 .0);
-      contraction = leb-false scale (rootContraction h w) (p .1 .1 .1 .1 .1 .0);
-      residual = ltb-false maxRadius (rootResidual f h) (p .1 .1 .1 .1 .1 .1 .0);
+      contraction = leb-false scale (rootContraction (placed f h) (placed f w)) (p .1 .1 .1 .1 .1 .0);
+      residual = ltb-false maxRadius (rootResidual f (placed f h)) (p .1 .1 .1 .1 .1 .1 .0);
     },
     λ c. search (le-ltb, lt-leb, not-of-true, positive-above) depth 20,
   )
 
-module _ (rule : RootRule) (len : ℕ) (f h w : Model) where
+module _ (rule : RootRule) (len : ℕ) (f : Model) (h w : Candidate) where
   -- the test passes exactly where these hold and the result is not too large
   pub root-conditions : Passed (rootTestPlaces rule scratchSize len f h w) ↔ (RootConditions rule len f h w × (tooLarge (rootResult rule f h w) ≡ false))
   unfolding rootPlaces
   root-conditions =
       let M = weight (w .coefficients) in
-      let m = rootContraction h w in
+      let m = rootContraction (placed f h) (placed f w) in
       let b = rootDisplacement f h w in
-      let parts = passed-append (rootPlaces len f h w) (rootLastPlaces rule h M m b) in
+      let parts = passed-append (rootPlaces len f h w) (rootLastPlaces rule (placed f h) M m b) in
       let numbers = numbers-conditions len f h w in
       let place = rule-holds rule M m b in (
         λ p. let q = parts .0 p in (record { numbers = numbers .0 (q .0); holds = place .0 (q .1 .0) }, q .1 .1 .0),
@@ -92,7 +93,7 @@ module _ (rule : RootRule) (len : ℕ) (f h w : Model) where
       )
 
   -- accepted exactly where these hold, with model, m, N and b of the test
-  pub root-passes : {c : Certificate} → rootOutcome rule len f h w ≡ accepted c
+  pub root-passes : {c : Certificate} → rootTest rule len f h w ≡ accepted c
       → RootConditions rule len f h w × (tooLarge (rootResult rule f h w) ≡ false) × (c ≡ rootCertificate rule f h w)
   unfolding rootNeeding rootPlaces
   root-passes e =
@@ -101,7 +102,7 @@ module _ (rule : RootRule) (len : ℕ) (f h w : Model) where
       (conditions, small, same)
 
   pub root-result : RootConditions rule len f h w → tooLarge (rootResult rule f h w) ≡ false
-      → rootOutcome rule len f h w ≡ accepted (rootCertificate rule f h w)
+      → rootTest rule len f h w ≡ accepted (rootCertificate rule f h w)
   unfolding rootNeeding rootPlaces
   root-result c small =
       outcome-passed (rootTestPlaces rule scratchSize len f h w) (rootCertificate rule f h w) zeroCertificate

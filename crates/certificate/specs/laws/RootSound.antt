@@ -1,6 +1,6 @@
--- The root tests are sound, by either rule: where one passes, every value v that f allows at a fraction x of [−1, 1] is above 0,
--- and its root lies between y − ρ and y + ρ, where y is h(x) and ρ the radius. No square root is taken: squares are compared.
-use mathlib.Core.Path.{_≡_, sym, _∙_, ap}
+-- The root tests are sound, by either rule: where one passes, every value v that f allows at a fraction x of its interval is above
+-- 0, and its root lies between y − ρ and y + ρ, where y is h(x) and ρ the radius. No square root is taken: squares are compared.
+use mathlib.Core.Path.{_≡_, sym, _∙_, ap, subst}
 use mathlib.Core.Logic.{_⊎_, inl, inr}
 use mathlib.Core.List.{List, [], _∷_}
 use Prim.Native.Nat.{ℕ, _+_, _*_, _-_}
@@ -8,7 +8,7 @@ use native.Mathlib.Omega.{arith}
 use lib.IntN.{ℤ, pos}
 use Rattle.integer.specs.laws.Embedding.{ι-nonneg}
 use Rattle.integer.specs.definitions.Integer.{ℤ-ring}
-use Rattle.integer.specs.laws.OrderedRingLaws.{_⟨≼⟩_, by-certificate, gap, abs-le, abs-upper, abs-lower, le-of-eq}
+use Rattle.integer.specs.laws.OrderedRingLaws.{_⟨≼⟩_, by-certificate, gap, abs-le, abs-upper, le-of-eq}
 use Rattle.integer.specs.laws.Order.{le-pos}
 use Rattle.integer.specs.definitions.Fraction.{ℚ, whole, _+ℚ_, _-ℚ_, -ℚ_, _*ℚ_, _≤ℚ_, _<ℚ_, ∣_∣ℚ}
 use Rattle.integer.specs.laws.FractionLaws.{*ℚ-comm}
@@ -24,14 +24,17 @@ use Rattle.chebyshev.specs.definitions.Allows.{allows}
 use Rattle.chebyshev.specs.laws.AllowsLaws.{allows-quotient}
 use Rattle.chebyshev.specs.laws.Sign.{helper-positive}
 use Rattle.model.specs.definitions.Models.{scale}
+use Rattle.model.specs.laws.IntervalLaws.{within}
+use Rattle.model.specs.laws.ModelLaws.{good-is}
 use Rattle.model.specs.definitions.Allowed.{position, AllowsAt, Allows, OnInterval}
 use Rattle.model.specs.laws.ValueLaws.{valueAt, valueAt-scale, valueAt-weight, valueAt-difference}
 use Rattle.model.specs.laws.GoodLaws.{value-productList}
 use Rattle.model.specs.definitions.Multiply.{productList}
+use Rattle.model.specs.declared.types.Candidate.{Candidate}
 use Rattle.model.specs.declared.types.Model.{Model}
 use Rattle.model.specs.definitions.Outcomes.{accepted}
-use Rattle.certificate.specs.definitions.Tests.{Certificate, displacement}
-use Rattle.certificate.specs.definitions.Root.{rootOutcome, rootModel, rootContraction, rootResidual}
+use Rattle.certificate.specs.definitions.Tests.{Certificate, placed, displacement}
+use Rattle.certificate.specs.definitions.Root.{rootTest, rootCertificate, rootModel, rootContraction, rootResidual}
 use Rattle.certificate.specs.declared.types.RootRule.{RootRule}
 use Rattle.certificate.specs.declared.types.RootRule.the-variants.{ByDiscriminant, ByLeastRadius}
 use Rattle.certificate.specs.definitions.RootBounds.{RootBounds, ofUnits}
@@ -64,57 +67,63 @@ between-allows m cs x r same above below =
 
 -- ---- the two residuals at x
 
-module _ (len : ℕ) (f h w : Model) (c : NumbersConditions len f h w) where
+module _ (len : ℕ) (f : Model) (h w : Candidate) (c : NumbersConditions len f h w) where
+  -- the candidates on f's interval
+  abbrev h′ : Model
+  h′ = placed f h
+
+  abbrev w′ : Model
+  w′ = placed f w
+
   -- weight(S² − C(w,h)) and weight(C(h,h) − 2S·f)
   abbrev contractionWeight : ℕ
-  contractionWeight = weight (subtractLists ℤ-ring (pos (scale * scale) ∷ []) (productList w h))
+  contractionWeight = weight (subtractLists ℤ-ring (pos (scale * scale) ∷ []) (productList w′ h′))
 
   abbrev residualWeight : ℕ
-  residualWeight = weight (subtractLists ℤ-ring (productList h h) (scaleList ℤ-ring (pos (2 * scale)) (f .coefficients)))
+  residualWeight = weight (subtractLists ℤ-ring (productList h′ h′) (scaleList ℤ-ring (pos (2 * scale)) (f .coefficients)))
 
-  helper-distance : (x : ℚ) → OnInterval x
+  helper-distance : (x : ℚ) → ∣ x ∣ℚ ≤ℚ whole (pos 1)
       → ∣ whole (pos scale) *ℚ whole (pos scale) -ℚ whole (pos 2) *ℚ valueAt x (w .coefficients) *ℚ valueAt x (h .coefficients) ∣ℚ ≤ℚ whole (pos contractionWeight)
   helper-distance x on =
-      rw (← natural-mul scale scale, value-productList w h (c .good-w) (c .good-h) x)
-      (rw (value-constant ℚ-ring x (whole (pos (scale * scale)))) at (valueAt-difference on (pos (scale * scale) ∷ []) (productList w h)))
+      rw (← natural-mul scale scale, value-productList w′ h′ (c .good-w) (c .good-h) x)
+      (rw (value-constant ℚ-ring x (whole (pos (scale * scale)))) at (valueAt-difference x on (pos (scale * scale) ∷ []) (productList w′ h′)))
 
   -- w(x) > 0
-  helper-value : (x : ℚ) → OnInterval x → whole (pos 0) <ℚ valueAt x (w .coefficients)
+  helper-value : (x : ℚ) → ∣ x ∣ℚ ≤ℚ whole (pos 1) → whole (pos 0) <ℚ valueAt x (w .coefficients)
   unfolding rootContraction
   helper-value x on =
       helper-positive (whole (pos scale) *ℚ whole (pos scale)) (whole (pos contractionWeight)) (w .coefficients) (h .coefficients)
       (c .helper)
       (λ k. omega (arith, le-pos (scale * scale) contractionWeight (whole-le _ _ .0 (rw (← natural-mul scale scale) at k)), le-upℕ contractionWeight scale (omega arith), c .contraction))
-      (λ y k. helper-distance y (record { above = abs-lower ℚ-ordered k; below = abs-upper ℚ-ordered k }))
-      x (abs-le ℚ-ordered (on .below) (on .above))
+      helper-distance x on
 
-  module _ (x v : ℚ) (on : OnInterval x) (allowed : AllowsAt f x v) where
+  module _ (x v : ℚ) (on : ∣ x ∣ℚ ≤ℚ whole (pos 1)) (allowed : AllowsAt f x v) where
     abbrev y : ℚ
     y = ofUnits (valueAt x (h .coefficients))
 
     -- |S − 2·w(x)·y| ≤ m
-    helper-residual : ∣ whole (pos scale) -ℚ whole (pos 2) *ℚ valueAt x (w .coefficients) *ℚ y ∣ℚ ≤ℚ whole (pos (rootContraction h w))
+    helper-residual : ∣ whole (pos scale) -ℚ whole (pos 2) *ℚ valueAt x (w .coefficients) *ℚ y ∣ℚ ≤ℚ whole (pos (rootContraction h′ w′))
     unfolding rootContraction
     helper-residual =
         up-bound contractionWeight scale (whole (pos scale) -ℚ whole (pos 2) *ℚ valueAt x (w .coefficients) *ℚ y) (omega arith)
         (helper-bound ℚ-ordered (whole (pos scale)) (valueAt x (w .coefficients)) (valueAt x (h .coefficients)) y (whole (pos contractionWeight)) (units-scale (valueAt x (h .coefficients))) (helper-distance x on))
 
     -- S·|y² − v| ≤ N
-    root-residual : ∣ whole (pos scale) *ℚ (y *ℚ y -ℚ v) ∣ℚ ≤ℚ whole (pos (rootResidual f h))
+    root-residual : ∣ whole (pos scale) *ℚ (y *ℚ y -ℚ v) ∣ℚ ≤ℚ whole (pos (rootResidual f h′))
     unfolding rootResidual AllowsAt allows
     root-residual =
         up-bound (residualWeight + 2 * scale * f .radius) (2 * scale) (whole (pos scale) *ℚ (y *ℚ y -ℚ v)) (omega arith)
         (rw (natural-add residualWeight (2 * scale * f .radius), natural-mul (2 * scale) (f .radius), natural-mul 2 scale)
         (residual-bound ℚ-ordered (whole (pos scale)) (valueAt x (f .coefficients)) (valueAt x (h .coefficients)) y v (whole (pos residualWeight)) (whole (pos (f .radius)))
         (ι-nonneg ℚ-ordered scale) (units-scale (valueAt x (h .coefficients)))
-        (rw (value-productList h h (c .good-h) (c .good-h) x, ← natural-mul 2 scale, ← valueAt-scale x (pos (2 * scale)) (f .coefficients)) (valueAt-difference on (productList h h) (scaleList ℤ-ring (pos (2 * scale)) (f .coefficients))))
+        (rw (value-productList h′ h′ (c .good-h) (c .good-h) x, ← natural-mul 2 scale, ← valueAt-scale x (pos (2 * scale)) (f .coefficients)) (valueAt-difference x on (productList h′ h′) (scaleList ℤ-ring (pos (2 * scale)) (f .coefficients))))
         allowed))
 
     abbrev m : ℕ
-    m = rootContraction h w
+    m = rootContraction h′ w′
 
     abbrev n : ℕ
-    n = rootResidual f h
+    n = rootResidual f h′
 
     abbrev b : ℕ
     b = rootDisplacement f h w
@@ -137,7 +146,7 @@ module _ (len : ℕ) (f h w : Model) (c : NumbersConditions len f h w) where
       helper-residual = helper-residual;
       root-residual = root-residual;
       helper-positive = helper-value x on;
-      helper-weight = abs-upper ℚ-ordered (valueAt-weight on (w .coefficients));
+      helper-weight = abs-upper ℚ-ordered (valueAt-weight x on (w .coefficients));
       displaced = rw (← natural-mul M n, ← natural-mul b scale) (natural-le (le-upℕ (M * n) scale (omega arith)));
     }
 
@@ -162,35 +171,37 @@ module _ (len : ℕ) (f h w : Model) (c : NumbersConditions len f h w) where
 
 -- ---- the tests
 
--- what a test that passes gives: the bounds of the root, around the first model's values
-root-holds : (rule : RootRule) (len : ℕ) (f h w : Model) {c : Certificate} → rootOutcome rule len f h w ≡ accepted c
-    → (x v : ℚ) → OnInterval x → Allows f x v
-    → RootBounds (ofUnits (valueAt x (h .coefficients))) (ofUnits (whole (pos (c .model .radius)))) v × (c .model .coefficients ≡ h .coefficients)
-unfolding position rootModel
-root-holds rule len f h w passed x v on allowed =
-    let (conditions, small, same) = root-passes rule len f h w passed in (
-      rw same (bounds len f h w (conditions .numbers) x v on allowed rule (conditions .holds)),
-      ap (λ (t : Certificate). t .model .coefficients) same,
-    )
+module _ (rule : RootRule) (len : ℕ) (f : Model) (h w : Candidate) {c : Certificate} (passed : rootTest rule len f h w ≡ accepted c) where
+  result-is : c ≡ rootCertificate rule f h w
+  result-is = root-passes rule len f h w passed .2
 
-module _ (rule : RootRule) (len : ℕ) (f h w : Model) {c : Certificate} (passed : rootOutcome rule len f h w ≡ accepted c)
-    (x v : ℚ) (on : OnInterval x) (allowed : Allows f x v) where
-  pub root-sound : RootBounds (ofUnits (valueAt x (h .coefficients))) (ofUnits (whole (pos (c .model .radius)))) v
-  root-sound = root-holds rule len f h w passed x v on allowed .0
+  -- the result is on f's interval
+  pub root-interval : c .model .interval ≡ f .interval
+  unfolding rootModel
+  root-interval = ap (λ (t : Certificate). t .model .interval) result-is
 
   same-coefficients : c .model .coefficients ≡ h .coefficients
-  same-coefficients = root-holds rule len f h w passed x v on allowed .1
+  unfolding rootModel
+  same-coefficients = ap (λ (t : Certificate). t .model .coefficients) result-is
 
-  -- Every box that 01 permits for the root, where v lies in the box from l to u under it, holds a value that the result allows
-  pub root-overlap : (low high l u : ℚ) → (low ≡ whole (pos 0)) ⊎ ((whole (pos 0) <ℚ low) × (low *ℚ low ≤ℚ l)) → whole (pos 0) ≤ℚ high → u ≤ℚ high *ℚ high
-      → low ≤ℚ high → l ≤ℚ v → v ≤ℚ u → (r : ℚ) × (low ≤ℚ r) × (r ≤ℚ high) × Allows (c .model) x r
-  unfolding position
-  root-overlap low high l u low-fits high-nonneg high-fits ordered above below =
-      let (r, low-r, r-high, r-above, r-below) =
-      root-choice ℚ-ordered _ _ v low high (units-nonneg (c .model .radius)) (root-sound .reaches) (root-sound .above) (root-sound .below)
-      (square low-fits) high-nonneg (_⟨≼⟩_ ℚ-ordered below high-fits) ordered in
-      (r, low-r, r-high, between-allows (c .model) (h .coefficients) x r same-coefficients r-above r-below)
-    where
-      square : (low ≡ whole (pos 0)) ⊎ ((whole (pos 0) <ℚ low) × (low *ℚ low ≤ℚ l)) → (low ≡ whole (pos 0)) ⊎ (low *ℚ low ≤ℚ v)
-      square (inl e) = inl e
-      square (inr k) = inr (_⟨≼⟩_ ℚ-ordered (k .1) above)
+  module _ (x v : ℚ) (on : OnInterval (f .interval) x) (allowed : Allows f x v) where
+    -- the bounds of the root, around h's value
+    pub root-sound : RootBounds (ofUnits (valueAt (position (f .interval) x) (h .coefficients))) (ofUnits (whole (pos (c .model .radius)))) v
+    unfolding rootModel
+    root-sound =
+        let conditions = root-passes rule len f h w passed .0 in
+        let near = within (good-is f (conditions .numbers .good-f) .ends) x on in
+        rw result-is (bounds len f h w (conditions .numbers) (position (f .interval) x) v near allowed rule (conditions .holds))
+
+    -- Every box that 01 permits for the root, where v lies in the box from l to u under it, holds a value that the result allows
+    pub root-overlap : (low high l u : ℚ) → (low ≡ whole (pos 0)) ⊎ ((whole (pos 0) <ℚ low) × (low *ℚ low ≤ℚ l)) → whole (pos 0) ≤ℚ high → u ≤ℚ high *ℚ high
+        → low ≤ℚ high → l ≤ℚ v → v ≤ℚ u → (r : ℚ) × (low ≤ℚ r) × (r ≤ℚ high) × Allows (c .model) x r
+    root-overlap low high l u low-fits high-nonneg high-fits ordered above below =
+        let (r, low-r, r-high, r-above, r-below) =
+        root-choice ℚ-ordered _ _ v low high (units-nonneg (c .model .radius)) (root-sound .reaches) (root-sound .above) (root-sound .below)
+        (square low-fits) high-nonneg (_⟨≼⟩_ ℚ-ordered below high-fits) ordered in
+        (r, low-r, r-high, subst (λ i. AllowsAt (c .model) (position i x) r) (sym root-interval) (between-allows (c .model) (h .coefficients) (position (f .interval) x) r same-coefficients r-above r-below))
+      where
+        square : (low ≡ whole (pos 0)) ⊎ ((whole (pos 0) <ℚ low) × (low *ℚ low ≤ℚ l)) → (low ≡ whole (pos 0)) ⊎ (low *ℚ low ≤ℚ v)
+        square (inl e) = inl e
+        square (inr k) = inr (_⟨≼⟩_ ℚ-ordered (k .1) above)

@@ -5,7 +5,6 @@ use Prim.Native.Nat.{ℕ}
 use lib.IntN.{ℤ}
 use lib.ListN.{length}
 use Rattle.model.specs.definitions.Outcomes.{Outcome, refused, number, payload}
-use Rattle.model.specs.definitions.Models.{candidateModel}
 use Rattle.model.specs.definitions.Area.{modelSize, candidateSize, words, areaModel, areaCandidate, fits, areaOut}
 use Rattle.certificate.specs.definitions.Tests.{scratchSize, scratchAfter, Certificate, zeroCertificate}
 use Rattle.certificate.specs.definitions.Quotient.{quotientNeeding}
@@ -47,15 +46,13 @@ testFits need models h w scratch out numbers =
 abbrev pub quotientCall : ℕ → List ℤ → List ℤ → List ℤ → List ℤ → List ℤ → List ℤ → List ℕ → Outcome Certificate
 quotientCall need f g h w scratch out numbers =
     cond (testFits need (fits modelSize f && fits modelSize g) h w scratch out numbers)
-    (quotientNeeding need (length scratch) (areaModel f) (areaModel g) (candidateModel (areaCandidate h))
-    (candidateModel (areaCandidate w)))
+    (quotientNeeding need (length scratch) (areaModel f) (areaModel g) (areaCandidate h) (areaCandidate w))
     shortTest
 
 abbrev pub rootCall : RootRule → ℕ → List ℤ → List ℤ → List ℤ → List ℤ → List ℤ → List ℕ → Outcome Certificate
 rootCall rule need f h w scratch out numbers =
     cond (testFits need (fits modelSize f) h w scratch out numbers)
-    (rootNeeding rule need (length scratch) (areaModel f)
-    (candidateModel (areaCandidate h)) (candidateModel (areaCandidate w)))
+    (rootNeeding rule need (length scratch) (areaModel f) (areaCandidate h) (areaCandidate w))
     shortTest
 
 abbrev pub quotientAnswer : List ℤ → List ℤ → List ℤ → List ℤ → List ℤ → List ℤ → List ℕ → TestAnswer

@@ -7,7 +7,7 @@ use Prim.Native.Nat.{ℕ, _≤_}
 use lib.IntN.{ℤ}
 use lib.ListN.{length}
 use borrow.Author.Tests.{le-leb}
-use Rattle.model.specs.definitions.Models.{productSize, candidateModel}
+use Rattle.model.specs.definitions.Models.{productSize}
 use Rattle.model.specs.definitions.Area.{modelSize, candidateSize, areaModel, areaCandidate, fits, areaOut}
 use Rattle.certificate.specs.definitions.Tests.{scratchSize}
 use Rattle.certificate.specs.declared.types.RootRule.{RootRule}
@@ -33,12 +33,12 @@ module _ (scratch former : List ℤ) (room : scratchSize ≤ length scratch) (ro
     pub quotient-call-as-65 : (f g : List ℤ) → quotientCall scratchSize f g h w scratch out numbers ≡ quotientCall productSize f g h w former out numbers
     quotient-call-as-65 f g =
         ap₂ (λ t o. cond t o shortTest) (same-fits (fits modelSize f && fits modelSize g))
-        (quotient-as-65 (areaModel f) (areaModel g) (candidateModel (areaCandidate h)) (candidateModel (areaCandidate w)) room room′)
+        (quotient-as-65 (areaModel f) (areaModel g) (areaCandidate h) (areaCandidate w) room room′)
 
     pub root-call-as-65 : (rule : RootRule) (f : List ℤ) → rootCall rule scratchSize f h w scratch out numbers ≡ rootCall rule productSize f h w former out numbers
     root-call-as-65 rule f =
         ap₂ (λ t o. cond t o shortTest) (same-fits (fits modelSize f))
-        (root-as-65 rule (areaModel f) (candidateModel (areaCandidate h)) (candidateModel (areaCandidate w)) room room′)
+        (root-as-65 rule (areaModel f) (areaCandidate h) (areaCandidate w) room room′)
 
   pub selection-call-as-65 : (f g first second : List ℤ) (answer : List ℕ)
       → selectionCall scratchSize f g first second scratch answer ≡ selectionCall productSize f g first second former answer

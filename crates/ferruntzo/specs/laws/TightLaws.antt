@@ -7,11 +7,9 @@ use mathlib.Core.List.{List}
 use Prim.Native.Nat.{ℕ, _≤_}
 use lib.IntN.{ℤ}
 use lib.ListN.{length}
-use Rattle.model.specs.definitions.Models.{candidateModel}
 use Rattle.model.specs.definitions.Outcomes.{Outcome, accepted}
 use Rattle.model.specs.definitions.Area.{modelSize, areaModel, areaCandidate, fits}
 use Rattle.model.specs.laws.PlaceLaws.{refused-not-accepted}
-use Rattle.model.specs.declared.types.Model.{Model}
 use Rattle.certificate.specs.definitions.Tests.{scratchSize, Certificate}
 use Rattle.certificate.specs.definitions.Root.{rootTest}
 use Rattle.certificate.specs.declared.types.RootRule.{RootRule}
@@ -23,12 +21,6 @@ module _ (f h w : List ℤ) where
   -- the test of a call whose areas fit
   abbrev test : RootRule → List ℤ → Outcome Certificate
   test rule scratch = rootTest rule (length scratch) (areaModel f) (areaCandidate h) (areaCandidate w)
-
-  abbrev h′ : Model
-  h′ = candidateModel (areaCandidate h)
-
-  abbrev w′ : Model
-  w′ = candidateModel (areaCandidate w)
 
   module _ (scratch out : List ℤ) (numbers : List ℕ) where
     -- an accepted call is an accepted test
@@ -45,12 +37,12 @@ module _ (f h w : List ℤ) where
       where
         pick : (t : Bool) {c : Certificate} → cond t (test ByLeastRadius scratch) shortTest ≡ accepted c
             → (d : Certificate) × (cond t (test ByDiscriminant scratch) shortTest ≡ accepted d)
-        pick true e = (_, tight-implies-root (length scratch) (areaModel f) h′ w′ e)
+        pick true e = (_, tight-implies-root (length scratch) (areaModel f) (areaCandidate h) (areaCandidate w) e)
         pick false e = absurd (refused-not-accepted e)
 
   module _ (scratch out scratch′ out′ : List ℤ) (numbers numbers′ : List ℕ) where
     pub tight-call-not-larger : {c d : Certificate} → rootCall ByLeastRadius scratchSize f h w scratch out numbers ≡ accepted c
         → rootCall ByDiscriminant scratchSize f h w scratch′ out′ numbers′ ≡ accepted d → c .model .radius ≤ d .model .radius
     tight-call-not-larger e k =
-        tight-not-larger (length scratch) (areaModel f) h′ w′ (call-accepted scratch out numbers ByLeastRadius e)
+        tight-not-larger (length scratch) (areaModel f) (areaCandidate h) (areaCandidate w) (call-accepted scratch out numbers ByLeastRadius e)
         (length scratch′) (call-accepted scratch′ out′ numbers′ ByDiscriminant k)

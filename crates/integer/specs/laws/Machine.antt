@@ -1,7 +1,7 @@
 -- From plain facts about whole numbers to what signed code asks: that a number fits a width, and what division leaves.
 -- In a code proof every signed operand shows as `toZ w (ofZ w z)`; `toZ-ofZ` with `SFits w z` reads it back.
 use mathlib.Core.Path.{_≡_, refl, sym, _∙_, ap, subst}
-use mathlib.Core.Bool.{true, false}
+use mathlib.Core.Bool.{Bool, true, false, _&&_}
 use Prim.Native.Nat.{ℕ, suc, _-_, _*_, _/_, _%_, _≤_, _<_, _^_, zero-le}
 use native.Mathlib.Omega.{arith}
 use native.Mathlib.Nat.{div-le-self, mod-lt, div-add-mod, lt-of-lt-of-le}
@@ -62,6 +62,10 @@ lt-true a b e = ltZ-yes (subst T (sym e) tt)
 
 pub lt-false : (a b : ℤ) → ltZ a b ≡ false → b ≤ℤ a
 lt-false a b e = ≤-parts b a .1 (lt-no a b e)
+
+pub both-true : (a b : Bool) → (a && b) ≡ true → (a ≡ true) × (b ≡ true)
+both-true true b e = (refl, e)
+both-true false b e = (e, cc)
 
 -- ---- a positive divisor
 

@@ -6,6 +6,9 @@ use lib.Dec.{ltb}
 use lib.IntN.{ℤ, pos, negsuc}
 use lib.ListN.{getD}
 use Rattle.model.specs.definitions.Models.{coefficientCount, makeModel}
+use Rattle.model.specs.definitions.Intervals.{makeInterval}
+use Rattle.model.specs.declared.types.Candidate.{Candidate}
+use Rattle.model.specs.declared.types.Interval.{Interval}
 use Rattle.model.specs.declared.types.Model.{Model}
 
 -- the byte at a position
@@ -25,6 +28,13 @@ unfoldable pub signedsAt : List ℕ → ℕ → ℕ → List ℤ
 signedsAt s i zero = []
 signedsAt s i (suc n) = signed (unsignedAt s i) ∷ signedsAt s (i + 4) n
 
--- the block from i on, with a radius
-abbrev pub blockAt : List ℕ → ℕ → ℕ → Model
-blockAt s i e = makeModel (byteAt s i) (signedsAt s (i + 1) coefficientCount) e
+-- the block from i on as a candidate, and as a model with a radius and an interval
+abbrev pub candidateAt : List ℕ → ℕ → Candidate
+candidateAt s i = record { degree = byteAt s i; coefficients = signedsAt s (i + 1) coefficientCount }
+
+abbrev pub blockAt : List ℕ → ℕ → ℕ → Interval → Model
+blockAt s i e j = makeModel (byteAt s i) (signedsAt s (i + 1) coefficientCount) e j
+
+-- 02, S-24: "l and u, signed 32-bit"
+abbrev pub intervalAt : List ℕ → ℕ → Interval
+intervalAt s i = makeInterval (signed (unsignedAt s i)) (signed (unsignedAt s (i + 4)))

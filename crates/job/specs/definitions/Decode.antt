@@ -3,12 +3,13 @@ use mathlib.Core.Bool.{cond}
 use mathlib.Core.List.{List, [], _∷_}
 use Prim.Native.Nat.{ℕ, _+_}
 use lib.Dec.{eqb}
+use Rattle.model.specs.definitions.Intervals.{standardInterval}
 use Rattle.model.specs.definitions.Models.{maxDegree}
 use Rattle.certificate.specs.declared.types.RootRule.the-variants.{ByDiscriminant, ByLeastRadius}
-use Rattle.job.specs.definitions.Bytes.{byteAt, unsignedAt, blockAt}
+use Rattle.job.specs.definitions.Bytes.{byteAt, unsignedAt, candidateAt, blockAt, intervalAt}
 use Rattle.job.specs.definitions.Operations.{Maker, load, add, subtract, multiply, quotient, root, makingFor, namesIn}
 use Rattle.job.specs.declared.types.Operation.{Operation}
-use Rattle.job.specs.declared.types.Operation.the-variants.{Load, Add, Subtract, Multiply, Quotient, Root}
+use Rattle.job.specs.declared.types.Operation.the-variants.{Load, Add, Subtract, Multiply, LoadOn, Quotient, Root}
 use Rattle.job.specs.declared.types.Kind.{Kind}
 use Rattle.job.specs.declared.types.Kind.the-variants.{End, Edition, Result, Unknown}
 use Rattle.job.specs.declared.types.Names.{Names}
@@ -18,6 +19,7 @@ use Rattle.job.specs.declared.types.OperandValues.the-variants.{Any, Edi
 use Rattle.job.specs.declared.types.Shape.{Shape}
 
 -- 01's table of commands: the byte of each; 02, S-22: "Add command 0x22, with the operands of 0x21."
+-- S-24: "Command 0x14 loads a model with l and u, signed 32-bit, after the radius; 0x10 … mean −S and S."
 abbrev pub commandBytes : List (ℕ × Kind)
 commandBytes =
     (0x00, End)
@@ -26,6 +28,7 @@ commandBytes =
     ∷ (0x11, Result Add)
     ∷ (0x12, Result Subtract)
     ∷ (0x13, Result Multiply)
+    ∷ (0x14, Result LoadOn)
     ∷ (0x20, Result Quotient)
     ∷ (0x21, Result (Root ByDiscriminant))
     ∷ (0x22, Result (Root ByLeastRadius))
@@ -54,8 +57,16 @@ pub record OperationRow : Type 0 where
   pub maker : List ℕ → ℕ → Maker
 
 abbrev pub operationRow : Operation → OperationRow
-operationRow Load =
-    record { width = 137; values = Any; maker = λ job at. load (blockAt job (at + 1) (unsignedAt job (at + 134))) }
+operationRow Load = record {
+  width = 137;
+  values = Any;
+  maker = λ job at. load (blockAt job (at + 1) (unsignedAt job (at + 134)) standardInterval);
+}
+operationRow LoadOn = record {
+  width = 145;
+  values = Any;
+  maker = λ job at. load (blockAt job (at + 1) (unsignedAt job (at + 134)) (intervalAt job (at + 138)));
+}
 operationRow Add =
     record { width = 2; values = Any; maker = λ job at. add (byteAt job (at + 1)) (byteAt job (at + 2)) }
 operationRow Subtract =
@@ -68,12 +79,12 @@ operationRow Multiply = record {
 operationRow Quotient = record {
   width = 268;
   values = Any;
-  maker = λ job at. quotient (byteAt job (at + 1)) (byteAt job (at + 2)) (blockAt job (at + 3) 0) (blockAt job (at + 136) 0);
+  maker = λ job at. quotient (byteAt job (at + 1)) (byteAt job (at + 2)) (candidateAt job (at + 3)) (candidateAt job (at + 136));
 }
 operationRow (Root rule) = record {
   width = 267;
   values = Any;
-  maker = λ job at. root rule (byteAt job (at + 1)) (blockAt job (at + 2) 0) (blockAt job (at + 135) 0);
+  maker = λ job at. root rule (byteAt job (at + 1)) (candidateAt job (at + 2)) (candidateAt job (at + 135));
 }
 
 -- how many results a command names does not depend on the job's bytes, so the maker on the empty job tells it

@@ -8,6 +8,7 @@ use lib.IntN.{pos}
 use Rattle.integer.specs.definitions.Fraction.{ℚ, whole, _+ℚ_, _-ℚ_, _*ℚ_, _≤ℚ_, ∣_∣ℚ, _/ℚ_}
 use Rattle.model.specs.definitions.Allowed.{Allows}
 use Rattle.certificate.specs.declared.types.RootRule.{RootRule}
+use Rattle.model.specs.declared.types.Candidate.{Candidate}
 use Rattle.model.specs.declared.types.Model.{Model}
 use Rattle.job.specs.definitions.Operations.{Maker, load, add, subtract, multiply, quotient, root, Making}
 use Rattle.job.specs.definitions.Operations.{of-none, of-one, of-two, makingFor}
@@ -23,9 +24,9 @@ pub data Exact (cs : List Command) (x : ℚ) (v : ℕ → ℚ) : ℕ → Type 0 
       → v i ≡ v j -ℚ v k → Exact cs x v i
   multiply-value : (i j k d : ℕ) → commandFor cs i ≡ result (multiply j k d) → Exact cs x v j → Exact cs x v k
       → v i ≡ v j *ℚ v k → Exact cs x v i
-  quotient-value : (i j k : ℕ) (h w : Model) → commandFor cs i ≡ result (quotient j k h w) → Exact cs x v j → Exact cs x v k
+  quotient-value : (i j k : ℕ) (h w : Candidate) → commandFor cs i ≡ result (quotient j k h w) → Exact cs x v j → Exact cs x v k
       → ¬ (v k ≡ whole (pos 0)) → v i ≡ v j /ℚ v k → Exact cs x v i
-  root-value : (i j : ℕ) (rule : RootRule) (h w : Model) → commandFor cs i ≡ result (root rule j h w) → Exact cs x v j
+  root-value : (i j : ℕ) (rule : RootRule) (h w : Candidate) → commandFor cs i ≡ result (root rule j h w) → Exact cs x v j
       → whole (pos 0) ≤ℚ v i → v i *ℚ v i ≡ v j → Exact cs x v i
 
 -- ---- values by a choice: `choice i` is the value taken for a load, and for a root a fraction whose square is under it

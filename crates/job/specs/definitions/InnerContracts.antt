@@ -29,7 +29,7 @@ abbrev pub Sized : List Model → Type 0
 Sized [] = Unit
 Sized (m ∷ rs) = (length (m .coefficients) ≡ coefficientCount) × Sized rs
 
--- a work area holds these results, with t behind its 1,120 numbers
+-- a work area holds these results, with t behind its 1,184 numbers
 pub record Holds (w : List ℤ) (count : ℕ) (rs : List Model) (t : List ℤ) : Type 0 where
   pub work-is : w ≡ workWith rs ++ t
   pub count-is : count ≡ length rs

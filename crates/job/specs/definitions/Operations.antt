@@ -15,17 +15,18 @@ use Rattle.certificate.specs.definitions.Tests.{Certificate, makeCertificate, z
 use Rattle.certificate.specs.definitions.Quotient.{quotientPlacesBehind, quotientCertificate}
 use Rattle.certificate.specs.definitions.Root.{rootPlacesBehind, rootCertificate}
 use Rattle.certificate.specs.declared.types.RootRule.{RootRule}
+use Rattle.model.specs.declared.types.Candidate.{Candidate}
 use Rattle.model.specs.declared.types.Model.{Model}
 use Rattle.job.specs.declared.types.Names.{Names}
 use Rattle.job.specs.declared.types.Names.the-variants.{Nothing, One, Two}
 
--- a maker of a result with its operands; a kept degree 0xFF is read as 32, a candidate as a model with radius 0
+-- a maker of a result with its operands; a kept degree 0xFF is read as 32
 pub data Maker : Type 0 where
   load : Model → Maker
   add subtract : ℕ → ℕ → Maker
   multiply : ℕ → ℕ → ℕ → Maker
-  quotient : ℕ → ℕ → Model → Model → Maker
-  root : RootRule → ℕ → Model → Model → Maker
+  quotient : ℕ → ℕ → Candidate → Candidate → Maker
+  root : RootRule → ℕ → Candidate → Candidate → Maker
 
 -- the places that are passed through, and what is given behind them
 pub record Given : Type 0 where

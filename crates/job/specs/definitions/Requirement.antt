@@ -1,13 +1,13 @@
 -- Requirement 3 as one definition, `Requirement3`, the owner's sentences beside its fields, 01's beside what they speak of. What
 -- else a reader believes, besides the library's numbers and lists:
 --   the commands in the bytes, signed numbers among them: Bytes, Decode, Reading, Reader; the types of src/types.rt
---   what each command gives: Operations; model's Models, src/types.rt, Load, Add, Multiply; certificate's Tests, Quotient,
---     Root, src/types.rt; radius's LeastRadius, src/types.rt; chebyshev's Coefficients, Product; integer's Rounding, Ring,
---     Integer
+--   what each command gives: Operations; model's Models, Intervals (18 and 19), src/types.rt, Load, Add, Multiply;
+--     certificate's Tests, Quotient, Root, src/types.rt; radius's LeastRadius, src/types.rt; chebyshev's Coefficients, Product;
+--     integer's Rounding, Ring, Integer
 --   what refusals there are, and their order: `Meets` of Order, `areaPlaces` of Work; model's Outcomes
 --   what the code's answer means: `jobOutcomeOf` of Outcomes; for C, `answerIn`, `exportedPlaces` of ferruntzo's Jobs
 --   where the models stand in the work area: `storedResult`, `modelsIn` of Work; model's Area
---   what a model allows, "from -1 to 1": model's Allowed; chebyshev's Allows, Coefficients, Recurrences
+--   what a model allows, and where: model's Allowed, Intervals; chebyshev's Allows, Coefficients, Recurrences
 --   fractions, their order and division: integer's Fraction, Pairs, FractionRing
 use mathlib.Core.Path.{_≡_}
 use mathlib.Core.Bool.{Bool, false}
@@ -21,6 +21,7 @@ use Rattle.model.specs.definitions.Allowed.{Allows, OnInterval}
 use Rattle.model.specs.definitions.Outcomes.{Outcome}
 use Rattle.certificate.specs.definitions.Tests.{Certificate}
 use Rattle.certificate.specs.declared.types.RootRule.{RootRule}
+use Rattle.model.specs.declared.types.Candidate.{Candidate}
 use Rattle.model.specs.declared.types.Model.{Model}
 use Rattle.job.specs.definitions.Operations.{Maker, load, add, subtract, multiply, quotient, root, namesBad, operation}
 use Rattle.job.specs.definitions.Decode.{Command, result}
@@ -75,14 +76,14 @@ pub data Permitted (cs : List Command) (x : ℚ) (box : ℕ → Box) : ℕ → T
       → ContainsFour _*ℚ_ (box j) (box k) (box i)
       → Permitted cs x box i
   -- "Quotient: the box of g excludes 0, and the new box is any that contains the four quotients of ends."
-  quotient-box : (i j k : ℕ) (h w : Model) → commandFor cs i ≡ result (quotient j k h w)
+  quotient-box : (i j k : ℕ) (h w : Candidate) → commandFor cs i ≡ result (quotient j k h w)
       → Permitted cs x box j → Permitted cs x box k
       → ¬ Lies (whole (pos 0)) (box k)
       → ContainsFour _/ℚ_ (box j) (box k) (box i)
       → Permitted cs x box i
   -- "Root: low = 0 or low > 0 with low² ≤ the old low, and high ≥ 0 with high² ≥ the old high." For 0x21 and 0x22; 02, S-22: "A
   -- job using it is as certain as any other."
-  root-box : (i j : ℕ) (rule : RootRule) (h w : Model) → commandFor cs i ≡ result (root rule j h w) → Permitted cs x box j
+  root-box : (i j : ℕ) (rule : RootRule) (h w : Candidate) → commandFor cs i ≡ result (root rule j h w) → Permitted cs x box j
       → (box i .low ≡ whole (pos 0)) ⊎ ((whole (pos 0) <ℚ box i .low) × ((box i .low *ℚ box i .low) ≤ℚ box j .low))
       → whole (pos 0) ≤ℚ box i .high → box j .high ≤ℚ (box i .high *ℚ box i .high)
       → Permitted cs x box i
@@ -98,10 +99,10 @@ pub record Vouched (cs : List Command) (work : List ℤ) (i : ℕ) (x : ℚ) : T
   -- "Whichever boxes document 01 permits there for it and all it is formed from, … its box overlaps its model"
   pub overlaps : (box : ℕ → Box) → Permitted cs x box i → Overlaps (box i) (storedResult work i) x
   -- "If it is a quotient, no value that the divisor's model allows there is zero;"
-  pub divisor : (j k : ℕ) (h w : Model) → commandFor cs i ≡ result (quotient j k h w)
+  pub divisor : (j k : ℕ) (h w : Candidate) → commandFor cs i ≡ result (quotient j k h w)
       → (v : ℚ) → Allows (storedResult work k) x v → ¬ (v ≡ whole (pos 0))
   -- "if a root, no value that the model under the root allows there is negative."
-  pub radicand : (j : ℕ) (rule : RootRule) (h w : Model) → commandFor cs i ≡ result (root rule j h w)
+  pub radicand : (j : ℕ) (rule : RootRule) (h w : Candidate) → commandFor cs i ≡ result (root rule j h w)
       → (v : ℚ) → Allows (storedResult work j) x v → ¬ (v <ℚ whole (pos 0))
 
 -- what is vouched for of an accepted job
@@ -110,8 +111,9 @@ pub record Results (job : List ℕ) (count : ℕ) (work : List ℤ) : Type 0 whe
   pub read : jobReading job ≡ well commands
   -- "its results are exactly those that document 01 gives for its commands." (`workAfter` of Work has the rest of the area.)
   pub made : Made commands (modelsIn work count)
-  -- "Of each result the following then holds at every fraction from -1 to 1."
-  pub vouched : (i : ℕ) → i < count → (x : ℚ) → OnInterval x → Vouched commands work i x
+  -- "Of each result the following then holds at every fraction from -1 to 1.", with S-24 "at fractions of its own interval in
+  -- place of -1 to 1"
+  pub vouched : (i : ℕ) → i < count → (x : ℚ) → OnInterval (storedResult work i .interval) x → Vouched commands work i x
 
 -- "For every list of bytes …, whatever the lent areas held before:" of the places that the areas can be refused at, the bytes,
 -- the answer, and the work area as left

@@ -1,5 +1,5 @@
--- The work area: "Each result is written into its own 35 numbers of the work area (degree, coefficients, radius; 1,120 signed
--- 32-bit numbers)."
+-- The work area: "Each result is written into its own …" 37 numbers of the work area, with S-24: degree, coefficients, radius,
+-- l and u; "1,184 in all, ends last".
 use mathlib.Core.Bool.{Bool, not, cond, _&&_}
 use mathlib.Core.List.{List, [], _∷_, _++_}
 use Prim.Native.Nat.{ℕ, zero, suc, _+_, _*_, _-_}
@@ -15,7 +15,7 @@ use Rattle.job.specs.definitions.Run.{jobOutcome}
 
 -- the numbers of the whole area
 abbrev pub workSize : ℕ
-workSize = 1120
+workSize = 1184
 
 -- the model of result i in a work area
 abbrev pub storedResult : List ℤ → ℕ → Model
@@ -34,7 +34,7 @@ unfoldable pub resultWords : List Model → List ℤ
 resultWords [] = []
 resultWords (m ∷ rs) = words m ++ resultWords rs
 
--- the 1,120 numbers: those of the results, the rest zero
+-- the 1,184 numbers: those of the results, the rest zero
 unfoldable pub workWith : List Model → List ℤ
 workWith rs = resultWords rs ++ zeros (workSize - modelSize * length rs)
 
@@ -66,8 +66,8 @@ abbrev pub resultsIn : JobOutcome (List Model) → List Model
 resultsIn (accepted rs) = rs
 resultsIn (refused n k) = []
 
--- "An accepted job leaves later stretches zero; a refused one leaves all 1,120 zero, save that refusal 1 touches nothing.
--- Numbers behind stay."
+-- "An accepted job leaves later stretches zero; a refused one leaves all" 1,184, in 01 1,120, "zero, save that refusal 1 touches
+-- nothing. Numbers behind stay."
 unfoldable pub workNeeding : ℕ → List ℕ → List ℤ → List ℤ → List ℤ
 workNeeding need job w s = cond (areasFitNeeding need w s) (workWith (resultsIn (jobOutcome job)) ++ drop workSize w) w
 

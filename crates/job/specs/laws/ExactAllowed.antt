@@ -1,6 +1,6 @@
 -- Requirement 3 put to use, from its definition alone: the exact values of an accepted job's results are allowed by their models
 -- in the work area, no divisor is zero, and nothing under a root is negative.
-use mathlib.Core.Path.{_≡_, refl, sym, subst}
+use mathlib.Core.Path.{_≡_, refl, sym, _∙_, ap, subst}
 use mathlib.Core.Bool.{Bool}
 use mathlib.Core.List.{List}
 use mathlib.Core.Logic.{_⊎_, inl, inr}
@@ -11,14 +11,17 @@ use Rattle.integer.specs.definitions.Fraction.{ℚ, whole, _*ℚ_, _≤ℚ_, _<
 use Rattle.integer.specs.laws.FractionOrder.{ℚ-ordered, ≤ℚ-antisym, ≤ℚ-decide}
 use Rattle.model.specs.definitions.Allowed.{Allows, OnInterval}
 use Rattle.certificate.specs.declared.types.RootRule.{RootRule}
+use Rattle.model.specs.declared.types.Candidate.{Candidate}
 use Rattle.model.specs.declared.types.Model.{Model}
-use Rattle.job.specs.definitions.Operations.{quotient, root}
+use Rattle.job.specs.definitions.Operations.{Maker, quotient, root, makingFor}
 use Rattle.job.specs.definitions.Decode.{Command, result}
 use Rattle.job.specs.definitions.Reader.{commandFor}
 use Rattle.job.specs.definitions.Outcomes.{JobOutcome, accepted}
 use Rattle.job.specs.definitions.Work.{storedResult}
 use Rattle.job.specs.definitions.Requirement.{Box, Lies, Permitted, load-box, add-box, subtract-box, multiply-box, quotient-box, root-box, Results, Requirement3}
-use Rattle.job.specs.definitions.ExactValues.{Exact, load-value, add-value, subtract-value, multiply-value, quotient-value, root-value}
+use Rattle.job.specs.definitions.ExactValues.{Exact, load-value, add-value, subtract-value, multiply-value, quotient-value, root-value, NamedBy}
+use Rattle.job.specs.laws.Claim.{same-interval}
+use Rattle.job.specs.laws.WorkLaws.{modelsIn-at}
 
 -- ---- boxes of single fractions
 
@@ -61,27 +64,37 @@ module _ {areas : List (Bool × ℕ)} {job : List ℕ} {answer : JobOutcome ℕ}
   abbrev pub cs : List Command
   cs = vouchedFor .commands
 
-  module _ (x : ℚ) (on : OnInterval x) where
+  -- a fraction of a result's own interval
+  abbrev pub OnResult : ℚ → ℕ → Type 0
+  OnResult x i = OnInterval (storedResult work i .interval) x
+
+  -- is one of the intervals of the results that its command names
+  pub on-named : (x : ℚ) {i : ℕ} → i < count → (m : Maker) → commandFor cs i ≡ result m → (j : ℕ) → j < count → NamedBy (makingFor m) j → OnResult x i → OnResult x j
+  on-named x {i} hi m f j hj n on =
+      subst (λ k. OnInterval k x)
+      (ap (λ (r : Model). r .interval) (sym (modelsIn-at work count i hi)) ∙ same-interval (vouchedFor .made) i m f j n ∙ ap (λ (r : Model). r .interval) (modelsIn-at work count j hj)) on
+
+  module _ (x : ℚ) where
     -- it is allowed by the result's model in the work area
-    pub exact-allowed : {v : ℕ → ℚ} {i : ℕ} → i < count → Exact cs x v i → Allows (storedResult work i) x (v i)
-    exact-allowed {v} {i} h p =
+    pub exact-allowed : {v : ℕ → ℚ} {i : ℕ} → i < count → OnResult x i → Exact cs x v i → Allows (storedResult work i) x (v i)
+    exact-allowed {v} {i} h on p =
         let o = vouchedFor .vouched i h x on .overlaps (λ j. point (v j)) (exact-permitted p) in
         subst (λ z. Allows (storedResult work i) x z) (point-is (o .lies)) (o .allowed)
 
     -- no value that the divisor's model allows is zero
-    pub allowed-divisor : (u : ℚ) {i j k : ℕ} {h w : Model} → i < count → commandFor cs i ≡ result (quotient j k h w)
+    pub allowed-divisor : (u : ℚ) {i j k : ℕ} {h w : Candidate} → i < count → OnResult x i → commandFor cs i ≡ result (quotient j k h w)
         → Allows (storedResult work k) x u → ¬ (u ≡ whole (pos 0))
-    allowed-divisor u {i} {j} {k} {h} {w} hi f a = vouchedFor .vouched i hi x on .divisor j k h w f u a
+    allowed-divisor u {i} {j} {k} {h} {w} hi on f a = vouchedFor .vouched i hi x on .divisor j k h w f u a
 
     -- no divisor is zero
-    pub exact-divisor : {v : ℕ → ℚ} {i j k : ℕ} {h w : Model} → i < count → k < count → commandFor cs i ≡ result (quotient j k h w)
+    pub exact-divisor : {v : ℕ → ℚ} {i j k : ℕ} {h w : Candidate} → i < count → k < count → OnResult x i → commandFor cs i ≡ result (quotient j k h w)
         → Exact cs x v k → ¬ (v k ≡ whole (pos 0))
-    exact-divisor {v} {k = k} hi hk f p = allowed-divisor (v k) hi f (exact-allowed hk p)
+    exact-divisor {v} {i} {j} {k} {h} {w} hi hk on f p = allowed-divisor (v k) hi on f (exact-allowed hk (on-named x hi (quotient j k h w) f k hk (inr refl) on) p)
 
     -- what the model under a root allows is not negative
-    pub exact-radicand : (u : ℚ) {i j : ℕ} {rule : RootRule} {h w : Model} → i < count → commandFor cs i ≡ result (root rule j h w)
+    pub exact-radicand : (u : ℚ) {i j : ℕ} {rule : RootRule} {h w : Candidate} → i < count → OnResult x i → commandFor cs i ≡ result (root rule j h w)
         → Allows (storedResult work j) x u → whole (pos 0) ≤ℚ u
-    exact-radicand u {i} {j} {rule} {h} {w} hi f a = pick (≤ℚ-decide (whole (pos 0)) u)
+    exact-radicand u {i} {j} {rule} {h} {w} hi on f a = pick (≤ℚ-decide (whole (pos 0)) u)
       where
         pick : (whole (pos 0) ≤ℚ u) ⊎ ¬ (whole (pos 0) ≤ℚ u) → whole (pos 0) ≤ℚ u
         pick (inl p) = p

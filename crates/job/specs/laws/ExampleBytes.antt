@@ -3,7 +3,8 @@ use mathlib.Core.List.{List, [], _∷_, _++_}
 use Prim.Native.Nat.{ℕ, zero, suc, _*_, _-_, _/_, _%_}
 use lib.IntN.{ℤ, pos}
 use lib.ListN.{replicate, length}
-use Rattle.model.specs.definitions.Models.{makeModel}
+use Rattle.model.specs.definitions.Models.{standardModel}
+use Rattle.model.specs.declared.types.Candidate.{Candidate}
 use Rattle.model.specs.declared.types.Model.{Model}
 
 -- natural numbers as four bytes each, the lowest first
@@ -19,7 +20,10 @@ positives [] = []
 positives (n ∷ ns) = pos n ∷ positives ns
 
 abbrev pub modelBy : ℕ → List ℕ → ℕ → Model
-modelBy n cs e = makeModel n (positives cs ++ replicate (33 - length cs) (pos 0)) e
+modelBy n cs e = standardModel n (positives cs ++ replicate (33 - length cs) (pos 0)) e
+
+abbrev pub candidateBy : ℕ → List ℕ → Candidate
+candidateBy n cs = record { degree = n; coefficients = positives cs ++ replicate (33 - length cs) (pos 0) }
 
 -- the bytes of edition 1, some commands, and an end
 abbrev pub job : List ℕ → List ℕ

@@ -5,7 +5,8 @@ use Prim.Native.Nat.{ℕ}
 use Rattle.integer.specs.definitions.Rounding.{upℕ, near, floor}
 use Rattle.chebyshev.specs.definitions.Coefficients.{weight, addLists, subtractLists, scaleList, coefficientSum}
 use Rattle.chebyshev.specs.definitions.Product.{product, addAtBy, addPairBy, addTermBy, addTermsBy}
-use Rattle.model.specs.definitions.Models.{good, tooLarge, zeroModel}
+use Rattle.model.specs.definitions.Intervals.{goodEnds, sameInterval}
+use Rattle.model.specs.definitions.Models.{partsWithinLimits, good, tooLarge, zeroModel}
 use Rattle.model.specs.definitions.Outcomes.{passing}
 use Rattle.model.specs.definitions.Add.{sumModel, differenceModel}
 use Rattle.model.specs.definitions.Multiply.{productModel, productList, productLoss}
@@ -24,7 +25,7 @@ use Rattle.job.specs.definitions.Reader.{readFrom, jobReading, well}
 use Rattle.job.specs.definitions.Outcomes.{accepted}
 use Rattle.job.specs.definitions.Step.{command}
 use Rattle.job.specs.definitions.Run.{run, jobOutcome}
-use Rattle.job.specs.laws.ExampleBytes.{wordsFor, block, modelBy}
+use Rattle.job.specs.laws.ExampleBytes.{candidateBy, wordsFor, block, modelBy}
 
 -- edition 1; the commands below; end
 abbrev pub exampleJob : List ℕ
@@ -52,16 +53,16 @@ exampleCommands =
     result (load (modelBy 0 (2097152 ∷ []) 16384))
     ∷ result (load (modelBy 1 (0 ∷ 1048576 ∷ []) 16384))
     ∷ result (multiply 0 0 0)
-    ∷ result (root ByDiscriminant 2 (modelBy 0 (2097152 ∷ []) 0) (modelBy 0 (262144 ∷ []) 0))
+    ∷ result (root ByDiscriminant 2 (candidateBy 0 (2097152 ∷ [])) (candidateBy 0 (262144 ∷ [])))
     ∷ result (add 3 1)
     ∷ result (subtract 4 3)
     ∷ result (multiply 4 4 32)
-    ∷ result (quotient 6 3 (modelBy 2 (2359296 ∷ 2097152 ∷ 262144 ∷ []) 0) (modelBy 0 (524288 ∷ []) 0))
-    ∷ result (root ByDiscriminant 6 (modelBy 1 (2097152 ∷ 1048576 ∷ []) 0) (modelBy 0 (262144 ∷ []) 0))
+    ∷ result (quotient 6 3 (candidateBy 2 (2359296 ∷ 2097152 ∷ 262144 ∷ [])) (candidateBy 0 (524288 ∷ [])))
+    ∷ result (root ByDiscriminant 6 (candidateBy 1 (2097152 ∷ 1048576 ∷ [])) (candidateBy 0 (262144 ∷ [])))
     ∷ result (add 8 3)
     ∷ result (multiply 8 3 32)
     ∷ result (load (modelBy 0 (4194308 ∷ []) 4))
-    ∷ result (root ByLeastRadius 11 (modelBy 0 (2097152 ∷ []) 0) (modelBy 0 (262144 ∷ []) 0))
+    ∷ result (root ByLeastRadius 11 (candidateBy 0 (2097152 ∷ [])) (candidateBy 0 (262144 ∷ [])))
     ∷ []
 
 abbrev pub exampleResults : List Model
@@ -86,5 +87,5 @@ unfolding jobReading readFrom readingPlaces makerAt signedsAt passing
 example-read = refl
 
 pub example-run : jobOutcome exampleJob ≡ accepted exampleResults
-unfolding jobOutcome run command operation makerPlaces readingPlaces makerAt signedsAt rootPlaces quotientContraction quotientResidual quotientModel rootContraction rootResidual rootModel leastRadius firstOf displacement coefficientSum sumModel differenceModel productModel productList productLoss rounded roundingLoss good tooLarge zeroModel weight addLists subtractLists scaleList addAtBy addPairBy addTermBy addTermsBy product upℕ near floor passing
+unfolding jobOutcome run command operation makerPlaces readingPlaces makerAt signedsAt rootPlaces quotientContraction quotientResidual quotientModel rootContraction rootResidual rootModel leastRadius firstOf displacement coefficientSum sumModel differenceModel productModel productList productLoss rounded roundingLoss sameInterval goodEnds partsWithinLimits good tooLarge zeroModel weight addLists subtractLists scaleList addAtBy addPairBy addTermBy addTermsBy product upℕ near floor passing
 example-run = refl

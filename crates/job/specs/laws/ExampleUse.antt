@@ -1,6 +1,6 @@
 -- Requirement 3 put to use on the job of ExampleJob.antt, from its definition alone and over areas that are long enough: the job is
 -- accepted with its thirteen results, each is the model that 01 gives for it, and allows its exact value at 1/3.
-use mathlib.Core.Path.{_≡_, ap, sym, _∙_, subst, subst⁻¹}
+use mathlib.Core.Path.{_≡_, refl, ap, sym, _∙_, subst, subst⁻¹}
 use mathlib.Core.Bool.{Bool}
 use mathlib.Core.List.{List}
 use mathlib.Core.Logic.{inl, inr}
@@ -22,15 +22,23 @@ use Rattle.job.specs.laws.Accepted.{accepted-read}
 use Rattle.job.specs.definitions.Work.{storedResult, modelsIn}
 use Rattle.job.specs.definitions.Requirement.{Permitted, Overlaps, Made, Results, Requirement3}
 use Rattle.job.specs.laws.MadeUnique.{made-unique}
-use Rattle.job.specs.laws.WorkLaws.{length-modelsIn}
+use Rattle.job.specs.laws.WorkLaws.{length-modelsIn, modelsIn-at}
+use Rattle.job.specs.definitions.Operations.{resultAt}
+use Rattle.model.specs.definitions.Intervals.{standardInterval}
+use Rattle.model.specs.laws.StandardInterval.{on-standard}
+use Rattle.model.specs.declared.types.Model.{Model}
 use Rattle.job.specs.definitions.ExactValues.{Exact}
 use Rattle.job.specs.laws.ExampleJob.{exampleJob, exampleCommands, exampleResults, example-read, example-run}
-use Rattle.job.specs.laws.ExampleValues.{third, exampleValue, example-exact}
+use Rattle.job.specs.laws.ExampleValues.{upto-at, third, exampleValue, example-exact}
 use Rattle.job.specs.laws.ExampleBoxes.{exampleBox, example-permitted}
 use Rattle.job.specs.laws.ExactAllowed.{exact-allowed}
 
-inside : OnInterval third
-inside = record { above = simp (whole-is, fraction-neg, fraction-le, den-is) (leZ-yes tt); below = simp (whole-is, fraction-le, den-is) (leZ-yes tt) }
+inside : OnInterval standardInterval third
+inside = on-standard (simp (whole-is, fraction-neg, fraction-le, den-is) (leZ-yes tt)) (simp (whole-is, fraction-le, den-is) (leZ-yes tt))
+
+-- all its results are on −S and S
+all-standard : (i : ℕ) → i < 13 → resultAt exampleResults i .interval ≡ standardInterval
+all-standard = upto-at (λ i. resultAt exampleResults i .interval ≡ standardInterval) 13 (((((((((((((tt, refl), refl), refl), refl), refl), refl), refl), refl), refl), refl), refl), refl), refl)
 
 -- ---- the job meets no numbered refusal
 
@@ -71,14 +79,19 @@ module _ {areas : List (Bool × ℕ)} {answer : JobOutcome ℕ} {work : List ℤ
   pub example-models : modelsIn work 13 ≡ exampleResults
   example-models = ap (modelsIn work) (sym count-is) ∙ models-are
 
+  inside-at : (i : ℕ) → i < 13 → OnInterval (storedResult work i .interval) third
+  inside-at i h =
+      let e : storedResult work i ≡ resultAt exampleResults i = sym (modelsIn-at work 13 i h) ∙ ap (λ l. resultAt l i) example-models in
+      subst⁻¹ (λ k. OnInterval k third) (ap (λ (m : Model). m .interval) e ∙ all-standard i h) inside
+
   -- its exact values at 1/3 are allowed by the models in the work area
   pub example-allowed : (i : ℕ) → i < 13 → Allows (storedResult work i) third (exampleValue i)
   example-allowed i h =
-      exact-allowed claim (answered .1) third inside (omega (arith, count-is))
+      exact-allowed claim (answered .1) third (omega (arith, count-is)) (inside-at i h)
       (subst⁻¹ (λ l. Exact l third exampleValue i) commands-are (example-exact i h))
 
   -- and its boxes overlap them
   pub example-overlaps : (i : ℕ) → i < 13 → Overlaps (exampleBox i) (storedResult work i) third
   example-overlaps i h =
-      results .vouched i (omega (arith, count-is)) third inside .overlaps exampleBox
+      results .vouched i (omega (arith, count-is)) third (inside-at i h) .overlaps exampleBox
       (subst⁻¹ (λ l. Permitted l third exampleBox i) commands-are (example-permitted i h))

@@ -24,6 +24,8 @@ use Rattle.chebyshev.specs.laws.CoefficientLaws.{value-constant}
 use Rattle.chebyshev.specs.definitions.Allows.{allows}
 use Rattle.model.specs.definitions.Models.{scale}
 use Rattle.model.specs.definitions.Allowed.{position, AllowsAt, Allows}
+use Rattle.model.specs.definitions.Intervals.{standardInterval}
+use Rattle.model.specs.laws.StandardInterval.{position-standard}
 use Rattle.model.specs.laws.ValueLaws.{valueAt, valueAt-append-zeros}
 use Rattle.model.specs.declared.types.Model.{Model}
 use Rattle.job.specs.laws.ExampleJob.{exampleCommands}
@@ -57,7 +59,7 @@ exampleValue i = getD exampleValues i (whole (pos 0))
 
 -- ---- a fact for each number below n
 
-abbrev Upto : (ℕ → Type 0) → ℕ → Type 0
+abbrev pub Upto : (ℕ → Type 0) → ℕ → Type 0
 Upto P zero = Unit {0}
 Upto P (suc n) = Upto P n × P n
 
@@ -71,14 +73,17 @@ upto-at P (suc n) f i h = by (eqb i n) refl (λ g. upto-at P n (f .0) i g)
 
 -- ---- what the loads allow
 
-near-centre : (m : Model) (x v c : ℚ) → valueAt x (m .coefficients) ≡ c → ∣ v *ℚ whole (pos scale) -ℚ c ∣ℚ ≤ℚ whole (pos (m .radius)) → Allows m x v
-unfolding position AllowsAt allows
-near-centre m x v c e h = rw e h
+centred : (m : Model) (y v c : ℚ) → valueAt y (m .coefficients) ≡ c → ∣ v *ℚ whole (pos scale) -ℚ c ∣ℚ ≤ℚ whole (pos (m .radius)) → AllowsAt m y v
+unfolding AllowsAt allows
+centred m y v c e h = rw e h
+
+near-centre : (m : Model) (x v c : ℚ) → m .interval ≡ standardInterval → valueAt x (m .coefficients) ≡ c → ∣ v *ℚ whole (pos scale) -ℚ c ∣ℚ ≤ℚ whole (pos (m .radius)) → Allows m x v
+near-centre m x v c on e h = subst⁻¹ (λ i. AllowsAt m (position i x) v) on (subst⁻¹ (λ y. AllowsAt m y v) (position-standard x) (centred m x v c e h))
 
 -- a load of degree 0
 near-constant : (n e : ℕ) (v : ℚ) → ∣ v *ℚ whole (pos scale) -ℚ whole (pos n) ∣ℚ ≤ℚ whole (pos e) → Allows (modelBy 0 (n ∷ []) e) third v
 near-constant n e v =
-    near-centre (modelBy 0 (n ∷ []) e) third v (whole (pos n))
+    near-centre (modelBy 0 (n ∷ []) e) third v (whole (pos n)) refl
     (valueAt-append-zeros third (pos n ∷ []) 32 ∙ value-constant ℚ-ring third (whole (pos n)))
 
 pub allows-a : Allows (modelBy 0 (2097152 ∷ []) 16384) third (exampleValue 0)
@@ -89,7 +94,7 @@ allows-a =
 pub allows-b : Allows (modelBy 1 (0 ∷ 1048576 ∷ []) 16384) third (exampleValue 1)
 unfolding value valueFrom firstKind
 allows-b =
-    near-centre (modelBy 1 (0 ∷ 1048576 ∷ []) 16384) third (exampleValue 1) (third *ℚ whole (pos 1048576))
+    near-centre (modelBy 1 (0 ∷ 1048576 ∷ []) 16384) third (exampleValue 1) (third *ℚ whole (pos 1048576)) refl
     (valueAt-append-zeros third (pos 0 ∷ pos 1048576 ∷ []) 31 ∙ solveℚ (third ∷ []) (search reifyℚ depth 12) (search reifyℚ depth 12) tt)
     (simp (whole-is, fraction-mul, fraction-neg, fraction-add, fraction-abs, ∣∣-is, fraction-le, den-mul, den-is) (leZ-yes tt))
 

@@ -9,7 +9,7 @@ use native.Mathlib.Omega.{arith}
 use borrow.Author.Tests.{leb-false}
 use lib.IntN.{ℤ, pos}
 use Rattle.integer.specs.definitions.Fraction.{ℚ, whole, _+ℚ_, _-ℚ_, _*ℚ_, _≤ℚ_, _<ℚ_, _/ℚ_}
-use Rattle.model.specs.definitions.Allowed.{Allows, OnInterval}
+use Rattle.model.specs.definitions.Allowed.{Allows}
 use Rattle.job.specs.definitions.Operations.{Maker, load, add, subtract, multiply, quotient, root}
 use Rattle.job.specs.definitions.Decode.{Command, result}
 use Rattle.job.specs.definitions.Reader.{commandFor}
@@ -17,7 +17,7 @@ use Rattle.job.specs.definitions.Outcomes.{JobOutcome, accepted}
 use Rattle.job.specs.definitions.Work.{storedResult}
 use Rattle.job.specs.laws.CommandLaws.{both-below}
 use Rattle.job.specs.definitions.Requirement.{Box, Lies, ContainsFour, Permitted, load-box, add-box, subtract-box, multiply-box, quotient-box, root-box, Overlaps, Requirement3}
-use Rattle.job.specs.laws.ExactAllowed.{vouchedFor, cs}
+use Rattle.job.specs.laws.ExactAllowed.{OnResult, vouchedFor, cs}
 use Rattle.job.specs.laws.ExactExists.{named, maker}
 
 -- the box of result i by its command
@@ -38,7 +38,7 @@ module _ {areas : List (Bool × ℕ)} {job : List ℕ} {answer : JobOutcome ℕ}
   abbrev commands : List Command
   commands = cs claim e
 
-  module _ (x : ℚ) (on : OnInterval x) (box : ℕ → Box)
+  module _ (x : ℚ) (box : ℕ → Box)
       (formed : (i : ℕ) → i < count → (m : Maker) → commandFor commands i ≡ result m → Formed x box i m) where
     abbrev Fits : ℕ → Type 0
     Fits i = Permitted commands x box i
@@ -67,5 +67,5 @@ module _ {areas : List (Bool × ℕ)} {job : List ℕ} {answer : JobOutcome ℕ}
         by-maker i (m .0) (m .1) (formed i h (m .0) (m .1)) (λ j b. fits n j (omega arith) (omega arith))
 
     -- the box of each result overlaps its model in the work area
-    pub formed-overlaps : (i : ℕ) → i < count → Overlaps (box i) (storedResult work i) x
-    formed-overlaps i h = vouchedFor claim e .vouched i h x on .overlaps box (fits (suc i) i (omega arith) h)
+    pub formed-overlaps : (i : ℕ) → i < count → OnResult claim e x i → Overlaps (box i) (storedResult work i) x
+    formed-overlaps i h on = vouchedFor claim e .vouched i h x on .overlaps box (fits (suc i) i (omega arith) h)

@@ -11,12 +11,13 @@ use Rattle.model.specs.definitions.Load.{loadingPlaces, loading}
 use Rattle.model.specs.definitions.Add.{addition, subtraction}
 use Rattle.model.specs.definitions.Multiply.{multiplication}
 use Rattle.certificate.specs.definitions.Tests.{scratchSize, Certificate, zeroCertificate}
-use Rattle.certificate.specs.definitions.Quotient.{quotientOutcome, quotientNeeding}
-use Rattle.certificate.specs.definitions.Root.{rootPlaces, rootOutcome, rootNeeding}
+use Rattle.certificate.specs.definitions.Quotient.{quotientTest, quotientNeeding}
+use Rattle.certificate.specs.definitions.Root.{rootPlaces, rootTest, rootNeeding}
 use Rattle.certificate.specs.declared.types.RootRule.{RootRule}
 use Rattle.certificate.specs.laws.GroupTheorem.{quotient-as-65, root-as-65}
 use Rattle.certificate.specs.laws.TightTheorem.{tight-implies-root, tight-not-larger}
 use Rattle.certificate.specs.declared.types.RootRule.the-variants.{ByDiscriminant, ByLeastRadius}
+use Rattle.model.specs.declared.types.Candidate.{Candidate}
 use Rattle.model.specs.declared.types.Model.{Model}
 use Rattle.job.specs.definitions.InnerContracts.{untestedOutcome}
 use Rattle.job.specs.definitions.Operations.{load, add, subtract, multiply, quotient, root, untested, resultAt, makerPlaces, operation}
@@ -58,28 +59,29 @@ pub multiply-operation : (i j d : ℕ) (rs : List Model)
 unfolding operation makerPlaces multiplication
 multiply-operation i j d rs = untested-passing _ _
 
-pub quotient-operation : (i j : ℕ) (h w : Model) (rs : List Model)
-    → operation (quotient i j h w) rs ≡ quotientOutcome scratchSize (resultAt rs i) (resultAt rs j) h w
+pub quotient-operation : (i j : ℕ) (h w : Candidate) (rs : List Model)
+    → operation (quotient i j h w) rs ≡ quotientTest scratchSize (resultAt rs i) (resultAt rs j) h w
 unfolding operation makerPlaces quotientNeeding passing
 quotient-operation i j h w rs = refl
 
-pub root-operation : (rule : RootRule) (i : ℕ) (h w : Model) (rs : List Model)
-    → operation (root rule i h w) rs ≡ rootOutcome rule scratchSize (resultAt rs i) h w
+pub root-operation : (rule : RootRule) (i : ℕ) (h w : Candidate) (rs : List Model)
+    → operation (root rule i h w) rs ≡ rootTest rule scratchSize (resultAt rs i) h w
 unfolding operation makerPlaces rootNeeding rootPlaces passing
 root-operation rule i h w rs = refl
 
 -- 02, S-17: in a job too a test gives what 65 gave
-pub quotient-operation-as-65 : (i j : ℕ) (h w : Model) (rs : List Model) {former : ℕ} → productSize ≤ former
+pub quotient-operation-as-65 : (i j : ℕ) (h w : Candidate) (rs : List Model) {former : ℕ} → productSize ≤ former
     → operation (quotient i j h w) rs ≡ quotientNeeding productSize former (resultAt rs i) (resultAt rs j) h w
 quotient-operation-as-65 i j h w rs room =
     quotient-operation i j h w rs ∙ quotient-as-65 (resultAt rs i) (resultAt rs j) h w (le-refl scratchSize) room
 
-pub root-operation-as-65 : (rule : RootRule) (i : ℕ) (h w : Model) (rs : List Model) {former : ℕ} → productSize ≤ former
+pub root-operation-as-65 : (rule : RootRule) (i : ℕ) (h w : Candidate) (rs : List Model) {former : ℕ} → productSize ≤ former
     → operation (root rule i h w) rs ≡ rootNeeding rule productSize former (resultAt rs i) h w
-root-operation-as-65 rule i h w rs room = root-operation rule i h w rs ∙ root-as-65 rule (resultAt rs i) h w (le-refl scratchSize) room
+root-operation-as-65 rule i h w rs room =
+    root-operation rule i h w rs ∙ root-as-65 rule (resultAt rs i) h w (le-refl scratchSize) room
 
 -- 02, S-22, in a job: where 0x22 accepts, 0x21 would accept the same candidates, and its radius would not be the smaller
-pub tight-operation : (i : ℕ) (h w : Model) (rs : List Model) {c : Certificate} → operation (root ByLeastRadius i h w) rs ≡ accepted c
+pub tight-operation : (i : ℕ) (h w : Candidate) (rs : List Model) {c : Certificate} → operation (root ByLeastRadius i h w) rs ≡ accepted c
     → (d : Certificate) × (operation (root ByDiscriminant i h w) rs ≡ accepted d) × (c .model .radius ≤ d .model .radius)
 tight-operation i h w rs e =
     let passed = sym (root-operation ByLeastRadius i h w rs) ∙ e in

@@ -8,7 +8,8 @@ use lib.ListN.{length}
 use Rattle.integer.specs.definitions.Rounding.{upℕ, near, floor}
 use Rattle.chebyshev.specs.definitions.Coefficients.{weight, addLists, subtractLists, scaleList, coefficientSum}
 use Rattle.chebyshev.specs.definitions.Product.{product, addAtBy, addPairBy, addTermBy, addTermsBy}
-use Rattle.model.specs.definitions.Models.{good, tooLarge, zeroModel, largePlace}
+use Rattle.model.specs.definitions.Intervals.{goodEnds, sameInterval}
+use Rattle.model.specs.definitions.Models.{partsWithinLimits, good, tooLarge, zeroModel, largePlace}
 use Rattle.model.specs.definitions.Outcomes.{passing, outcome}
 use Rattle.model.specs.definitions.Add.{sumModel, differenceModel}
 use Rattle.model.specs.definitions.Multiply.{productModel, productList, productLoss}
@@ -85,7 +86,7 @@ operations =
     ∷ []
 
 pub operations-are : map (λ c. counted (jobOutcome (c .0))) operations ≡ map (λ c. c .1) operations
-unfolding jobOutcome run command operation makerPlaces readingPlaces makerAt signedsAt rootPlaces quotientContraction quotientResidual quotientModel rootContraction rootResidual rootModel displacement coefficientSum sumModel differenceModel productModel productList productLoss rounded roundingLoss good tooLarge zeroModel weight addLists subtractLists scaleList addAtBy addPairBy addTermBy addTermsBy product upℕ near floor passing
+unfolding jobOutcome run command operation makerPlaces readingPlaces makerAt signedsAt rootPlaces quotientContraction quotientResidual quotientModel rootContraction rootResidual rootModel displacement coefficientSum sumModel differenceModel productModel productList productLoss rounded roundingLoss sameInterval goodEnds partsWithinLimits good tooLarge zeroModel weight addLists subtractLists scaleList addAtBy addPairBy addTermBy addTermsBy product upℕ near floor passing
 operations-are = refl
 
 -- ---- refusal 17: by 0x22, the root of 1 with P10's candidates. Laws of radius give the least radius, so that the definition's
@@ -107,5 +108,5 @@ answering e =
     counted (onward (run (length withoutRadius - 2) withoutRadius) 2 (f ∷ []) (resulting (f ∷ []) 408 test))
 
 pub without-radius : counted (jobOutcome withoutRadius) ≡ refused 17 2
-unfolding jobOutcome run command operation makerPlaces readingPlaces makerAt signedsAt rootPlaces quotientContraction quotientResidual quotientModel rootContraction rootResidual rootModel displacement coefficientSum sumModel differenceModel productModel productList productLoss rounded roundingLoss good tooLarge zeroModel weight addLists subtractLists scaleList addAtBy addPairBy addTermBy addTermsBy product upℕ near floor passing
+unfolding jobOutcome run command operation makerPlaces readingPlaces makerAt signedsAt rootPlaces quotientContraction quotientResidual quotientModel rootContraction rootResidual rootModel displacement coefficientSum sumModel differenceModel productModel productList productLoss rounded roundingLoss sameInterval goodEnds partsWithinLimits good tooLarge zeroModel weight addLists subtractLists scaleList addAtBy addPairBy addTermBy addTermsBy product upℕ near floor passing
 without-radius = ap answering (scale-missing 262144 0 786432 (omega arith) (λ f. absurd (omega arith)))

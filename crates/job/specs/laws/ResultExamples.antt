@@ -9,7 +9,8 @@ use Rattle.integer.specs.definitions.Lists.{zeros}
 use Rattle.integer.specs.definitions.Rounding.{upℕ, near, floor}
 use Rattle.chebyshev.specs.definitions.Coefficients.{weight, addLists, subtractLists, scaleList, coefficientSum}
 use Rattle.chebyshev.specs.definitions.Product.{product, addAtBy, addPairBy, addTermBy, addTermsBy}
-use Rattle.model.specs.definitions.Models.{makeModel, good, tooLarge, zeroModel}
+use Rattle.model.specs.definitions.Intervals.{goodEnds, sameInterval}
+use Rattle.model.specs.definitions.Models.{partsWithinLimits, standardModel, good, tooLarge, zeroModel}
 use Rattle.model.specs.definitions.Outcomes.{passing}
 use Rattle.model.specs.definitions.Add.{sumModel, differenceModel}
 use Rattle.model.specs.definitions.Multiply.{productModel, productList, productLoss}
@@ -50,12 +51,12 @@ operands =
     -- −1 and 0x030201, the lowest byte first; radius 0x0201
     (
       job (0x10 ∷ 1 ∷ 0xFF ∷ 0xFF ∷ 0xFF ∷ 0xFF ∷ 0x01 ∷ 0x02 ∷ 0x03 ∷ 0x00 ∷ (replicate 124 0 ++ (0x01 ∷ 0x02 ∷ 0x00 ∷ 0x00 ∷ []))),
-      accepted (makeModel 1 (negsuc 0 ∷ pos 197121 ∷ replicate 31 (pos 0)) 513 ∷ []),
+      accepted (standardModel 1 (negsuc 0 ∷ pos 197121 ∷ replicate 31 (pos 0)) 513 ∷ []),
     )
     -- 1 − 2
     ∷ (
       job (one ++ (two ++ (0x12 ∷ 0 ∷ 1 ∷ []))),
-      accepted (oneModel ∷ twoModel ∷ makeModel 0 (negsuc 1048575 ∷ replicate 32 (pos 0)) 0 ∷ []),
+      accepted (oneModel ∷ twoModel ∷ standardModel 0 (negsuc 1048575 ∷ replicate 32 (pos 0)) 0 ∷ []),
     )
     -- T_1 times T_1: d = 1, 32, and 255, which means 32
     ∷ (
@@ -71,10 +72,14 @@ operands =
     ∷ []
 
 pub operands-are : map (λ c. jobOutcome (c .0)) operands ≡ map (λ c. c .1) operands
-unfolding jobOutcome run command operation makerPlaces readingPlaces makerAt signedsAt rootPlaces quotientContraction quotientResidual quotientModel rootContraction rootResidual rootModel displacement coefficientSum sumModel differenceModel productModel productList productLoss rounded roundingLoss good tooLarge zeroModel weight addLists subtractLists scaleList addAtBy addPairBy addTermBy addTermsBy product upℕ near floor passing
+unfolding jobOutcome run command operation makerPlaces readingPlaces makerAt signedsAt rootPlaces quotientContraction quotientResidual quotientModel rootContraction rootResidual rootModel displacement coefficientSum sumModel differenceModel productModel productList productLoss rounded roundingLoss sameInterval goodEnds partsWithinLimits good tooLarge zeroModel weight addLists subtractLists scaleList addAtBy addPairBy addTermBy addTermsBy product upℕ near floor passing
 operands-are = refl
 
 -- ---- areas
+
+-- −S and S
+abbrev standardEnds : List ℤ
+standardEnds = negsuc 1048575 ∷ pos 1048576 ∷ []
 
 -- an area of so many sevens
 abbrev sevens : ℕ → List ℤ
@@ -82,23 +87,25 @@ sevens n = replicate n (pos 7)
 
 -- an area too short: 1, with command 0, whatever the job
 pub short-areas :
-    (checkOutcome [] (sevens 1119) (sevens 16) ≡ refused 1 0)
-    × (checkOutcome [] (sevens 1120) (sevens 15) ≡ refused 1 0)
-    × (checkNeeding 65 [] (sevens 1120) (sevens 64) ≡ refused 1 0)
-    × (workNeeding 65 [] (sevens 1120) (sevens 64) ≡ sevens 1120)
+    (checkOutcome [] (sevens 1183) (sevens 16) ≡ refused 1 0)
+    × (checkOutcome [] (sevens 1184) (sevens 15) ≡ refused 1 0)
+    × (checkNeeding 65 [] (sevens 1184) (sevens 64) ≡ refused 1 0)
+    × (workNeeding 65 [] (sevens 1184) (sevens 64) ≡ sevens 1184)
 unfolding checkNeeding workNeeding
 short-areas = (refl, refl, refl, refl)
 
--- its results, and its work area, one number longer than asked: degree, 33 coefficients and radius of both results, zeros, and the
+-- its results, and its work area, one number longer than asked: degree, 33 coefficients, radius and ends of both results, zeros, and the
 -- number behind; a scratch of 66 numbers, of which the last 50 stay
 root-run : jobOutcome rootOfFour ≡ accepted (fourModel ∷ twoModel ∷ [])
 root-run = ap (λ l. getD l 4 (accepted [])) operands-are
 
-pub root-work : workAfter rootOfFour (sevens 1121) (sevens 16)
-    ≡ (pos 0 ∷ pos 4194304 ∷ replicate 33 (pos 0)) ++ ((pos 0 ∷ pos 2097152 ∷ replicate 33 (pos 0)) ++ (replicate 1050 (pos 0) ++ (pos 7 ∷ [])))
+pub root-work : workAfter rootOfFour (sevens 1185) (sevens 16)
+    ≡ (pos 0 ∷ pos 4194304 ∷ replicate 33 (pos 0))
+    ++ (standardEnds
+    ++ ((pos 0 ∷ pos 2097152 ∷ replicate 33 (pos 0)) ++ (standardEnds ++ (replicate 1110 (pos 0) ++ (pos 7 ∷ [])))))
 unfolding workNeeding workWith resultWords zeros
 root-work = rw root-run
 
-pub root-scratch : scratchAfterJob (sevens 1121) (sevens 66) ≡ replicate 16 (pos 0) ++ sevens 50
+pub root-scratch : scratchAfterJob (sevens 1185) (sevens 66) ≡ replicate 16 (pos 0) ++ sevens 50
 unfolding scratchAfterJob zeros
 root-scratch = refl

@@ -1,18 +1,19 @@
--- Lent areas, and models and candidates in areas of signed 32-bit numbers. A model is "35 numbers … (degree, coefficients,
--- radius)"; "A candidate is a model without a radius".
+-- Lent areas, and models and candidates in areas of signed 32-bit numbers. A model is "37 numbers …, ends last" (S-24): degree,
+-- coefficients, radius, l and u; "A candidate is a model without a radius".
 use mathlib.Core.Bool.{Bool, cond}
 use mathlib.Core.List.{List, [], _∷_, _++_}
 use Prim.Native.Nat.{ℕ, _+_, _-_, _^_, _≤_}
 use lib.Dec.{leb}
 use lib.IntN.{ℤ, pos, negsuc}
 use lib.ListN.{length, getD, take, drop}
+use Rattle.model.specs.definitions.Intervals.{makeInterval}
 use Rattle.model.specs.definitions.Models.{maxDegree, coefficientCount, maxRadius, makeModel}
 use Rattle.model.specs.declared.types.Model.{Model}
 use Rattle.model.specs.declared.types.Candidate.{Candidate}
 
 -- how many numbers a model has, and a candidate
 abbrev pub modelSize : ℕ
-modelSize = 35
+modelSize = 37
 
 abbrev pub candidateSize : ℕ
 candidateSize = 34
@@ -27,7 +28,7 @@ areaOut n new old = cond (fits n old) (new ++ drop n old) old
 
 -- the numbers of a model
 abbrev pub words : Model → List ℤ
-words m = pos (m .degree) ∷ (m .coefficients ++ (pos (m .radius) ∷ []))
+words m = pos (m .degree) ∷ (m .coefficients ++ (pos (m .radius) ∷ m .interval .lower ∷ m .interval .upper ∷ []))
 
 -- a model whose degree and radius are within their limits, so that signed 32-bit numbers hold them
 abbrev pub Storable : Model → Type 0
@@ -38,12 +39,13 @@ abbrev pub unsignedOf : ℤ → ℕ
 unsignedOf (pos n) = n
 unsignedOf (negsuc n) = 2 ^ 32 - 1 - n
 
--- the model in the first 35 numbers of an area
+-- the model in the first 37 numbers of an area
 abbrev pub areaModel : List ℤ → Model
 areaModel s =
     makeModel (unsignedOf (getD s 0 (pos 0)))
     (take coefficientCount (drop 1 s))
     (unsignedOf (getD s (coefficientCount + 1) (pos 0)))
+    (makeInterval (getD s (coefficientCount + 2) (pos 0)) (getD s (coefficientCount + 3) (pos 0)))
 
 -- the candidate in the first 34 numbers of an area
 abbrev pub areaCandidate : List ℤ → Candidate

@@ -1,13 +1,16 @@
--- Document 01, "Plain operations": evaluate at p/S.
-use mathlib.Core.Bool.{Bool}
+-- Document 01, "Plain operations": evaluate at p/S; with document 02, S-24, at a point of the own interval.
+use mathlib.Core.Bool.{Bool, not, cond}
 use mathlib.Core.List.{List, [], _∷_}
 use Prim.Native.Nat.{ℕ, zero, suc, _+_, _*_, _-_, _^_}
-use lib.Dec.{ltb}
+use lib.Dec.{eqb}
 use lib.IntN.{ℤ, pos, natAbs, _+ℤ_, _-ℤ_, _*ℤ_}
 use Rattle.integer.specs.definitions.Fraction.{ℚ, _/1+_}
 use Rattle.integer.specs.definitions.Rounding.{floor, up, near}
+use Rattle.chebyshev.specs.definitions.Coefficients.{lipschitzWeight}
+use Rattle.model.specs.definitions.Intervals.{extent, contains}
 use Rattle.model.specs.definitions.Models.{scale, terms, badPlace}
 use Rattle.model.specs.definitions.Outcomes.{Outcome, outcome, judged}
+use Rattle.model.specs.declared.types.Interval.{Interval}
 use Rattle.model.specs.declared.types.Model.{Model}
 use Rattle.model.specs.declared.types.BoundsOutcome.{BoundsOutcome}
 
@@ -15,7 +18,19 @@ use Rattle.model.specs.declared.types.BoundsOutcome.{BoundsOutcome}
 abbrev pub point : ℤ → ℚ
 point p = p /1+ (scale - 1)
 
--- "t_0 = 2^30, t_1 = 2^10·p, t_(k+2) = near(2·p·t_(k+1)/S) − t_k"
+-- S times (2·S·x−l−u)/(u−l) at x = p/S is this over u − l
+abbrev pub mappedNumerator : Interval → ℤ → ℤ
+mappedNumerator i p = pos scale *ℤ (pos 2 *ℤ p -ℤ i .lower -ℤ i .upper)
+
+-- S-24: "Evaluation maps the point and rounds near"
+unfoldable pub mappedPoint : Interval → ℤ → ℤ
+mappedPoint i p = near (mappedNumerator i p) (extent i)
+
+-- whether that was exact
+unfoldable pub mapsExactly : Interval → ℤ → Bool
+mapsExactly i p = eqb (natAbs (mappedPoint i p *ℤ pos (extent i) -ℤ mappedNumerator i p)) 0
+
+-- of the point so mapped: "t_0 = 2^30, t_1 = 2^10·p, t_(k+2) = near(2·p·t_(k+1)/S) − t_k"
 unfoldable pub pointTerm : ℤ → ℕ → ℤ
 pointTerm p zero = pos (2 ^ 30)
 pointTerm p (suc zero) = pos (2 ^ 10) *ℤ p
@@ -31,12 +46,23 @@ unfoldable pub pointError : ℕ → List ℤ → ℕ
 pointError k [] = 0
 pointError k (a ∷ rest) = natAbs a * (k * (k - 1)) + pointError (suc k) rest
 
+-- S-24: "if that was inexact, W grows by 2^11·Σ|a_k|·k²"
+unfoldable pub growth : Bool → List ℤ → ℕ
+growth exact cs = cond exact 0 (2 ^ 11 * lipschitzWeight 0 cs)
+
+-- V and W of a model at p/S
+abbrev pub valueSum : Model → ℤ → ℤ
+valueSum a p = pointSum (mappedPoint (a .interval) p) 0 (terms a)
+
+abbrev pub errorSum : Model → ℤ → ℕ
+errorSum a p = pointError 0 (terms a) + growth (mapsExactly (a .interval) p) (terms a)
+
 -- "The bounds are the whole number below or at (4V−W)/2^32, less e, and up((4V+W)/2^32) plus e."
 unfoldable pub lowBound : Model → ℤ → ℤ
-lowBound a p = floor (pos 4 *ℤ pointSum p 0 (terms a) -ℤ pos (pointError 0 (terms a))) (2 ^ 32) -ℤ pos (a .radius)
+lowBound a p = floor (pos 4 *ℤ valueSum a p -ℤ pos (errorSum a p)) (2 ^ 32) -ℤ pos (a .radius)
 
 unfoldable pub highBound : Model → ℤ → ℤ
-highBound a p = up (pos 4 *ℤ pointSum p 0 (terms a) +ℤ pos (pointError 0 (terms a))) (2 ^ 32) +ℤ pos (a .radius)
+highBound a p = up (pos 4 *ℤ valueSum a p +ℤ pos (errorSum a p)) (2 ^ 32) +ℤ pos (a .radius)
 
 pub record Bounds : Type 0 where
   pub low : ℤ
@@ -46,9 +72,9 @@ pub record Bounds : Type 0 where
 abbrev pub zeroBounds : Bounds
 zeroBounds = record { low = pos 0; high = pos 0 }
 
--- "point: 4, p outside −S..S"
+-- "point: 4", with S-24 "for points outside l..u"
 abbrev pub evaluationPlaces : Model → ℤ → List (Bool × ℕ)
-evaluationPlaces a p = badPlace a ∷ (ltb scale (natAbs p), 4) ∷ []
+evaluationPlaces a p = badPlace a ∷ (not (contains (a .interval) p), 4) ∷ []
 
 unfoldable pub evaluation : Model → ℤ → Outcome Bounds
 evaluation a p = outcome (evaluationPlaces a p) (record { low = lowBound a p; high = highBound a p }) zeroBounds

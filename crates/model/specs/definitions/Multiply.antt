@@ -10,7 +10,7 @@ use Rattle.integer.specs.definitions.Rounding.{upℕ}
 use Rattle.chebyshev.specs.definitions.Coefficients.{weight}
 use Rattle.chebyshev.specs.definitions.Product.{product, productWalk}
 use Rattle.model.specs.definitions.Models.{scale, maxDegree, coefficientCount, productSize, terms, makeModel, zeroModel}
-use Rattle.model.specs.definitions.Models.{badPlace, largePlace}
+use Rattle.model.specs.definitions.Models.{badPlace, differentPlace, largePlace}
 use Rattle.model.specs.definitions.Outcomes.{Outcome, outcome}
 use Rattle.model.specs.definitions.Round.{rounded, roundingLoss}
 use Rattle.model.specs.declared.types.Model.{Model}
@@ -44,10 +44,11 @@ productModel d a b =
     makeModel n
     (rounded (2 * scale) (take (suc n) (productList a b)) ++ replicate (coefficientCount - suc n) (pos 0))
     (upℕ (productLoss n a b) (2 * scale))
+    (a .interval)
 
 abbrev pub multiplicationPlaces : ℕ → Model → Model → List (Bool × ℕ)
 multiplicationPlaces d a b =
-    badPlace a ∷ badPlace b ∷ (not (leb (keptDegree d) maxDegree), 9) ∷ largePlace (productModel d a b) ∷ []
+    badPlace a ∷ badPlace b ∷ differentPlace a b ∷ (not (leb (keptDegree d) maxDegree), 9) ∷ largePlace (productModel d a b) ∷ []
 
 unfoldable pub multiplication : ℕ → Model → Model → Outcome Model
 multiplication d a b = outcome (multiplicationPlaces d a b) (productModel d a b) zeroModel

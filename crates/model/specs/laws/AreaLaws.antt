@@ -1,14 +1,14 @@
 -- Numbers behind a model or a candidate in an area play no part, and a model written is the model read. What the length of an area
 -- tells, and what one that has its numbers, or is too short, holds afterwards.
 use borrow.Author.Tests.{leb-true, le-leb, lt-leb}
-use mathlib.Core.Path.{_≡_, refl}
+use mathlib.Core.Path.{_≡_, refl, ap}
 use mathlib.Core.Bool.{Bool, true, false, false≢true, _&&_}
 use mathlib.Core.List.{List, [], _∷_, _++_}
 use Prim.Native.Nat.{ℕ, zero, suc, _+_, _≤_, _<_}
 use native.Mathlib.Omega.{arith}
 use lib.IntN.{ℤ, pos}
-use lib.ListN.{length, take, drop, length-append}
-use lib.Seq.{take-take, getD-take, take-at, getD-at}
+use lib.ListN.{length, getD, take, drop, length-append}
+use lib.Seq.{take-take, getD-take, take-at}
 use Rattle.model.specs.definitions.Models.{coefficientCount}
 use Rattle.model.specs.definitions.Area.{modelSize, candidateSize, words, areaModel, areaCandidate, fits, areaOut}
 use Rattle.model.specs.declared.types.Model.{Model}
@@ -22,14 +22,25 @@ pub candidate-front : (n : ℕ) (s : List ℤ) → candidateSize ≤ n → areaC
 candidate-front n s h = rw (coefficients-front n s h, getD-take n s 0 (pos 0) (omega arith))
 
 pub model-front : (n : ℕ) (s : List ℤ) → modelSize ≤ n → areaModel (take n s) ≡ areaModel s
-model-front n s h = rw (coefficients-front n s (omega arith), getD-take n s 0 (pos 0) (omega arith), getD-take n s (coefficientCount + 1) (pos 0) (omega arith))
+model-front n s h = rw (coefficients-front n s (omega arith), getD-take n s 0 (pos 0) (omega arith), getD-take n s (coefficientCount + 1) (pos 0) (omega arith), getD-take n s (coefficientCount + 2) (pos 0) (omega arith), getD-take n s (coefficientCount + 3) (pos 0) (omega arith))
 
 pub length-words : (m : Model) → length (m .coefficients) ≡ coefficientCount → length (words m) ≡ modelSize
 length-words m h = simp length-append (omega arith)
 
+getD-behind : (a b : List ℤ) (n k : ℕ) → n ≡ length a + k → getD (a ++ b) n (pos 0) ≡ getD b k (pos 0)
+getD-behind [] b n k e = ap (λ (j : ℕ). getD b j (pos 0)) (omega arith)
+getD-behind (c ∷ a) b zero k e = absurd (omega arith)
+getD-behind (c ∷ a) b (suc n) k e = getD-behind a b n k (omega arith)
+
 pub model-words : (m : Model) → length (m .coefficients) ≡ coefficientCount → areaModel (words m) ≡ m
 model-words m h =
-    rw (take-at (m .coefficients) (pos (m .radius) ∷ []) coefficientCount h, getD-at (pos (m .degree) ∷ m .coefficients) (pos (m .radius)) [] (pos 0) (coefficientCount + 1) (omega arith))
+    let last = pos (m .radius) ∷ m .interval .lower ∷ m .interval .upper ∷ [] in
+    rw (
+      take-at (m .coefficients) last coefficientCount h,
+      getD-behind (m .coefficients) last coefficientCount 0 (omega arith),
+      getD-behind (m .coefficients) last (coefficientCount + 1) 1 (omega arith),
+      getD-behind (m .coefficients) last (coefficientCount + 2) 2 (omega arith),
+    )
 
 -- ---- areas that have their numbers
 

@@ -11,6 +11,7 @@ use Rattle.chebyshev.specs.definitions.Coefficients.{weight, addLists, scaleLis
 use Rattle.chebyshev.specs.laws.CoefficientLaws.{opposite-scale}
 use Rattle.chebyshev.specs.laws.Weight.{weight-add, weight-scale}
 use Rattle.model.specs.definitions.InnerContracts.{combination, combinedModel, unlessLarge}
+use Rattle.model.specs.definitions.Intervals.{sameInterval}
 use Rattle.model.specs.definitions.Models.{good}
 use Rattle.model.specs.definitions.Outcomes.{passing}
 use Rattle.model.specs.definitions.Add.{sumModel, differenceModel, addition, subtraction}
@@ -19,10 +20,10 @@ use Rattle.model.specs.declared.types.Model.{Model}
 pub combined-weight : (s : ℤ) (a b : List ℤ) → natAbs s ≡ 1 → weight (addLists ℤ-ring a (scaleList ℤ-ring s b)) ≤ weight a + weight b
 combined-weight s a b e = omega (arith, weight-add a (scaleList ℤ-ring s b), weight-scale s b, ap (λ (n : ℕ). n * weight b) e)
 
--- of two good models only the result is tested
-pub combination-of-good : (s : ℤ) (a b : Model) → good a ≡ true → good b ≡ true → unlessLarge (combinedModel s a b) ≡ combination s a b
+-- of two good models on one interval only the result is tested
+pub combination-of-good : (s : ℤ) (a b : Model) → good a ≡ true → good b ≡ true → sameInterval (a .interval) (b .interval) ≡ true → unlessLarge (combinedModel s a b) ≡ combination s a b
 unfolding combination unlessLarge passing
-combination-of-good s a b p q = rw (p, q)
+combination-of-good s a b p q r = rw (p, q, r)
 
 scale-one : (b : List ℤ) → scaleList ℤ-ring (pos 1) b ≡ b
 unfolding scaleList

@@ -2,7 +2,7 @@
 use mathlib.Core.Path.{_≡_, sym, _∙_, ap}
 use mathlib.Core.Logic.{_↔_}
 use mathlib.Core.List.{[], _∷_}
-use Prim.Native.Nat.{ℕ, suc, _+_, _*_, _-_, _^_, _≤_}
+use Prim.Native.Nat.{ℕ, suc, _+_, _*_, _-_, _^_, _≤_, _<_}
 use native.Mathlib.Omega.{arith}
 use lib.IntN.{ℤ, pos, negℤ, natAbs, _-ℤ_, _*ℤ_}
 use Rattle.integer.specs.laws.FractionRounding.{natural-positive}
@@ -24,20 +24,20 @@ use Rattle.integer.specs.laws.Parts as Parts
 use Rattle.model.specs.definitions.Models.{scale}
 use Rattle.model.specs.definitions.Evaluate.{point, pointTerm}
 
-point-scale : (p : ℤ) → point p *ℚ whole (pos scale) ≡ whole p
+pub point-scale : (p : ℤ) → point p *ℚ whole (pos scale) ≡ whole p
 point-scale p = ap (λ d. point p *ℚ whole d) (sym (den-is (scale - 1))) ∙ fraction-num p (scale - 1)
 
-abs-whole : (z : ℤ) (n : ℕ) → (∣ whole z ∣ℚ ≤ℚ whole (pos n)) ↔ (natAbs z ≤ n)
+pub abs-whole : (z : ℤ) (n : ℕ) → (∣ whole z ∣ℚ ≤ℚ whole (pos n)) ↔ (natAbs z ≤ n)
 abs-whole z n = rw (whole-abs, ∣∣-is) (λ h. le-pos _ _ (whole-le _ _ .0 h), λ h. whole-le _ _ .1 (pos-le _ _ h))
 
--- a bound times S, in whole numbers
-scaled-bound : (x : ℚ) (z : ℤ) (n : ℕ) → whole (pos scale) *ℚ x ≡ whole z → natAbs z ≤ scale * n → ∣ x ∣ℚ ≤ℚ whole (pos n)
-scaled-bound x z n e h =
-    abs-scale ℚ-ordered (whole (pos scale)) x (whole (pos n)) (natural-positive scale (omega arith)) .1 (rw (e, ← whole-mul) (abs-whole z (scale * n) .1 h))
+-- a bound times c, in whole numbers
+pub scaled-bound : (c : ℕ) (x : ℚ) (z : ℤ) (n : ℕ) → 0 < c → whole (pos c) *ℚ x ≡ whole z → natAbs z ≤ c * n → ∣ x ∣ℚ ≤ℚ whole (pos n)
+scaled-bound c x z n positive e h =
+    abs-scale ℚ-ordered (whole (pos c)) x (whole (pos n)) (natural-positive c positive) .1 (rw (e, ← whole-mul) (abs-whole z (c * n) .1 h))
 
 -- |p/S| ≤ 1 where |p| ≤ S
-point-inside : (p : ℤ) → natAbs p ≤ scale → ∣ point p ∣ℚ ≤ℚ whole (pos 1)
-point-inside p h = scaled-bound (point p) p 1 (*ℚ-comm _ _ ∙ point-scale p) (omega arith)
+pub point-inside : (p : ℤ) → natAbs p ≤ scale → ∣ point p ∣ℚ ≤ℚ whole (pos 1)
+point-inside p h = scaled-bound scale (point p) p 1 (omega arith) (*ℚ-comm _ _ ∙ point-scale p) (omega arith)
 
 module _ (p : ℤ) (h : natAbs p ≤ scale) where
   -- the disturbance of the recurrence: near(2·p·t_(k+1)/S) − 2·(p/S)·t_(k+1), twice
@@ -51,7 +51,7 @@ module _ (p : ℤ) (h : natAbs p ≤ scale) where
   rounding-small : (k : ℕ) → ∣ rounding k ∣ℚ ≤ℚ whole (pos 1)
   unfolding rounding
   rounding-small k =
-      scaled-bound (rounding k) (pos 2 *ℤ (near m scale *ℤ pos scale -ℤ m)) 1
+      scaled-bound scale (rounding k) (pos 2 *ℤ (near m scale *ℤ pos scale -ℤ m)) 1 (omega arith)
       (go (point p) (whole (pos scale)) (whole p) (whole t) (whole (near m scale)) (point-scale p) ∙ simp (whole-mul, whole-add, ← whole-neg))
       (rw Parts.abs-mul (near-error m scale (omega arith)))
     where

@@ -4,11 +4,11 @@ use mathlib.Core.Bool.{true}
 use mathlib.Core.List.{List, [], _∷_, map}
 use Prim.Native.Nat.{ℕ, suc, _+_, _*_, _-_, _^_, _<_, _≤_}
 use native.Mathlib.Omega.{arith}
-use borrow.Author.Tests.{ltb-false, not-false}
+use borrow.Author.Tests.{not-false}
 use lib.IntN.{ℤ, pos, negℤ, natAbs, _+ℤ_, _-ℤ_, _*ℤ_}
-use Rattle.integer.specs.laws.FractionRounding.{natural-positive}
+use Rattle.integer.specs.laws.FractionRounding.{natural-positive, natural-add}
 use Rattle.integer.specs.laws.Embedding.{ι-abs}
-use Rattle.integer.specs.laws.OrderedRingLaws.{by-certificate, gap, _⊞_, le-of-eq, _⟨≼⟩_, _⟨+⟩_, triangle, abs-mul-le, abs-upper, abs-lower}
+use Rattle.integer.specs.laws.OrderedRingLaws.{by-certificate, gap, _⊞_, le-of-eq, _⟨≼⟩_, _⟨+⟩_, triangle, abs-mul-le, abs-add-le, abs-upper, abs-lower}
 use Rattle.integer.specs.definitions.Rounding.{floor, up}
 use Rattle.integer.specs.laws.RoundingLaws.{floor-le, le-up}
 use Rattle.integer.specs.definitions.Fraction.{ℚ, whole, _+ℚ_, _-ℚ_, -ℚ_, _*ℚ_, _≤ℚ_, ∣_∣ℚ}
@@ -21,11 +21,16 @@ use Rattle.chebyshev.specs.definitions.Coefficients.{valueFrom, value}
 use Rattle.chebyshev.specs.definitions.Allows.{allows}
 use Rattle.model.specs.definitions.Models.{scale, terms, good}
 use Rattle.model.specs.laws.GoodLaws.{value-terms}
-use Rattle.model.specs.definitions.Evaluate.{point, pointTerm, pointSum, pointError, lowBound, highBound, Bounds, zeroBounds, evaluationPlaces, evaluation}
+use Rattle.model.specs.definitions.Evaluate.{point, mappedPoint, mapsExactly, growth, pointTerm, pointSum, pointError, valueSum, errorSum, lowBound, highBound, Bounds, zeroBounds, evaluationPlaces, evaluation}
 use Rattle.model.specs.definitions.Outcomes.{accepted}
 use Rattle.model.specs.definitions.Allowed.{position, AllowsAt, Allows}
 use Rattle.model.specs.laws.PlaceLaws.{outcome-accepted}
 use Rattle.model.specs.laws.EvaluationError.{term-error}
+use Rattle.model.specs.laws.IntervalLaws.{GoodEnds}
+use Rattle.model.specs.laws.MappedPoint.{mapped-inside, mapped-value}
+use Rattle.model.specs.laws.ModelLaws.{good-is}
+use Rattle.model.specs.laws.ValueLaws.{valueAt}
+use Rattle.model.specs.definitions.Intervals.{contains}
 use Rattle.model.specs.declared.types.Model.{Model}
 
 -- ---- |x − y| ≤ w as two inequalities
@@ -87,9 +92,9 @@ module _ (p : ℤ) (h : natAbs p ≤ scale) where
 
 -- ---- the theorem
 
-bounds-sound : (a : Model) (p : ℤ) (v : ℚ) → good a ≡ true → natAbs p ≤ scale → allows scale (a .coefficients) (a .radius) (point p) v
+bounds-sound : (a : Model) (p : ℤ) (v : ℚ) → good a ≡ true → contains (a .interval) p ≡ true → Allows a (point p) v
     → (whole (lowBound a p) ≤ℚ (v *ℚ whole (pos scale))) × ((v *ℚ whole (pos scale)) ≤ℚ whole (highBound a p))
-unfolding allows lowBound highBound value
+unfolding AllowsAt allows lowBound highBound value
 bounds-sound a p v g h l = (
   rw (whole-add (floor (s -ℤ pos w) (2 ^ 32)) (negℤ (pos (a .radius))), ← whole-neg)
       (by-certificate ℚ-ordered (_⊞_ ℚ-ordered (gap ℚ-ordered below) (gap ℚ-ordered (plus-above u y e near)))
@@ -99,26 +104,38 @@ bounds-sound a p v g h l = (
       (regroup-up (whole (up (s +ℤ pos w) (2 ^ 32))) e y u)),
 )
   where
+    ends : GoodEnds (a .interval)
+    ends = good-is a g .ends
+
     u : ℚ
     u = v *ℚ whole (pos scale)
 
+    z : ℚ
+    z = point (mappedPoint (a .interval) p)
+
     y : ℚ
-    y = value ℚ-ring (point p) (map whole (terms a))
+    y = value ℚ-ring (position (a .interval) (point p)) (map whole (terms a))
 
     e : ℚ
     e = whole (pos (a .radius))
 
     s : ℤ
-    s = pos 4 *ℤ pointSum p 0 (terms a)
+    s = pos 4 *ℤ valueSum a p
 
     w : ℕ
-    w = pointError 0 (terms a)
+    w = errorSum a p
 
     near : ∣ u -ℚ y ∣ℚ ≤ℚ e
-    near = rw (value-terms a g (point p)) at l
+    near = rw (value-terms a g (position (a .interval) (point p))) at l
 
     error : ∣ whole s -ℚ whole (pos (2 ^ 32)) *ℚ y ∣ℚ ≤ℚ whole (pos w)
-    error = sum-error p h 0 (terms a)
+    error =
+        rw (join (whole s) (whole (pos (2 ^ 32)) *ℚ valueAt z (terms a)) (whole (pos (2 ^ 32)) *ℚ y), natural-add (pointError 0 (terms a)) (growth (mapsExactly (a .interval) p) (terms a)))
+        (abs-add-le ℚ-ordered (whole s -ℚ whole (pos (2 ^ 32)) *ℚ valueAt z (terms a)) (whole (pos (2 ^ 32)) *ℚ valueAt z (terms a) -ℚ whole (pos (2 ^ 32)) *ℚ y)
+        (sum-error (mappedPoint (a .interval) p) (mapped-inside ends p h) 0 (terms a)) (mapped-value ends p h (terms a)))
+      where
+        join : (s a b : ℚ) → s -ℚ b ≡ (s -ℚ a) +ℚ (a -ℚ b)
+        join s a b = solveℚ (s ∷ a ∷ b ∷ []) (search reifyℚ depth 20) (search reifyℚ depth 20) tt
 
     below : whole (floor (s -ℤ pos w) (2 ^ 32)) ≤ℚ y
     below = floor-below (s -ℤ pos w) (2 ^ 32) y (omega arith) (rw (whole-add s (negℤ (pos w)), ← whole-neg) (minus-below _ _ _ error))
@@ -137,7 +154,7 @@ bounds-sound a p v g h l = (
 -- "Each allowed value lies between them."
 pub evaluation-sound : (a : Model) (p : ℤ) {b : Bounds} → evaluation a p ≡ accepted b
     → (v : ℚ) → Allows a (point p) v → (whole (b .low) ≤ℚ (v *ℚ whole (pos scale))) × ((v *ℚ whole (pos scale)) ≤ℚ whole (b .high))
-unfolding evaluation position AllowsAt
+unfolding evaluation
 evaluation-sound a p e v l =
     let (passed, result) = outcome-accepted (evaluationPlaces a p) _ zeroBounds e in
-    rw result (bounds-sound a p v (not-false (good a) (passed .0)) (ltb-false scale (natAbs p) (passed .1 .0)) l)
+    rw result (bounds-sound a p v (not-false (good a) (passed .0)) (not-false (contains (a .interval) p) (passed .1 .0)) l)

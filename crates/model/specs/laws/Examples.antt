@@ -5,13 +5,14 @@ use Prim.Native.Nat.{_-_}
 use lib.IntN.{ℤ, pos, negsuc}
 use lib.ListN.{length, replicate}
 use Rattle.integer.specs.definitions.Rounding.{floor, up, upℕ, near}
-use Rattle.chebyshev.specs.definitions.Coefficients.{weight, addLists, subtractLists}
+use Rattle.chebyshev.specs.definitions.Coefficients.{weight, lipschitzWeight, addLists, subtractLists}
 use Rattle.chebyshev.specs.definitions.Product.{product, addAtBy, addPairBy, addTermBy, addTermsBy}
-use Rattle.model.specs.definitions.Models.{coefficientCount, good, tooLarge, makeModel, constantModel, zeroModel}
+use Rattle.model.specs.definitions.Models.{coefficientCount, partsWithinLimits, good, tooLarge, standardModel, constantModel, zeroModel}
+use Rattle.model.specs.definitions.Intervals.{goodEnds, extent, sameInterval, contains}
 use Rattle.model.specs.definitions.Outcomes.{accepted, passing}
 use Rattle.model.specs.definitions.Multiply.{multiplication, productModel, productList, productLoss}
 use Rattle.model.specs.definitions.Integrate.{integration, integralModel, integralList, halved, numerators, doubleFirst, alternating}
-use Rattle.model.specs.definitions.Evaluate.{evaluation, lowBound, highBound, pointTerm, pointSum, pointError}
+use Rattle.model.specs.definitions.Evaluate.{mappedPoint, mapsExactly, growth, evaluation, lowBound, highBound, pointTerm, pointSum, pointError}
 use Rattle.model.specs.definitions.Round.{rounded, roundingLoss}
 use Rattle.model.specs.declared.types.Model.{Model}
 
@@ -21,21 +22,21 @@ padded cs = cs ++ replicate (coefficientCount - length cs) (pos 0)
 
 -- a_1 = S, and a_2 = S
 abbrev pub linear : Model
-linear = makeModel 1 (padded (pos 0 ∷ pos 1048576 ∷ [])) 0
+linear = standardModel 1 (padded (pos 0 ∷ pos 1048576 ∷ [])) 0
 
 abbrev pub quadratic : Model
-quadratic = makeModel 2 (padded (pos 0 ∷ pos 0 ∷ pos 1048576 ∷ [])) 0
+quadratic = standardModel 2 (padded (pos 0 ∷ pos 0 ∷ pos 1048576 ∷ [])) 0
 
 -- T_1 times T_1 whole, and cut at degree 1; a tie above zero, and one below; an integral; T_2 at 1/2
 abbrev pub Benchmarks : Type 0
 Benchmarks =
-    (multiplication 2 linear linear ≡ accepted (makeModel 2 (padded (pos 524288 ∷ pos 0 ∷ pos 524288 ∷ [])) 0))
-    × (multiplication 1 linear linear ≡ accepted (makeModel 1 (padded (pos 524288 ∷ [])) 524288))
-    × (multiplication 32 (constantModel (pos 1)) (constantModel (pos 524288)) ≡ accepted (makeModel 0 (padded []) 1))
-    × (multiplication 32 (constantModel (negsuc 0)) (constantModel (pos 524288)) ≡ accepted (makeModel 0 (padded []) 1))
-    × (integration (constantModel (pos 1048576)) ≡ accepted (makeModel 1 (padded (pos 1048576 ∷ pos 1048576 ∷ [])) 1))
+    (multiplication 2 linear linear ≡ accepted (standardModel 2 (padded (pos 524288 ∷ pos 0 ∷ pos 524288 ∷ [])) 0))
+    × (multiplication 1 linear linear ≡ accepted (standardModel 1 (padded (pos 524288 ∷ [])) 524288))
+    × (multiplication 32 (constantModel (pos 1)) (constantModel (pos 524288)) ≡ accepted (standardModel 0 (padded []) 1))
+    × (multiplication 32 (constantModel (negsuc 0)) (constantModel (pos 524288)) ≡ accepted (standardModel 0 (padded []) 1))
+    × (integration (constantModel (pos 1048576)) ≡ accepted (standardModel 1 (padded (pos 1048576 ∷ pos 1048576 ∷ [])) 1))
     × (evaluation quadratic (pos 524288) ≡ accepted (record { low = negsuc 524288; high = negsuc 524286 }))
 
 pub benchmarks : Benchmarks
-unfolding multiplication productModel productList productLoss rounded roundingLoss integration integralModel integralList halved numerators doubleFirst alternating evaluation lowBound highBound pointTerm pointSum pointError passing good tooLarge constantModel zeroModel weight addLists subtractLists addAtBy addPairBy addTermBy addTermsBy product floor up upℕ near
+unfolding multiplication sameInterval extent mappedPoint mapsExactly growth contains goodEnds partsWithinLimits lipschitzWeight productModel productList productLoss rounded roundingLoss integration integralModel integralList halved numerators doubleFirst alternating evaluation lowBound highBound pointTerm pointSum pointError passing good tooLarge constantModel zeroModel weight addLists subtractLists addAtBy addPairBy addTermBy addTermsBy product floor up upℕ near
 benchmarks = (refl, refl, refl, refl, refl, refl)

@@ -14,11 +14,11 @@ use Rattle.model.specs.declared.types.Model.{Model}
 
 -- the definition's result m need not fit the machine where it is refused
 pub formed-is : (m : Model) (cs : List ℤ) → (weight (m .coefficients) ≤ maxWeight → cs ≡ m .coefficients)
-    → formedOutcome (m .degree) cs (weight (m .coefficients)) (m .radius) ≡ unlessLarge m
+    → formedOutcome (m .degree) cs (weight (m .coefficients)) (m .radius) (m .interval) ≡ unlessLarge m
 unfolding formedOutcome unlessLarge passing tooLarge
 formed-is m cs h = go (ltb maxWeight (weight (m .coefficients))) refl
   where
     go : (t : Bool) → ltb maxWeight (weight (m .coefficients)) ≡ t
-        → formedOutcome (m .degree) cs (weight (m .coefficients)) (m .radius) ≡ unlessLarge m
+        → formedOutcome (m .degree) cs (weight (m .coefficients)) (m .radius) (m .interval) ≡ unlessLarge m
     go true e = rw e
     go false e = rw (h (ltb-false maxWeight (weight (m .coefficients)) e))

@@ -12,8 +12,9 @@ use Rattle.integer.specs.definitions.Integer.{ℤ-ring}
 use Rattle.chebyshev.specs.definitions.Coefficients.{weight, addLists, subtractLists}
 use Rattle.chebyshev.specs.laws.Weight.{weight-add, weight-drop, weight-zeros, weight-opposite}
 use Rattle.model.specs.definitions.InnerContracts.{roundedIntegral, roundedTail}
-use Rattle.model.specs.definitions.Models.{scale, maxDegree, maxWeight, maxRadius, coefficientCount, terms, beyond, good, tooLarge, zeroModel}
-use Rattle.model.specs.laws.ModelLaws.{good-is}
+use Rattle.model.specs.definitions.Models.{scale, maxDegree, maxWeight, maxRadius, coefficientCount, terms, beyond, partsWithinLimits, good, tooLarge, zeroModel}
+use Rattle.model.specs.definitions.Intervals.{extent, goodEnds}
+use Rattle.model.specs.laws.ModelLaws.{good-is, good-ends}
 use Rattle.model.specs.definitions.Outcomes.{accepted}
 use Rattle.model.specs.definitions.Load.{loading, loadingPlaces}
 use Rattle.model.specs.definitions.Add.{sumModel, differenceModel, additionPlaces, subtractionPlaces, addition, subtraction}
@@ -26,10 +27,10 @@ use Rattle.model.specs.laws.PlaceLaws.{outcome-accepted}
 use Rattle.model.specs.laws.ResultLaws.{neither}
 use Rattle.model.specs.declared.types.Model.{Model}
 
--- a result that is not too large, with zeros beyond its degree
-pub good-small : (m : Model) → tooLarge m ≡ false → weight (beyond m) ≡ 0 → good m ≡ true
-unfolding good tooLarge
-good-small m t z =
+-- a result that is not too large, with zeros beyond its degree and good ends
+pub good-small : (m : Model) → tooLarge m ≡ false → weight (beyond m) ≡ 0 → goodEnds (m .interval) ≡ true → good m ≡ true
+unfolding good partsWithinLimits tooLarge
+good-small m t z i =
     let p = neither (ltb maxWeight (weight (m .coefficients))) _ t in
     let q = neither (ltb maxRadius (m .radius)) _ (p .1) in
     rw (
@@ -37,6 +38,7 @@ good-small m t z =
       le-leb (weight (m .coefficients)) maxWeight (ltb-false maxWeight (weight (m .coefficients)) (p .0)),
       le-leb (m .radius) maxRadius (ltb-false maxRadius (m .radius) (q .0)),
       z,
+      i,
     )
 
 -- ---- the weight beyond a place
@@ -111,7 +113,7 @@ integral-beyond a =
     (weight-behind (suc (a .degree + 1)) (alternating tail ∷ tail) (coefficientCount - suc (length tail)) short)
   where
     tail : List ℤ
-    tail = roundedTail (doubleFirst (terms a))
+    tail = roundedTail (extent (a .interval)) (doubleFirst (terms a))
 
     short : length (alternating tail ∷ tail) ≤ suc (a .degree + 1)
     short = rw (length-rounded, length-doubled, length-take) (omega arith)
@@ -121,25 +123,27 @@ unfolding loading
 loading-good m e = let (passed, same) = outcome-accepted (loadingPlaces m) m zeroModel e in rw same (not-false (good m) (passed .0))
 
 pub addition-good : (a b : Model) {c : Model} → addition a b ≡ accepted c → good c ≡ true
-unfolding addition
+unfolding addition sumModel
 addition-good a b e =
     let (passed, same) = outcome-accepted (additionPlaces a b) (sumModel a b) zeroModel e in
-    rw same (good-small _ (passed .1 .1 .0) (sum-beyond a b (not-false (good a) (passed .0)) (not-false (good b) (passed .1 .0))))
+    let g = not-false (good a) (passed .0) in
+    rw same (good-small _ (passed .1 .1 .1 .0) (sum-beyond a b g (not-false (good b) (passed .1 .0))) (good-ends a g))
 
 pub subtraction-good : (a b : Model) {c : Model} → subtraction a b ≡ accepted c → good c ≡ true
-unfolding subtraction
+unfolding subtraction differenceModel
 subtraction-good a b e =
     let (passed, same) = outcome-accepted (subtractionPlaces a b) (differenceModel a b) zeroModel e in
-    rw same (good-small _ (passed .1 .1 .0) (difference-beyond a b (not-false (good a) (passed .0)) (not-false (good b) (passed .1 .0))))
+    let g = not-false (good a) (passed .0) in
+    rw same (good-small _ (passed .1 .1 .1 .0) (difference-beyond a b g (not-false (good b) (passed .1 .0))) (good-ends a g))
 
 pub multiplication-good : (d : ℕ) (a b : Model) {c : Model} → multiplication d a b ≡ accepted c → good c ≡ true
-unfolding multiplication
+unfolding multiplication productModel
 multiplication-good d a b e =
     let (passed, same) = outcome-accepted (multiplicationPlaces d a b) (productModel d a b) zeroModel e in
-    rw same (good-small _ (passed .1 .1 .1 .0) (product-beyond d a b))
+    rw same (good-small _ (passed .1 .1 .1 .1 .0) (product-beyond d a b) (good-ends a (not-false (good a) (passed .0))))
 
 pub integration-good : (a : Model) {c : Model} → integration a ≡ accepted c → good c ≡ true
-unfolding integration
+unfolding integration integralModel
 integration-good a e =
     let (passed, same) = outcome-accepted (integrationPlaces a) (integralModel a) zeroModel e in
-    rw same (good-small _ (passed .1 .0) (integral-beyond a))
+    rw same (good-small _ (passed .1 .0) (integral-beyond a) (good-ends a (not-false (good a) (passed .0))))

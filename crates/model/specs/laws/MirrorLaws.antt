@@ -12,7 +12,8 @@ use Rattle.integer.specs.laws.RoundingLaws.{near-opposite}
 use Rattle.chebyshev.specs.definitions.Coefficients.{weight}
 use Rattle.chebyshev.specs.definitions.Negation.{none, negatedIf, negatedFrom}
 use Rattle.chebyshev.specs.laws.NegationLaws.{abs-negated, take-negated, drop-negated, weight-negated, negated-zeros, negated-none}
-use Rattle.model.specs.definitions.Models.{coefficientCount, terms, beyond, good, tooLarge, makeModel, zeroModel}
+use Rattle.model.specs.definitions.Models.{coefficientCount, terms, beyond, partsWithinLimits, withinLimits, good, tooLarge, makeModel, zeroModel}
+use Rattle.model.specs.definitions.Intervals.{zeroInterval}
 use Rattle.model.specs.definitions.Mirror.{negatedWhere}
 use Rattle.model.specs.definitions.Outcomes.{refused, outcome, passing, mapOutcome}
 use Rattle.model.specs.definitions.Round.{rounded, roundingLoss}
@@ -53,10 +54,14 @@ module _ (chosen : ℕ → Bool) where
   pub weight-of-negated : (m : Model) → weight (negatedWhere chosen m .coefficients) ≡ weight (m .coefficients)
   weight-of-negated m = weight-negated chosen 0 (m .coefficients)
 
+  pub withinLimits-negated : (m : Model) → withinLimits (negatedWhere chosen m) ≡ withinLimits m
+  unfolding partsWithinLimits
+  withinLimits-negated m =
+      rw (weight-negated chosen 0 (m .coefficients), drop-negated chosen (suc (m .degree)) 0 (m .coefficients), weight-negated chosen (0 + suc (m .degree)) (beyond m))
+
   pub good-negated : (m : Model) → good (negatedWhere chosen m) ≡ good m
   unfolding good
-  good-negated m =
-      rw (weight-negated chosen 0 (m .coefficients), drop-negated chosen (suc (m .degree)) 0 (m .coefficients), weight-negated chosen (0 + suc (m .degree)) (beyond m))
+  good-negated m = rw (withinLimits-negated m)
 
   pub tooLarge-negated : (m : Model) → tooLarge (negatedWhere chosen m) ≡ tooLarge m
   unfolding tooLarge
@@ -64,10 +69,10 @@ module _ (chosen : ℕ → Bool) where
 
   pub zero-negated : negatedWhere chosen zeroModel ≡ zeroModel
   unfolding zeroModel
-  zero-negated = ap (λ cs. makeModel 0 cs 0) (negated-zeros chosen 0 coefficientCount)
+  zero-negated = ap (λ cs. makeModel 0 cs 0 zeroInterval) (negated-zeros chosen 0 coefficientCount)
 
 pub negated-nowhere : (m : Model) → negatedWhere none m ≡ m
-negated-nowhere m = ap (λ cs. makeModel (m .degree) cs (m .radius)) (negated-none 0 (m .coefficients))
+negated-nowhere m = ap (λ cs. makeModel (m .degree) cs (m .radius) (m .interval)) (negated-none 0 (m .coefficients))
 
 -- ---- outcomes
 

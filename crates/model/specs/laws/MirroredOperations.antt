@@ -1,39 +1,37 @@
 -- Document 02, S-11, as equations of whole outcomes, refusals included, for every model, kept degree and point: "Negating every
--- coefficient of one factor, or of an integrand, then negates the result's coefficients and keeps its radius. Negating p and the
--- odd coefficients keeps the bounds of an evaluation."
+-- coefficient of one factor, or of an integrand, then negates the result's coefficients and keeps its radius." Evaluation stands in
+-- MirroredEvaluation.antt.
 use mathlib.Core.Path.{_≡_, refl, sym, _∙_, ap, ap₂}
-use mathlib.Core.Bool.{Bool, true, false, not}
+use mathlib.Core.Bool.{Bool}
 use mathlib.Core.List.{List, [], _∷_, _++_, map}
 use Prim.Native.Nat.{ℕ, zero, suc, _+_, _-_, _*_, max}
 use native.Mathlib.Omega.{arith}
-use lib.IntN.{ℤ, pos, negℤ, _+ℤ_, _-ℤ_, _*ℤ_}
+use lib.IntN.{ℤ, pos, negℤ, _-ℤ_, _*ℤ_}
 use lib.ListN.{length, take, drop, replicate}
-use Rattle.integer.specs.laws.Parts.{abs-neg}
 use Rattle.integer.specs.laws.Difference.{all1, all2, differences}
-use Rattle.integer.specs.laws.IntegerSolver.{reifyℤ, solveℤ}
 use Rattle.integer.specs.definitions.Integer.{ℤ-ring}
 use Rattle.integer.specs.definitions.Rounding.{near, upℕ}
 use Rattle.integer.specs.laws.RoundingLaws.{near-opposite}
 use Rattle.chebyshev.specs.definitions.Coefficients.{subtractLists}
 use Rattle.chebyshev.specs.definitions.Product.{product}
-use Rattle.chebyshev.specs.definitions.Negation.{every, odd, negatedIf, negatedFrom}
-use Rattle.chebyshev.specs.laws.NegationLaws.{Signs, signs-left, signs-right, signs-odd, product-negated, length-negated, take-negated, drop-negated, weight-negated, negated-append-zeros, negated-every, negated-sum, negated-difference, abs-negated}
+use Rattle.chebyshev.specs.definitions.Negation.{every, negatedFrom}
+use Rattle.chebyshev.specs.laws.NegationLaws.{Signs, signs-left, signs-right, signs-odd, product-negated, length-negated, take-negated, drop-negated, weight-negated, negated-append-zeros, negated-every, negated-sum, negated-difference}
 use Rattle.model.specs.definitions.Models.{scale, coefficientCount, productSize, terms, makeModel, zeroModel}
 use Rattle.model.specs.definitions.Mirror.{negatedWhere, negated, mirrored}
+use Rattle.model.specs.definitions.Intervals.{extent}
 use Rattle.model.specs.definitions.Outcomes.{mapOutcome}
 use Rattle.model.specs.definitions.Add.{sumModel, differenceModel, additionPlaces, subtractionPlaces, addition, subtraction}
 use Rattle.model.specs.definitions.Multiply.{productList, productDegree, productLoss, productModel, multiplicationPlaces, multiplication}
 use Rattle.model.specs.definitions.Integrate.{doubleFirst, numerators, halved, alternating, integralList, integralModel, integrationPlaces, integration}
-use Rattle.model.specs.definitions.Evaluate.{pointTerm, pointSum, pointError, lowBound, highBound, evaluation}
 use Rattle.model.specs.definitions.Round.{rounded}
-use Rattle.model.specs.laws.MirrorLaws.{rounded-negated, roundingLoss-negated, terms-negated, weight-of-negated, negated-nowhere, good-negated, tooLarge-negated, zero-negated, outcome-mapped}
+use Rattle.model.specs.laws.MirrorLaws.{rounded-negated, roundingLoss-negated, terms-negated, weight-of-negated, negated-nowhere, withinLimits-negated, good-negated, tooLarge-negated, zero-negated, outcome-mapped}
 use Rattle.model.specs.declared.types.Model.{Model}
 
 -- ---- add and subtract, both operands negated at the same places
 
 module _ (chosen : ℕ → Bool) (a b : Model) where
   abbrev formed : List ℤ → Model
-  formed cs = makeModel (max (a .degree) (b .degree)) cs (a .radius + b .radius)
+  formed cs = makeModel (max (a .degree) (b .degree)) cs (a .radius + b .radius) (a .interval)
 
   sumModel-negated : sumModel (negatedWhere chosen a) (negatedWhere chosen b) ≡ negatedWhere chosen (sumModel a b)
   unfolding sumModel
@@ -42,7 +40,7 @@ module _ (chosen : ℕ → Bool) (a b : Model) where
   pub addition-negated : addition (negatedWhere chosen a) (negatedWhere chosen b) ≡ mapOutcome (negatedWhere chosen) (addition a b)
   unfolding addition
   addition-negated =
-      rw (good-negated chosen a, good-negated chosen b, sumModel-negated, tooLarge-negated chosen (sumModel a b))
+      rw (good-negated chosen a, good-negated chosen b, withinLimits-negated chosen a, withinLimits-negated chosen b, sumModel-negated, tooLarge-negated chosen (sumModel a b))
       (outcome-mapped (negatedWhere chosen) (additionPlaces a b) (sumModel a b) zeroModel (zero-negated chosen))
 
   differenceModel-negated : differenceModel (negatedWhere chosen a) (negatedWhere chosen b) ≡ negatedWhere chosen (differenceModel a b)
@@ -52,7 +50,7 @@ module _ (chosen : ℕ → Bool) (a b : Model) where
   pub subtraction-negated : subtraction (negatedWhere chosen a) (negatedWhere chosen b) ≡ mapOutcome (negatedWhere chosen) (subtraction a b)
   unfolding subtraction
   subtraction-negated =
-      rw (good-negated chosen a, good-negated chosen b, differenceModel-negated, tooLarge-negated chosen (differenceModel a b))
+      rw (good-negated chosen a, good-negated chosen b, withinLimits-negated chosen a, withinLimits-negated chosen b, differenceModel-negated, tooLarge-negated chosen (differenceModel a b))
       (outcome-mapped (negatedWhere chosen) (subtractionPlaces a b) (differenceModel a b) zeroModel (zero-negated chosen))
 
 -- ---- multiply
@@ -82,7 +80,7 @@ module _ {s t u : ℕ → Bool} (signs : Signs s t u) (a b : Model) where
   unfolding productModel
   productModel-negated d =
       let n = productDegree d a b in
-      ap₂ (makeModel n)
+      ap₂ (λ cs (e : ℕ). makeModel n cs e (a .interval))
       (ap (λ c. rounded (2 * scale) c ++ zeros n) (kept-negated (suc n))
       ∙ ap (λ c. c ++ zeros n) (rounded-negated u (2 * scale) (omega arith) 0 (take (suc n) (productList a b)))
       ∙ sym (negated-append-zeros u 0 (coefficientCount - suc n) (rounded (2 * scale) (take (suc n) (productList a b)))))
@@ -94,7 +92,7 @@ module _ {s t u : ℕ → Bool} (signs : Signs s t u) (a b : Model) where
   pub multiplication-negated : (d : ℕ) → multiplication d (negatedWhere s a) (negatedWhere t b) ≡ mapOutcome (negatedWhere u) (multiplication d a b)
   unfolding multiplication
   multiplication-negated d =
-      rw (good-negated s a, good-negated t b, productModel-negated d, tooLarge-negated u (productModel d a b))
+      rw (good-negated s a, good-negated t b, withinLimits-negated s a, withinLimits-negated t b, productModel-negated d, tooLarge-negated u (productModel d a b))
       (outcome-mapped (negatedWhere u) (multiplicationPlaces d a b) (productModel d a b) zeroModel (zero-negated u))
 
 -- "Negating every coefficient of one factor … negates the result's coefficients and keeps its radius", the first, and the second
@@ -108,7 +106,7 @@ multiplication-second d a b = ap (λ m. multiplication d m (negated b)) (sym (ne
 pub multiplication-mirrored : (d : ℕ) (a b : Model) → multiplication d (mirrored a) (mirrored b) ≡ mapOutcome mirrored (multiplication d a b)
 multiplication-mirrored d a b = multiplication-negated signs-odd a b d
 
-opposites : (x y : ℤ) → negℤ x -ℤ negℤ y ≡ negℤ (x -ℤ y)
+pub opposites : (x y : ℤ) → negℤ x -ℤ negℤ y ≡ negℤ (x -ℤ y)
 opposites = all2 _ (simp differences (omega arith))
 
 -- ---- integrate
@@ -136,29 +134,34 @@ numerators-opposite cs =
     dropped (suc n) [] = refl
     dropped (suc n) (c ∷ cs) = dropped n cs
 
-halved-opposite : (k : ℕ) (ns : List ℤ) → halved (suc k) (map negℤ ns) ≡ map negℤ (halved (suc k) ns)
+halved-opposite : (d k : ℕ) (ns : List ℤ) → halved d (suc k) (map negℤ ns) ≡ map negℤ (halved d (suc k) ns)
 unfolding halved
-halved-opposite k [] = refl
-halved-opposite k (n ∷ ns) = ap₂ _∷_ (near-opposite n (2 * suc k) (omega arith)) (halved-opposite (suc k) ns)
+halved-opposite d k [] = refl
+halved-opposite d k (n ∷ ns) =
+    ap₂ _∷_ (ap (λ z. near z (4 * scale * suc k)) (turn n (pos d)) ∙ near-opposite (n *ℤ pos d) (4 * scale * suc k) (omega arith)) (halved-opposite d (suc k) ns)
+  where
+    turn : (n d : ℤ) → negℤ n *ℤ d ≡ negℤ (n *ℤ d)
+    turn = all2 _ (simp differences (omega arith))
 
 alternating-opposite : (cs : List ℤ) → alternating (map negℤ cs) ≡ negℤ (alternating cs)
 unfolding alternating
 alternating-opposite [] = refl
 alternating-opposite (c ∷ cs) = ap (λ z. negℤ c -ℤ z) (alternating-opposite cs) ∙ opposites c (alternating cs)
 
-integralList-opposite : (cs : List ℤ) → integralList (map negℤ cs) ≡ map negℤ (integralList cs)
+integralList-opposite : (d : ℕ) (cs : List ℤ) → integralList d (map negℤ cs) ≡ map negℤ (integralList d cs)
 unfolding integralList
-integralList-opposite cs =
-    let tail : halved 1 (numerators (map negℤ cs)) ≡ map negℤ (halved 1 (numerators cs)) = ap (halved 1) (numerators-opposite cs) ∙ halved-opposite 0 (numerators cs) in
-    ap₂ _∷_ (ap alternating tail ∙ alternating-opposite (halved 1 (numerators cs))) tail
+integralList-opposite d cs =
+    let tail : halved d 1 (numerators (map negℤ cs)) ≡ map negℤ (halved d 1 (numerators cs)) = ap (halved d 1) (numerators-opposite cs) ∙ halved-opposite d 0 (numerators cs) in
+    ap₂ _∷_ (ap alternating tail ∙ alternating-opposite (halved d 1 (numerators cs))) tail
 
 integralModel-negated : (a : Model) → integralModel (negated a) ≡ negated (integralModel a)
 unfolding integralModel
 integralModel-negated a =
-    let l = integralList (terms a) in
-    let e : integralList (terms (negated a)) ≡ negatedFrom every 0 l =
-    ap integralList (terms-negated every a ∙ negated-every 0 (terms a)) ∙ integralList-opposite (terms a) ∙ sym (negated-every 0 l) in
-    ap (λ cs. makeModel (a .degree + 1) cs (2 * a .radius + a .degree + 1))
+    let d = extent (a .interval) in
+    let l = integralList d (terms a) in
+    let e : integralList d (terms (negated a)) ≡ negatedFrom every 0 l =
+    ap (integralList d) (terms-negated every a ∙ negated-every 0 (terms a)) ∙ integralList-opposite d (terms a) ∙ sym (negated-every 0 l) in
+    ap (λ cs. makeModel (a .degree + 1) cs (upℕ (a .radius * d) scale + a .degree + 1) (a .interval))
     (ap (λ c. c ++ replicate (coefficientCount - length c) (pos 0)) e
     ∙ ap (λ (n : ℕ). negatedFrom every 0 l ++ replicate (coefficientCount - n) (pos 0)) (length-negated every 0 l)
     ∙ sym (negated-append-zeros every 0 (coefficientCount - length l) l))
@@ -167,58 +170,5 @@ integralModel-negated a =
 pub integration-negated : (a : Model) → integration (negated a) ≡ mapOutcome negated (integration a)
 unfolding integration
 integration-negated a =
-    rw (good-negated every a, integralModel-negated a, tooLarge-negated every (integralModel a))
+    rw (good-negated every a, withinLimits-negated every a, integralModel-negated a, tooLarge-negated every (integralModel a))
     (outcome-mapped negated (integrationPlaces a) (integralModel a) zeroModel (zero-negated every))
-
--- ---- evaluate
-
-pointTerm-mirrored : (p : ℤ) (k : ℕ) → pointTerm (negℤ p) k ≡ negatedIf (odd k) (pointTerm p k)
-unfolding pointTerm odd
-pointTerm-mirrored p zero = refl
-pointTerm-mirrored p (suc zero) = turn p
-  where
-    turn : (p : ℤ) → pos 1024 *ℤ negℤ p ≡ negℤ (pos 1024 *ℤ p)
-    turn = all1 _ (simp differences (omega arith))
-pointTerm-mirrored p (suc (suc k)) =
-    ap₂ (λ u v. near (pos 2 *ℤ negℤ p *ℤ u) scale -ℤ v) (pointTerm-mirrored p (suc k)) (pointTerm-mirrored p k)
-    ∙ step (odd k) p (pointTerm p (suc k)) (pointTerm p k)
-  where
-    same-sign : (p t : ℤ) → pos 2 *ℤ negℤ p *ℤ negℤ t ≡ pos 2 *ℤ p *ℤ t
-    same-sign p t = solveℤ (p ∷ t ∷ []) (search reifyℤ depth 20) (search reifyℤ depth 20) tt
-
-    other-sign : (p t : ℤ) → pos 2 *ℤ negℤ p *ℤ t ≡ negℤ (pos 2 *ℤ p *ℤ t)
-    other-sign p t = solveℤ (p ∷ t ∷ []) (search reifyℤ depth 20) (search reifyℤ depth 20) tt
-
-    step : (b : Bool) (p u v : ℤ) → near (pos 2 *ℤ negℤ p *ℤ negatedIf (not b) u) scale -ℤ negatedIf b v ≡ negatedIf (not (not b)) (near (pos 2 *ℤ p *ℤ u) scale -ℤ v)
-    step true p u v =
-        ap (λ n. near n scale -ℤ negℤ v) (other-sign p u)
-        ∙ ap (λ c. c -ℤ negℤ v) (near-opposite (pos 2 *ℤ p *ℤ u) scale (omega arith))
-        ∙ opposites (near (pos 2 *ℤ p *ℤ u) scale) v
-    step false p u v = ap (λ n. near n scale -ℤ v) (same-sign p u)
-
-pointSum-mirrored : (p : ℤ) (k : ℕ) (cs : List ℤ) → pointSum (negℤ p) k (negatedFrom odd k cs) ≡ pointSum p k cs
-unfolding pointSum negatedFrom
-pointSum-mirrored p k [] = refl
-pointSum-mirrored p k (c ∷ cs) =
-    ap₂ _+ℤ_ (ap (λ t. negatedIf (odd k) c *ℤ t) (pointTerm-mirrored p k) ∙ both (odd k) c (pointTerm p k)) (pointSum-mirrored p (suc k) cs)
-  where
-    both : (b : Bool) (x y : ℤ) → negatedIf b x *ℤ negatedIf b y ≡ x *ℤ y
-    both true = all2 _ (simp differences (omega arith))
-    both false = λ x y. refl
-
-pointError-negated : (chosen : ℕ → Bool) (k j : ℕ) (cs : List ℤ) → pointError j (negatedFrom chosen k cs) ≡ pointError j cs
-unfolding pointError negatedFrom
-pointError-negated chosen k j [] = refl
-pointError-negated chosen k j (c ∷ cs) = ap₂ (λ (n m : ℕ). n * (j * (j - 1)) + m) (abs-negated (chosen k) c) (pointError-negated chosen (suc k) (suc j) cs)
-
--- "Negating p and the odd coefficients keeps the bounds of an evaluation."
-pub evaluation-mirrored : (a : Model) (p : ℤ) → evaluation (mirrored a) (negℤ p) ≡ evaluation a p
-unfolding evaluation lowBound highBound
-evaluation-mirrored a p =
-    rw (
-      good-negated odd a,
-      abs-neg p,
-      terms-negated odd a,
-      pointSum-mirrored p 0 (terms a),
-      pointError-negated odd 0 0 (terms a),
-    )

@@ -9,6 +9,7 @@ use Rattle.integer.specs.definitions.Rounding.{upℕ}
 use Rattle.chebyshev.specs.definitions.Coefficients.{weight}
 use Rattle.chebyshev.specs.laws.Weight.{weight-append-zeros}
 use Rattle.model.specs.definitions.InnerContracts.{RoundedFrom, formedOutcome, unlessLarge}
+use Rattle.model.specs.definitions.Intervals.{sameInterval}
 use Rattle.model.specs.definitions.Models.{scale, coefficientCount, maxDegree, good}
 use Rattle.model.specs.definitions.Outcomes.{passing}
 use Rattle.model.specs.definitions.Multiply.{keptDegree, productDegree, productList, productLoss, productModel, multiplication}
@@ -27,17 +28,18 @@ radiusLoss a b = 2 * (weight (a .coefficients) * b .radius + weight (b .coeffici
 
 -- the result from the rounded list C
 pub product-formed : (d : ℕ) (a b : Model) (r : Rounded) → RoundedFrom (2 * scale) (productList a b) (suc (productDegree d a b)) r
-    → formedOutcome (productDegree d a b) (r .coefficients) (r .weight) (upℕ (r .loss + radiusLoss a b) (2 * scale)) ≡ unlessLarge (productModel d a b)
+    → formedOutcome (productDegree d a b) (r .coefficients) (r .weight) (upℕ (r .loss + radiusLoss a b) (2 * scale)) (a .interval) ≡ unlessLarge (productModel d a b)
 unfolding productModel productLoss
 product-formed d a b r f =
     let m = productModel d a b in
     let n = productDegree d a b in
     let w : r .weight ≡ weight (m .coefficients) = f .weight-is ∙ sym (weight-append-zeros (rounded (2 * scale) (take (suc n) (productList a b))) (coefficientCount - suc n)) in
     let e : upℕ (r .loss + radiusLoss a b) (2 * scale) ≡ m .radius = ap (λ l. upℕ (l + radiusLoss a b) (2 * scale)) (f .loss-is) in
-    (λ t. formedOutcome n (r .coefficients) (w t) (e t)) ∙ formed-is m (r .coefficients) (λ h. f .coefficients-are (omega arith))
+    (λ t. formedOutcome n (r .coefficients) (w t) (e t) (a .interval)) ∙ formed-is m (r .coefficients) (λ h. f .coefficients-are (omega arith))
 
--- of two good models and a kept degree within its limit only the result is tested
-pub multiplication-of-good : (d : ℕ) (a b : Model) → good a ≡ true → good b ≡ true → keptDegree d ≤ maxDegree
+-- of two good models on one interval and a kept degree within its limit only the result is tested
+pub multiplication-of-good : (d : ℕ) (a b : Model) → good a ≡ true → good b ≡ true
+    → sameInterval (a .interval) (b .interval) ≡ true → keptDegree d ≤ maxDegree
     → unlessLarge (productModel (keptDegree d) a b) ≡ multiplication d a b
 unfolding multiplication unlessLarge passing productModel
-multiplication-of-good d a b p q h = rw (p, q, le-leb (keptDegree d) maxDegree h, kept-is (keptDegree d) h)
+multiplication-of-good d a b p q s h = rw (p, q, s, le-leb (keptDegree d) maxDegree h, kept-is (keptDegree d) h)

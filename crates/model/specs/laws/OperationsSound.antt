@@ -1,5 +1,5 @@
 -- Add, subtract and multiply are sound: what the operands allow at x, added, subtracted or multiplied, the result allows at x.
-use mathlib.Core.Path.{_≡_, subst}
+use mathlib.Core.Path.{_≡_, sym, subst}
 use mathlib.Core.Bool.{true}
 use mathlib.Core.List.{List, [], _∷_}
 use Prim.Native.Nat.{ℕ, suc, _+_, _*_, _-_}
@@ -18,6 +18,8 @@ use Rattle.model.specs.definitions.Models.{scale, coefficientCount, good
 use Rattle.model.specs.definitions.Add.{sumModel, differenceModel, addition, subtraction}
 use Rattle.model.specs.definitions.Multiply.{productModel, productList, productDegree, productLoss, multiplication}
 use Rattle.model.specs.definitions.Allowed.{position, AllowsAt, Allows, OnInterval}
+use Rattle.model.specs.laws.IntervalLaws.{within}
+use Rattle.model.specs.laws.ModelLaws.{good-is}
 use Rattle.model.specs.definitions.Round.{rounded, roundingLoss}
 use Rattle.model.specs.laws.RoundingPassLaws.{rounding-value}
 use Rattle.model.specs.laws.ValueLaws.{valueAt, valueAt-add, valueAt-subtract, valueAt-append-zeros, valueAt-weight}
@@ -71,14 +73,14 @@ product-bound s v w α β c {l} {A} {B} {e} {f} hl hα hβ hε hη =
     η = w *ℚ s -ℚ β
 
 pub multiply-sound : (d : ℕ) (a b : Model) → good a ≡ true → good b ≡ true
-    → (x v w : ℚ) → OnInterval x → AllowsAt a x v → AllowsAt b x w → AllowsAt (productModel d a b) x (v *ℚ w)
+    → (x v w : ℚ) → ∣ x ∣ℚ ≤ℚ whole (pos 1) → AllowsAt a x v → AllowsAt b x w → AllowsAt (productModel d a b) x (v *ℚ w)
 unfolding AllowsAt allows productModel productLoss
 multiply-sound d a b ga gb x v w on h k =
     rw (valueAt-append-zeros x kept (coefficientCount - suc n))
     (up-bound (productLoss n a b) (2 * scale) (v *ℚ w *ℚ whole (pos scale) -ℚ valueAt x kept) (omega arith)
     (rw (natural-mul 2 scale, loss-natural lost (weight (a .coefficients)) (weight (b .coefficients)) (a .radius) (b .radius))
     (product-bound (whole (pos scale)) v w (valueAt x (a .coefficients)) (valueAt x (b .coefficients)) (valueAt x kept)
-    rounding (valueAt-weight on (a .coefficients)) (valueAt-weight on (b .coefficients)) h k)))
+    rounding (valueAt-weight x on (a .coefficients)) (valueAt-weight x on (b .coefficients)) h k)))
   where
     n : ℕ
     n = productDegree d a b
@@ -93,22 +95,33 @@ multiply-sound d a b ga gb x v w on h k =
     loss-natural l A B e f = simp (natural-add, natural-mul)
 
     rounding : ∣ whole (pos 2) *ℚ valueAt x (a .coefficients) *ℚ valueAt x (b .coefficients) -ℚ whole (pos 2) *ℚ whole (pos scale) *ℚ valueAt x kept ∣ℚ ≤ℚ whole (pos lost)
-    rounding = rw (value-productList a b ga gb x, ← natural-mul 2 scale) (rounding-value (2 * scale) (suc n) on (productList a b))
+    rounding = rw (value-productList a b ga gb x, ← natural-mul 2 scale) (rounding-value (2 * scale) (suc n) x on (productList a b))
 
 -- ---- the same of the outcomes
 
+-- of two operands on one interval, the second read on that of the first
+on-first : (a b : Model) → a .interval ≡ b .interval → (x w : ℚ) → Allows b x w → AllowsAt b (position (a .interval) x) w
+on-first a b e x w h = subst (λ i. AllowsAt b (position i x) w) (sym e) h
+
 pub addition-sound : (a b : Model) {c : Model} → addition a b ≡ accepted c
     → (x v w : ℚ) → Allows a x v → Allows b x w → Allows c x (v +ℚ w)
-unfolding position
-addition-sound a b e x v w h k = rw (addition-accepted a b e .result) (add-sound a b x v w h k)
+unfolding sumModel
+addition-sound a b e x v w h k =
+    let p = addition-accepted a b e in
+    rw (p .result) (add-sound a b (position (a .interval) x) v w h (on-first a b (p .same-interval) x w k))
 
 pub subtraction-sound : (a b : Model) {c : Model} → subtraction a b ≡ accepted c
     → (x v w : ℚ) → Allows a x v → Allows b x w → Allows c x (v -ℚ w)
-unfolding position
-subtraction-sound a b e x v w h k = rw (subtraction-accepted a b e .result) (subtract-sound a b x v w h k)
+unfolding differenceModel
+subtraction-sound a b e x v w h k =
+    let p = subtraction-accepted a b e in
+    rw (p .result) (subtract-sound a b (position (a .interval) x) v w h (on-first a b (p .same-interval) x w k))
 
 pub multiplication-sound : (d : ℕ) (a b : Model) {c : Model} → multiplication d a b ≡ accepted c
-    → (x v w : ℚ) → OnInterval x → Allows a x v → Allows b x w → Allows c x (v *ℚ w)
-unfolding position
+    → (x v w : ℚ) → OnInterval (a .interval) x → Allows a x v → Allows b x w → Allows c x (v *ℚ w)
+unfolding productModel
 multiplication-sound d a b e x v w on h k =
-    let p = multiplication-accepted d a b e in rw (p .result) (multiply-sound d a b (p .first-good) (p .second-good) x v w on h k)
+    let p = multiplication-accepted d a b e in
+    let near = within (good-is a (p .first-good) .ends) x on in
+    rw (p .result)
+    (multiply-sound d a b (p .first-good) (p .second-good) (position (a .interval) x) v w near h (on-first a b (p .same-interval) x w k))

@@ -9,7 +9,7 @@ use Rattle.model.specs.definitions.Evaluate.{boundsOf}
 use Rattle.model.specs.declared.types.ModelOutcome.{ModelOutcome}
 use Rattle.model.specs.declared.types.BoundsOutcome.{BoundsOutcome}
 use Rattle.model.specs.declared.types.Refusal.{Refusal}
-use Rattle.model.specs.declared.types.Refusal.the-variants.{ShortArea, BadModel, LargeResult, PointOutside, NotContracting, LargeResidual, HelperNotPositive, NegativeDiscriminant, BadValue, JobEnds, BytesAfterEnd, NotAResult, TooManyResults, BadSeries, NotFinite, LargeProposal, NoRadius}
+use Rattle.model.specs.declared.types.Refusal.the-variants.{ShortArea, BadModel, LargeResult, PointOutside, NotContracting, LargeResidual, HelperNotPositive, NegativeDiscriminant, BadValue, JobEnds, BytesAfterEnd, NotAResult, TooManyResults, BadSeries, NotFinite, LargeProposal, NoRadius, BadEnds, DifferentIntervals}
 use Rattle.model.specs.declared.types.Verdict.{Verdict}
 use Rattle.model.specs.declared.types.Verdict.the-variants.{Accepted, Refused}
 
@@ -31,7 +31,9 @@ named n =
     (cond (eqb n 13) TooManyResults
     (cond (eqb n 14) BadSeries
     (cond (eqb n 15) NotFinite
-    (cond (eqb n 16) LargeProposal NoRadius)))))))))))))))
+    (cond (eqb n 16) LargeProposal
+    (cond (eqb n 17) NoRadius
+    (cond (eqb n 18) BadEnds DifferentIntervals)))))))))))))))))
 
 named-number : (r : Refusal) → named (numberOf r) ≡ r
 named-number ShortArea = refl
@@ -51,6 +53,8 @@ named-number BadSeries = refl
 named-number NotFinite = refl
 named-number LargeProposal = refl
 named-number NoRadius = refl
+named-number BadEnds = refl
+named-number DifferentIntervals = refl
 
 -- no refusal has the number of an acceptance
 pub numberOf-positive : (r : Refusal) → 0 < numberOf r
@@ -71,6 +75,8 @@ numberOf-positive BadSeries = omega arith
 numberOf-positive NotFinite = omega arith
 numberOf-positive LargeProposal = omega arith
 numberOf-positive NoRadius = omega arith
+numberOf-positive BadEnds = omega arith
+numberOf-positive DifferentIntervals = omega arith
 
 pub numberOf-injective : (r s : Refusal) → numberOf r ≡ numberOf s → r ≡ s
 numberOf-injective r s e = sym (named-number r) ∙ ap named e ∙ named-number s

@@ -1,12 +1,14 @@
 -- Lists of places (Outcomes.antt): an outcome accepts exactly if no condition holds, and then has the operation's own values.
 use mathlib.Core.Path.{_≡_, refl, sym, ap, _∙_}
 use mathlib.Core.Logic.{_↔_, _≢_, _⊎_, inl, inr}
-use mathlib.Core.Bool.{Bool, true, false, true≢false, not, cond}
+use mathlib.Core.Bool.{Bool, true, false, true≢false, not, cond, _&&_}
 use mathlib.Core.List.{List, [], _∷_, _++_}
 use Prim.Native.Nat.{ℕ}
 use native.Mathlib.Omega.{arith}
 use borrow.Author.Tests.{not-false}
-use Rattle.model.specs.definitions.Models.{good, zeroModel, badPlace}
+use Rattle.model.specs.definitions.Models.{withinLimits, good, zeroModel, badPlace, differentPlace}
+use Rattle.model.specs.definitions.Intervals.{goodEnds, sameInterval}
+use Rattle.model.specs.laws.IntervalLaws.{same-is}
 use Rattle.model.specs.definitions.Outcomes.{Outcome, accepted, refused, number, payload, mapOutcome, outcome, passing, Passed, First, here, later}
 use Rattle.model.specs.definitions.Add.{sumModel, differenceModel, addition, subtraction}
 use Rattle.model.specs.definitions.Multiply.{productModel, multiplication}
@@ -113,6 +115,21 @@ pub first-behind : (ps : List (Bool × ℕ)) {qs : List (Bool × ℕ)} {n : ℕ}
 first-behind [] f g = g
 first-behind (p ∷ ps) f g = later (f .0) (first-behind ps (f .1) g)
 
+-- S-24: "Number 18: ends wrong, straight after number 2 for the same model": wherever a model's place stands, it is those two
+module _ {A : Type 0} (m : Model) (a : A) (r : ℕ → A) where
+  pub model-places : (ps qs : List (Bool × ℕ))
+      → passing (ps ++ (badPlace m ∷ qs)) a r
+      ≡ passing (ps ++ ((not (withinLimits m), 2) ∷ (not (goodEnds (m .interval)), 18) ∷ qs)) a r
+  unfolding passing good
+  model-places [] qs = by (withinLimits m) (goodEnds (m .interval)) (passing qs a r)
+    where
+      by : (s t : Bool) (rest : A) → cond (not (s && t)) (r (cond t 2 (cond s 18 2))) rest ≡ cond (not s) (r 2) (cond (not t) (r 18) rest)
+      by true true rest = refl
+      by true false rest = refl
+      by false true rest = refl
+      by false false rest = refl
+  model-places (p ∷ ps) qs = ap (cond (p .0) (r (p .1))) (model-places ps qs)
+
 -- the place "not (good m)" passes
 pub not-of-true : (t : Bool) → t ≡ true → not t ≡ false
 not-of-true t e = ap not e
@@ -143,14 +160,16 @@ last-unused (p ∷ ps) c n a z others k unused =
 pub record Performed (a b m c : Model) : Type 0 where
   pub first-good : good a ≡ true
   pub second-good : good b ≡ true
+  pub same-interval : a .interval ≡ b .interval
   pub result : c ≡ m
 
 operation-accepted : (a b m : Model) (ps : List (Bool × ℕ)) {c : Model}
-    → outcome (badPlace a ∷ badPlace b ∷ ps) m zeroModel ≡ accepted c → Performed a b m c
+    → outcome (badPlace a ∷ badPlace b ∷ differentPlace a b ∷ ps) m zeroModel ≡ accepted c → Performed a b m c
 operation-accepted a b m ps e =
-    let (passed, same) = outcome-accepted (badPlace a ∷ badPlace b ∷ ps) m zeroModel e in record {
+    let (passed, same) = outcome-accepted (badPlace a ∷ badPlace b ∷ differentPlace a b ∷ ps) m zeroModel e in record {
       first-good = not-false (good a) (passed .0);
       second-good = not-false (good b) (passed .1 .0);
+      same-interval = same-is (a .interval) (b .interval) (not-false (sameInterval (a .interval) (b .interval)) (passed .1 .1 .0));
       result = same;
     }
 

@@ -47,15 +47,15 @@ stored ps m small = outcome-payload Storable ps m zeroModel (λ p. small-storabl
 
 pub addition-storable : (a b : Model) → Storable (payload (addition a b))
 unfolding addition
-addition-storable a b = stored _ _ (λ p. p .1 .1 .0)
+addition-storable a b = stored _ _ (λ p. p .1 .1 .1 .0)
 
 pub subtraction-storable : (a b : Model) → Storable (payload (subtraction a b))
 unfolding subtraction
-subtraction-storable a b = stored _ _ (λ p. p .1 .1 .0)
+subtraction-storable a b = stored _ _ (λ p. p .1 .1 .1 .0)
 
 pub multiplication-storable : (d : ℕ) (a b : Model) → Storable (payload (multiplication d a b))
 unfolding multiplication
-multiplication-storable d a b = stored _ _ (λ p. p .1 .1 .1 .0)
+multiplication-storable d a b = stored _ _ (λ p. p .1 .1 .1 .1 .0)
 
 pub integration-storable : (a : Model) → Storable (payload (integration a))
 unfolding integration

@@ -16,7 +16,6 @@ use Rattle.integer.specs.laws.RoundingLaws.{near-closer}
 use Rattle.integer.specs.laws.RoundingSize.{near-size}
 use Rattle.chebyshev.specs.definitions.Coefficients.{weight, addLists, scaleList, subtractLists}
 use Rattle.chebyshev.specs.laws.Weight.{weight-split}
-use Rattle.model.specs.definitions.Allowed.{OnInterval}
 use Rattle.model.specs.definitions.InnerContracts.{RoundedFrom}
 use Rattle.model.specs.definitions.Round.{rounded, roundingLoss}
 use Rattle.model.specs.laws.ValueLaws.{valueAt, valueAt-scale, valueAt-difference}
@@ -94,11 +93,11 @@ rounding-weight d (suc k) [] = refl
 rounding-weight d (suc k) (c ∷ cs) = omega (arith, rounding-weight d k cs)
 
 -- what rounding and dropping lose at every fraction
-pub rounding-value : (d k : ℕ) {x : ℚ} → OnInterval x → (cs : List ℤ)
+pub rounding-value : (d k : ℕ) (x : ℚ) → ∣ x ∣ℚ ≤ℚ whole (pos 1) → (cs : List ℤ)
     → ∣ valueAt x cs -ℚ whole (pos d) *ℚ valueAt x (rounded d (take k cs)) ∣ℚ ≤ℚ whole (pos (roundingLoss d (take k cs) + weight (drop k cs)))
-rounding-value d k {x} on cs =
+rounding-value d k x on cs =
     rw (← valueAt-scale x (pos d) (rounded d (take k cs)), ← rounding-weight d k cs)
-    (valueAt-difference on cs (scaleList ℤ-ring (pos d) (rounded d (take k cs))))
+    (valueAt-difference x on cs (scaleList ℤ-ring (pos d) (rounded d (take k cs))))
 
 -- ---- the result of the pass
 

@@ -1,11 +1,11 @@
 -- The bound of request S-8 is attained: of the integrand S·T_1 with radius 0, whose only allowed value at x is x, the sum over k
 -- strips from −1 to 1 lies 2·L/k units below the integral's polynomial, for every k. The radius is the rounding part alone. And a
 -- choice that lies a radius off the polynomial.
-use mathlib.Core.Path.{_≡_, refl, sym, _∙_, ap, ap₂}
+use mathlib.Core.Path.{_≡_, refl, sym, _∙_, ap, ap₂, subst}
 use mathlib.Core.List.{[], _∷_}
 use Prim.Native.Nat.{ℕ, zero, suc, _*_, _<_}
 use lib.IntN.{pos, negsuc}
-use Rattle.integer.specs.definitions.Rounding.{floor, near}
+use Rattle.integer.specs.definitions.Rounding.{floor, upℕ, near}
 use Rattle.integer.specs.laws.Embedding.{ι-suc, ι-abs}
 use Rattle.integer.specs.laws.OrderedRingLaws.{le-of-eq}
 use Rattle.integer.specs.definitions.Fraction.{ℚ, whole, _+ℚ_, _-ℚ_, -ℚ_, _*ℚ_, ∣_∣ℚ, _/ℚ_, inverse}
@@ -20,7 +20,9 @@ use Rattle.chebyshev.specs.laws.PrimitiveLaws.{double-injective}
 use Rattle.chebyshev.specs.laws.Sign.{value-one}
 use Rattle.chebyshev.specs.definitions.Strips.{leftSum}
 use Rattle.chebyshev.specs.definitions.Allows.{allows}
-use Rattle.model.specs.definitions.Models.{scale, good, tooLarge, makeModel}
+use Rattle.model.specs.definitions.Models.{scale, partsWithinLimits, good, tooLarge, standardModel}
+use Rattle.model.specs.definitions.Intervals.{goodEnds, extent, standardInterval}
+use Rattle.model.specs.laws.StandardInterval.{position-standard, start-standard}
 use Rattle.model.specs.definitions.Outcomes.{accepted, passing}
 use Rattle.model.specs.definitions.Allowed.{position, AllowsAt}
 use Rattle.model.specs.definitions.Integrate.{integration, integralModel, integralList, halved, numerators, doubleFirst, alternating}
@@ -30,10 +32,10 @@ use Rattle.model.specs.laws.Examples.{padded, linear}
 use Rattle.model.specs.declared.types.Model.{Model}
 
 abbrev pub linearIntegral : Model
-linearIntegral = makeModel 2 (padded (negsuc 262143 ∷ pos 0 ∷ pos 262144 ∷ [])) 2
+linearIntegral = standardModel 2 (padded (negsuc 262143 ∷ pos 0 ∷ pos 262144 ∷ [])) 2
 
 pub linear-integral : integration linear ≡ accepted linearIntegral
-unfolding integration integralModel integralList halved numerators doubleFirst alternating passing good tooLarge weight addLists subtractLists floor near
+unfolding integration goodEnds partsWithinLimits extent upℕ integralModel integralList halved numerators doubleFirst alternating passing good tooLarge weight addLists subtractLists floor near
 linear-integral = refl
 
 -- L is S
@@ -43,19 +45,20 @@ linear-lipschitz = refl
 
 -- the choice of x at x
 pub linear-chosen : Chooses linear (λ x. x)
-unfolding position AllowsAt allows value valueFrom firstKind
+unfolding AllowsAt allows value valueFrom firstKind
 linear-chosen x on =
-    le-of-eq ℚ-ordered
+    subst (λ y. AllowsAt linear y x) (sym (position-standard x))
+    (le-of-eq ℚ-ordered
     (ap (λ v. ∣ x *ℚ whole (pos scale) -ℚ v ∣ℚ) (valueAt-append-zeros x (pos 0 ∷ pos 1048576 ∷ []) 31)
     ∙ ap ∣_∣ℚ (solveℚ (x ∷ []) (search reifyℚ depth 20) (search reifyℚ depth 20) tt)
-    ∙ ι-abs ℚ-ordered (pos 0))
+    ∙ ι-abs ℚ-ordered (pos 0)))
 
 -- a choice off the polynomial: one unit everywhere, of the zero polynomial with radius 1
-pub unit-chosen : Chooses (makeModel 0 (padded []) 1) (λ x. whole (pos 1) /ℚ whole (pos scale))
-unfolding position AllowsAt allows value valueFrom
+pub unit-chosen : Chooses (standardModel 0 (padded []) 1) (λ x. whole (pos 1) /ℚ whole (pos scale))
+unfolding AllowsAt allows value valueFrom
 unit-chosen x on =
     le-of-eq ℚ-ordered
-    (ap₂ (λ u v. ∣ u -ℚ v ∣ℚ) (quotient-mul (whole (pos 1)) (whole (pos scale)) scale-nonzero) (valueAt-append-zeros x [] 33)
+    (ap₂ (λ u v. ∣ u -ℚ v ∣ℚ) (quotient-mul (whole (pos 1)) (whole (pos scale)) scale-nonzero) (valueAt-append-zeros (position standardInterval x) [] 33)
     ∙ ap ∣_∣ℚ one
     ∙ ι-abs ℚ-ordered (pos 1))
   where
@@ -77,10 +80,11 @@ sum-of-ends (suc k) y h =
 
 -- the sum is the polynomial's value less 2·L/k units
 pub linear-attained : (k : ℕ) → 0 < k
-    → stripSum (λ x. x) (whole (pos 1)) k *ℚ whole (pos scale) ≡ valueAt (whole (pos 1)) (linearIntegral .coefficients) -ℚ whole (pos (2 * lipschitz linear)) /ℚ whole (pos k)
+    → stripSum (linear .interval) (λ x. x) (whole (pos 1)) k *ℚ whole (pos scale) ≡ valueAt (whole (pos 1)) (linearIntegral .coefficients) -ℚ whole (pos (2 * lipschitz linear)) /ℚ whole (pos k)
 unfolding stripSum coefficientSum lipschitzWeight
 linear-attained k positive =
-    ap (λ v. v *ℚ whole (pos scale)) (double-injective sum (-ℚ width) doubled)
+    ap (λ p. leftSum (λ x. x) p ((whole (pos 1) -ℚ p) /ℚ whole (pos k)) k *ℚ whole (pos scale)) start-standard
+    ∙ ap (λ v. v *ℚ whole (pos scale)) (double-injective sum (-ℚ width) doubled)
     ∙ solveℚ (inverse (whole (pos k)) ∷ []) (search reifyℚ depth 20) (search reifyℚ depth 20) tt
     ∙ ap (λ v. v -ℚ whole (pos (2 * lipschitz linear)) /ℚ whole (pos k)) (sym (value-one (linearIntegral .coefficients)))
   where

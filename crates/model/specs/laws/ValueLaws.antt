@@ -6,7 +6,7 @@ use native.Mathlib.Omega.{arith}
 use lib.IntN.{ℤ, pos}
 use lib.ListN.{replicate}
 use Rattle.integer.specs.definitions.Integer.{ℤ-ring}
-use Rattle.integer.specs.laws.OrderedRingLaws.{abs-le, le-of-eq}
+use Rattle.integer.specs.laws.OrderedRingLaws.{le-of-eq}
 use Rattle.integer.specs.definitions.Fraction.{ℚ, whole, _+ℚ_, _-ℚ_, -ℚ_, _*ℚ_, _≤ℚ_, ∣_∣ℚ}
 use Rattle.integer.specs.definitions.FractionRing.{ℚ-ring}
 use Rattle.integer.specs.laws.FractionOrder.{ℚ-ordered}
@@ -15,7 +15,6 @@ use Rattle.chebyshev.specs.laws.CoefficientLaws.{value-add, value-subtract, val
 use Rattle.chebyshev.specs.laws.NormLaws.{value-bound, norm-whole}
 use Rattle.integer.specs.laws.FractionRounding.{natural-positive}
 use Rattle.model.specs.definitions.Models.{scale}
-use Rattle.model.specs.definitions.Allowed.{OnInterval}
 
 -- Σ a_k·T_k(x)
 abbrev pub valueAt : ℚ → List ℤ → ℚ
@@ -37,10 +36,7 @@ module _ (x : ℚ) where
   pub valueAt-append-zeros : (a : List ℤ) (n : ℕ) → valueAt x (a ++ replicate n (pos 0)) ≡ valueAt x a
   valueAt-append-zeros a n = simp (map-append, map-ι-zeros ℚ-ring) (value-append-zeros ℚ-ring x (map whole a) n)
 
-module _ {x : ℚ} (h : OnInterval x) where
-  pub within : ∣ x ∣ℚ ≤ℚ whole (pos 1)
-  within = abs-le ℚ-ordered (h .below) (h .above)
-
+module _ (x : ℚ) (within : ∣ x ∣ℚ ≤ℚ whole (pos 1)) where
   -- |value a| ≤ weight a
   pub valueAt-weight : (a : List ℤ) → ∣ valueAt x a ∣ℚ ≤ℚ whole (pos (weight a))
   valueAt-weight a = rw (norm-whole ℚ-ordered) at (value-bound ℚ-ordered x (map whole a) within)

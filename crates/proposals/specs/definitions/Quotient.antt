@@ -3,7 +3,7 @@ use mathlib.Core.Bool.{_&&_}
 use mathlib.Core.List.{List, [], _∷_, map}
 use lib.ListN.{replicate}
 use lib.Ieee.{Float}
-use Rattle.model.specs.definitions.Models.{coefficientCount, badPlace}
+use Rattle.model.specs.definitions.Models.{coefficientCount, badPlace, differentPlace}
 use Rattle.model.specs.definitions.Outcomes.{Outcome, outcome, judged}
 use Rattle.model.specs.declared.types.Model.{Model}
 use Rattle.model.specs.declared.types.Candidate.{Candidate}
@@ -38,7 +38,8 @@ quotientProposal f g =
     let h = map unitsOf q in
     let w = map unitsOf (m .round .coefficients) in
     outcome
-    (badPlace f ∷ badPlace g ∷ notFinitePlace (m .finite && allFinite q) ∷ weightPlace h ∷ weightPlace w ∷ [])
+    (badPlace f ∷ badPlace g ∷ differentPlace f g
+    ∷ notFinitePlace (m .finite && allFinite q) ∷ weightPlace h ∷ weightPlace w ∷ [])
     (makeQuotient (m .ending) q (m .round) (candidateIn h) (candidateIn w))
     refusedQuotient
 

@@ -14,7 +14,8 @@ use Rattle.integer.specs.definitions.Rounding.{floor, near}
 use Rattle.integer.specs.laws.NearLaws.{near-whole}
 use Rattle.chebyshev.specs.definitions.Coefficients.{weight}
 use Rattle.chebyshev.specs.laws.Weight.{weight-zeros}
-use Rattle.model.specs.definitions.Models.{scale, maxWeight, good, constantModel}
+use Rattle.model.specs.definitions.Intervals.{goodEnds}
+use Rattle.model.specs.definitions.Models.{partsWithinLimits, scale, maxWeight, good, constantModel}
 use Rattle.model.specs.definitions.Outcomes.{accepted, refused, passing}
 use Rattle.proposals.specs.definitions.Values.{nought, settledLimit, valueOf}
 use Rattle.proposals.specs.definitions.Rounds.{nextRound, finiteRound, roundOf, madeOf, improved, rounds}
@@ -39,7 +40,7 @@ unfolding weight
 constant-weight n = rw (weight-zeros 32) (omega arith)
 
 pub constant-good : (n : ℕ) → n ≤ maxWeight → good (constantModel (pos n)) ≡ true
-unfolding good constantModel
+unfolding good goodEnds partsWithinLimits constantModel
 constant-good n h = rw (constant-weight n, le-leb n maxWeight h, weight-zeros 32)
 
 no-value : valueOf (pos 0) ≡ nought

@@ -10,7 +10,8 @@ use Rattle.integer.specs.definitions.Rounding.{floor, near}
 use Rattle.integer.specs.definitions.Lists.{zeros}
 use Rattle.chebyshev.specs.definitions.Coefficients.{weight}
 use Rattle.chebyshev.specs.definitions.Product.{addAtBy, addPairBy, addTermBy, addTermsBy}
-use Rattle.model.specs.definitions.Models.{good, zeroModel, makeModel}
+use Rattle.model.specs.definitions.Intervals.{goodEnds}
+use Rattle.model.specs.definitions.Models.{partsWithinLimits, good, standardModel}
 use Rattle.model.specs.definitions.Area.{areaOut}
 use Rattle.model.specs.definitions.Outcomes.{accepted, refused, passing}
 use Rattle.proposals.specs.definitions.Values.{nought, one, two, settledLimit, difference, magnitude, greater, allFinite, valueOf}
@@ -131,17 +132,17 @@ not-finite-first = refl
 -- ---- makers
 
 -- g_0 = 0
-of-zero : reciprocalProposal (makeModel 1 (pos 0 ∷ pos 5 ∷ replicate 31 (pos 0)) 0) ≡ refused 15 refusedReciprocal
-unfolding reciprocalProposal passing reciprocalRounds good weight valueOf ofInt div round eq
+of-zero : reciprocalProposal (standardModel 1 (pos 0 ∷ pos 5 ∷ replicate 31 (pos 0)) 0) ≡ refused 15 refusedReciprocal
+unfolding reciprocalProposal passing reciprocalRounds goodEnds partsWithinLimits good weight valueOf ofInt div round eq
 of-zero = refl
 
 -- a bad model is 2, though its g_0 is 0
-of-bad : reciprocalProposal (makeModel 33 (replicate 33 (pos 0)) 0) ≡ refused 2 refusedReciprocal
-unfolding reciprocalProposal passing good
+of-bad : reciprocalProposal (standardModel 33 (replicate 33 (pos 0)) 0) ≡ refused 2 refusedReciprocal
+unfolding reciprocalProposal passing goodEnds partsWithinLimits good
 of-bad = refl
 
-by-bad : quotientProposal zeroModel (makeModel 0 (replicate 33 (pos 0)) (2 ^ 28 + 1)) ≡ refused 2 refusedQuotient
-unfolding quotientProposal passing good zeroModel weight
+by-bad : quotientProposal (standardModel 0 (replicate 33 (pos 0)) 0) (standardModel 0 (replicate 33 (pos 0)) (2 ^ 28 + 1)) ≡ refused 2 refusedQuotient
+unfolding quotientProposal passing goodEnds partsWithinLimits good weight
 by-bad = refl
 
 -- ---- areas
@@ -152,7 +153,7 @@ unfolding reciprocalIn areaOut refusedReciprocal zeroRound zeroCandidate zeros
 short-model = refl
 
 -- the outcome has no number
-short-outcome : makeQuotientAnswer (replicate 35 (pos 0)) (replicate 35 (pos 0)) (replicate 67 one) (replicate 34 (pos 1)) (replicate 35 (pos 1)) []
+short-outcome : makeQuotientAnswer (replicate 37 (pos 0)) (replicate 37 (pos 0)) (replicate 67 one) (replicate 34 (pos 1)) (replicate 35 (pos 1)) []
     ≡ quotientAnswer 1 (replicate 67 nought) (replicate 34 (pos 0)) (replicate 34 (pos 0) ++ (pos 1 ∷ [])) []
 unfolding quotientIn areaOut refusedQuotient zeroRound zeroCandidate zeros
 short-outcome = refl

@@ -8,7 +8,8 @@ use lib.Dec.{T, ltb}
 use lib.IntN.{ℤ}
 use lib.Ieee.{Float, binary64, div, eq}
 use Rattle.chebyshev.specs.definitions.Coefficients.{weight}
-use Rattle.model.specs.definitions.Models.{good, maxWeight}
+use Rattle.model.specs.definitions.Intervals.{sameInterval}
+use Rattle.model.specs.definitions.Models.{fault, good, maxWeight}
 use Rattle.model.specs.definitions.Outcomes.{Outcome, accepted, refused, passing, numberOf, judged}
 use Rattle.model.specs.laws.OutcomeLaws.{judged-injective}
 use Rattle.model.specs.declared.types.Model.{Model}
@@ -94,7 +95,7 @@ finite-units k z v f = rw f (go (ltb maxWeight (weight (map unitsOf v))))
 -- ---- the maker of reciprocals
 
 module _ (g : Model) where
-  pub reciprocal-of-bad : good g ≡ false → refused 2 refusedReciprocal ≡ reciprocalProposal g
+  pub reciprocal-of-bad : good g ≡ false → refused (fault g) refusedReciprocal ≡ reciprocalProposal g
   unfolding reciprocalProposal passing
   reciprocal-of-bad b = rw b
 
@@ -114,19 +115,23 @@ module _ (g : Model) where
 -- ---- the maker of quotients
 
 module _ (f g : Model) where
-  pub quotient-of-bad : good f ≡ false → refused 2 refusedQuotient ≡ quotientProposal f g
+  pub quotient-of-bad : good f ≡ false → refused (fault f) refusedQuotient ≡ quotientProposal f g
   unfolding quotientProposal passing
   quotient-of-bad b = rw b
 
   module _ (bf : good f ≡ true) where
-    pub quotient-by-bad : good g ≡ false → refused 2 refusedQuotient ≡ quotientProposal f g
+    pub quotient-by-bad : good g ≡ false → refused (fault g) refusedQuotient ≡ quotientProposal f g
     unfolding quotientProposal passing
     quotient-by-bad b = rw (bf, b)
 
-    module _ (m : Made) (bg : good g ≡ true) (em : m ≡ reciprocalRounds (valuesOf g)) where
+    pub quotient-different : good g ≡ true → sameInterval (f .interval) (g .interval) ≡ false → refused 19 refusedQuotient ≡ quotientProposal f g
+    unfolding quotientProposal passing
+    quotient-different bg e = rw (bf, bg, e)
+
+    module _ (m : Made) (bg : good g ≡ true) (same : sameInterval (f .interval) (g .interval) ≡ true) (em : m ≡ reciprocalRounds (valuesOf g)) where
       pub quotient-not-finite : m .finite ≡ false → refused 15 refusedQuotient ≡ quotientProposal f g
       unfolding quotientProposal passing
-      quotient-not-finite e = rw (bf, bg, ← em, e)
+      quotient-not-finite e = rw (bf, bg, same, ← em, e)
 
       pub quotient-in-units : (q : List Float) → q ≡ product (valuesOf f) (m .round .coefficients) → m .finite ≡ true
           → thenUnits (λ h. thenUnits (λ w. accepted (makeQuotient (m .ending) q (m .round) h w)) refusedQuotient (inUnits (m .round .coefficients))) refusedQuotient (inUnits q)
@@ -151,8 +156,8 @@ module _ (f g : Model) where
               let h = candidateIn (map unitsOf q) in
               finite-units first refusedQuotient q a
               ∙ ap (cond (ltb maxWeight (weight (map unitsOf q))) (refused 16 refusedQuotient)) (finite-units (second h) refusedQuotient v finite)
-              ∙ rw (bf, bg, ← em, e, ← eq, a)
-          go false a = ap (thenUnits first refusedQuotient) (sym (units-not-finite q a)) ∙ rw (bf, bg, ← em, e, ← eq, a)
+              ∙ rw (bf, bg, same, ← em, e, ← eq, a)
+          go false a = ap (thenUnits first refusedQuotient) (sym (units-not-finite q a)) ∙ rw (bf, bg, same, ← em, e, ← eq, a)
 
 -- ---- no two answers of code have one meaning
 

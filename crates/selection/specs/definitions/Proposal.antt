@@ -5,7 +5,6 @@ use Prim.Native.Nat.{ℕ}
 use lib.Dec.{ltb}
 use lib.IntN.{ℤ}
 use lib.ListN.{length, drop}
-use Rattle.model.specs.definitions.Models.{candidateModel}
 use Rattle.model.specs.definitions.Area.{candidateSize, areaCandidate}
 use Rattle.model.specs.definitions.Outcomes.{Outcome, refused, mapOutcome, judged}
 use Rattle.model.specs.declared.types.Model.{Model}
@@ -29,7 +28,7 @@ proposedHelper s = areaCandidate (drop candidateSize s)
 unfoldable pub proposalNeeding : ℕ → ℕ → Model → Model → List ℤ → Outcome Certificate
 proposalNeeding need len f g s =
     cond (ltb (length s) proposalSize) (refused 1 zeroCertificate)
-    (quotientNeeding need len f g (candidateModel (proposedAnswer s)) (candidateModel (proposedHelper s)))
+    (quotientNeeding need len f g (proposedAnswer s) (proposedHelper s))
 
 abbrev pub proposalTest : ℕ → Model → Model → List ℤ → Outcome Certificate
 proposalTest len f g s = proposalNeeding scratchSize len f g s

@@ -7,7 +7,8 @@ use lib.ListN.{replicate, take}
 use Rattle.integer.specs.definitions.Rounding.{upℕ}
 use Rattle.chebyshev.specs.definitions.Coefficients.{weight, addLists, subtractLists, scaleList}
 use Rattle.chebyshev.specs.definitions.Product.{product, addAtBy, addPairBy, addTermBy, addTermsBy}
-use Rattle.model.specs.definitions.Models.{good, tooLarge, constantModel, zeroModel}
+use Rattle.model.specs.definitions.Intervals.{goodEnds, sameInterval}
+use Rattle.model.specs.definitions.Models.{partsWithinLimits, good, tooLarge, constantModel, zeroModel}
 use Rattle.model.specs.definitions.Outcomes.{Outcome, accepted, refused, passing}
 use Rattle.model.specs.definitions.Multiply.{productList}
 use Rattle.model.specs.declared.types.Model.{Model}
@@ -17,10 +18,10 @@ use Rattle.selection.specs.definitions.Proposal.{proposalNeeding}
 use Rattle.selection.specs.definitions.Select.{selectionNeeding, Selected, makeSelected, tighter, selection, partNumbers, partPointer}
 
 -- a constant, as a candidate's 34 numbers
-abbrev constantCandidate : ℤ → List ℤ
+abbrev pub constantCandidate : ℤ → List ℤ
 constantCandidate c = pos 0 ∷ c ∷ replicate 32 (pos 0)
 
-abbrev proposal : ℕ → ℕ → List ℤ
+abbrev pub proposal : ℕ → ℕ → List ℤ
 proposal h w = constantCandidate (pos h) ++ constantCandidate (pos w)
 
 abbrev f : Model
@@ -30,7 +31,7 @@ abbrev g : Model
 g = constantModel (pos 3145728)
 
 -- a third of S
-abbrev w : ℕ
+abbrev pub w : ℕ
 w = 349525
 
 abbrev pair : List ℤ → List ℤ → Outcome Selected
@@ -58,7 +59,7 @@ Selections =
     × (selectionNeeding 65 64 f g (proposal 699051 w) (proposal 699051 w) ≡ refused 1 (makeSelected 0 0))
 
 pub selections : Selections
-unfolding tighter proposalNeeding quotientNeeding quotientContraction quotientResidual quotientModel displacement productList passing good tooLarge constantModel zeroModel weight addLists subtractLists scaleList addAtBy addPairBy addTermBy addTermsBy product upℕ
+unfolding tighter proposalNeeding quotientNeeding quotientContraction quotientResidual quotientModel displacement productList passing sameInterval goodEnds partsWithinLimits good tooLarge constantModel zeroModel weight addLists subtractLists scaleList addAtBy addPairBy addTermBy addTermsBy product upℕ
 selections = (refl, refl, refl, refl, refl, refl, refl, refl, refl, refl, refl, refl, refl, refl, refl, refl)
 
 -- h's coefficients behind the degree, in the chosen slice; of none an empty part where the first begins

@@ -8,13 +8,13 @@ use borrow.Author.Tests.{ltb-true, ltb-false, le-ltb, lt-ltb}
 use lib.Dec.{ltb}
 use lib.IntN.{ℤ}
 use lib.ListN.{length, take, drop}
-use Rattle.model.specs.definitions.Models.{productSize, candidateModel, makeModel, zeroModel}
+use Rattle.model.specs.definitions.Models.{productSize, makeModel, zeroModel}
 use Rattle.model.specs.definitions.Area.{candidateSize, areaCandidate}
 use Rattle.model.specs.laws.AreaLaws.{candidate-front}
 use Rattle.model.specs.definitions.Outcomes.{accepted, refused, mapOutcome, judged}
 use Rattle.model.specs.laws.PlaceLaws.{refused-not-accepted}
 use Rattle.model.specs.laws.OutcomeLaws.{judged-mapped}
-use Rattle.model.specs.definitions.Allowed.{position, AllowsAt}
+use Rattle.model.specs.definitions.Allowed.{AllowsAt}
 use Rattle.model.specs.declared.types.Model.{Model}
 use Rattle.model.specs.declared.types.Candidate.{Candidate}
 use Rattle.certificate.specs.definitions.Tests.{scratchSize, Certificate, zeroCertificate, testOf}
@@ -33,14 +33,14 @@ module _ (f g : Model) (s : List ℤ) where
   unfolding proposalNeeding
   proposal-as-65 room room′ =
       ap (cond (ltb (length s) proposalSize) (refused 1 zeroCertificate))
-      (quotient-as-65 f g (candidateModel (proposedAnswer s)) (candidateModel (proposedHelper s)) room room′)
+      (quotient-as-65 f g (proposedAnswer s) (proposedHelper s) room room′)
 
   -- a proposal that is short is refused with 1 too
   pub proposal-below-16 : (len : ℕ) → len < scratchSize → proposalTest len f g s ≡ refused 1 zeroCertificate
   unfolding proposalNeeding
   proposal-below-16 len e =
       ap (cond (ltb (length s) proposalSize) (refused 1 zeroCertificate))
-      (quotient-below-16 f g (candidateModel (proposedAnswer s)) (candidateModel (proposedHelper s)) len e)
+      (quotient-below-16 f g (proposedAnswer s) (proposedHelper s) len e)
       ∙ either (ltb (length s) proposalSize)
     where
       either : (t : Bool) → cond t (refused 1 zeroCertificate) (refused 1 zeroCertificate) ≡ refused 1 zeroCertificate
@@ -86,16 +86,16 @@ module _ (len : ℕ) (f g : Model) (s : List ℤ) {c : Certificate} (passes : pr
   test-passes = sym (proposal-long len f g s passes-long) ∙ passes
 
   -- the test's result is the proposed h with the radius
-  pub proposal-result : c .model ≡ makeModel (proposedAnswer s .degree) (proposedAnswer s .coefficients) (c .model .radius)
+  pub proposal-result : c .model ≡ makeModel (proposedAnswer s .degree) (proposedAnswer s .coefficients) (c .model .radius) (f .interval)
   unfolding quotientModel
   proposal-result =
-      let same = quotient-passes len f g (candidateModel (proposedAnswer s)) (candidateModel (proposedHelper s)) test-passes .1 in rw same
+      let same = quotient-passes len f g (proposedAnswer s) (proposedHelper s) test-passes .1 in rw same
 
   pub proposal-allowed : QuotientAllowed f g (proposedAnswer s .coefficients) (c .model .radius)
-  unfolding position AllowsAt
+  unfolding AllowsAt
   proposal-allowed = record {
     divisor = λ x v on hv.
-        quotient-nonzero len f g (candidateModel (proposedAnswer s)) (candidateModel (proposedHelper s)) test-passes x on v hv;
+        quotient-nonzero len f g (proposedAnswer s) (proposedHelper s) test-passes x on v hv;
     quotient = λ x u v on hu hv.
-        rw proposal-result at (quotient-sound len f g (candidateModel (proposedAnswer s)) (candidateModel (proposedHelper s)) test-passes x on u v hu hv);
+        rw proposal-result at (quotient-sound len f g (proposedAnswer s) (proposedHelper s) test-passes x on u v hu hv);
   }

@@ -10,7 +10,7 @@ use lib.ListN.{length, drop, length-drop}
 use lib.Seq.{length-take-le}
 use Rattle.integer.specs.definitions.Fraction.{ℚ, whole, _/ℚ_}
 use Rattle.model.specs.definitions.Models.{coefficientCount, makeModel}
-use Rattle.model.specs.definitions.Allowed.{position, AllowsAt, Allows, OnInterval}
+use Rattle.model.specs.definitions.Allowed.{AllowsAt, Allows, OnInterval}
 use Rattle.model.specs.definitions.Outcomes.{accepted}
 use Rattle.model.specs.laws.PlaceLaws.{mapped-accepted}
 use Rattle.model.specs.declared.types.Model.{Model}
@@ -54,7 +54,7 @@ module _ (len : ℕ) (f g : Model) (first second : List ℤ) {c : Selected} (acc
       count s h = length-take-le coefficientCount (drop 1 s) (omega (arith, h, length-drop 1 s))
 
 -- the claim put to use, of a part with any degree
-pub allowed-quotient : {f g : Model} {cs : List ℤ} {e : ℕ} → QuotientAllowed f g cs e → (n : ℕ) (x u v : ℚ) → OnInterval x
-    → Allows f x u → Allows g x v → (¬ (v ≡ whole (pos 0))) × Allows (makeModel n cs e) x (u /ℚ v)
-unfolding position AllowsAt
+pub allowed-quotient : {f g : Model} {cs : List ℤ} {e : ℕ} → QuotientAllowed f g cs e → (n : ℕ) (x u v : ℚ) → OnInterval (f .interval) x
+    → Allows f x u → Allows g x v → (¬ (v ≡ whole (pos 0))) × Allows (makeModel n cs e (f .interval)) x (u /ℚ v)
+unfolding AllowsAt
 allowed-quotient q n x u v on hu hv = (q .divisor x v on hv, q .quotient x u v on hu hv)

@@ -9,7 +9,7 @@ use lib.ListN.{replicate, take, drop}
 use Rattle.integer.specs.definitions.Integer.{ℤ-ring}
 use Rattle.integer.specs.definitions.Rounding.{upℕ}
 use Rattle.chebyshev.specs.definitions.Coefficients.{weight, addLists, scaleList}
-use Rattle.model.specs.definitions.Models.{maxDegree, maxWeight, coefficientCount, makeModel, zeroModel, largePlace}
+use Rattle.model.specs.definitions.Models.{maxDegree, maxWeight, coefficientCount, standardModel, zeroModel, largePlace}
 use Rattle.model.specs.definitions.Outcomes.{Outcome, outcome}
 use Rattle.model.specs.definitions.Round.{rounded, roundingLoss}
 use Rattle.model.specs.declared.types.Model.{Model}
@@ -41,7 +41,7 @@ expanded s = expandedFrom 0 (seriesTerms s)
 -- "The degree stays, coefficients are rounded near, and the radius is the total absolute rounding difference, rounded up."
 unfoldable pub seriesModel : Series → Model
 seriesModel s =
-    makeModel (s .degree)
+    standardModel (s .degree)
     (rounded expansionUnit (expanded s) ++ replicate (coefficientCount - suc (s .degree)) (pos 0))
     (upℕ (roundingLoss expansionUnit (expanded s)) expansionUnit)
 

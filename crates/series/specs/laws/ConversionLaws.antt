@@ -17,7 +17,8 @@ use Rattle.chebyshev.specs.laws.Weight.{weight-add, weight-scale, weight-append
 use Rattle.integer.specs.definitions.Rounding.{upℕ}
 use Rattle.model.specs.definitions.Area.{Storable}
 use Rattle.model.specs.definitions.InnerContracts.{RoundedFrom, formedOutcome, unlessLarge}
-use Rattle.model.specs.definitions.Models.{maxDegree, coefficientCount, makeModel, zeroModel, good}
+use Rattle.model.specs.definitions.Intervals.{goodEnds, standardInterval}
+use Rattle.model.specs.definitions.Models.{partsWithinLimits, maxDegree, coefficientCount, standardModel, zeroModel, good}
 use Rattle.model.specs.definitions.Outcomes.{refused, payload, passing}
 use Rattle.model.specs.definitions.Round.{rounded, roundingLoss}
 use Rattle.model.specs.laws.FormedLaws.{formed-is}
@@ -117,17 +118,18 @@ from-zeros (suc m) (x ∷ e) h = ap₂ _∷_ (ℤ-ring .zero-add x) (from-zeros 
 -- ---- a series within its limits
 
 -- the limits are a model's, with radius 0
-pub series-good : (s : Series) → good (makeModel (s .degree) (s .coefficients) 0) ≡ goodSeries s
-unfolding good goodSeries
+pub series-good : (s : Series) → partsWithinLimits (s .degree) (s .coefficients) 0 ≡ goodSeries s
+unfolding partsWithinLimits goodSeries
 series-good s = refl
 
-pub limits : (s : Series) → goodSeries s ≡ true → Good (makeModel (s .degree) (s .coefficients) 0)
-limits s h = good-is (makeModel (s .degree) (s .coefficients) 0) (series-good s ∙ h)
+pub limits : (s : Series) → goodSeries s ≡ true → Good (standardModel (s .degree) (s .coefficients) 0)
+unfolding good goodEnds
+limits s h = good-is (standardModel (s .degree) (s .coefficients) 0) (rw (series-good s ∙ h))
 
 -- ---- the result from the rounded sums
 
 pub series-formed : (s : Series) (r : Rounded) → length (seriesTerms s) ≡ suc (s .degree) → RoundedFrom expansionUnit (expanded s) (suc (s .degree)) r
-    → formedOutcome (s .degree) (r .coefficients) (r .weight) (upℕ (r .loss) expansionUnit) ≡ unlessLarge (seriesModel s)
+    → formedOutcome (s .degree) (r .coefficients) (r .weight) (upℕ (r .loss) expansionUnit) standardInterval ≡ unlessLarge (seriesModel s)
 unfolding seriesModel
 series-formed s r l f =
     let m = seriesModel s in
@@ -139,7 +141,7 @@ series-formed s r l f =
     let loss : r .loss ≡ roundingLoss expansionUnit (expanded s) =
     f .loss-is ∙ omega (arith, ap (roundingLoss expansionUnit) all, weight-end (expanded s) n (omega (arith, l, length-expanded (seriesTerms s)))) in
     let e : upℕ (r .loss) expansionUnit ≡ m .radius = ap (λ z. upℕ z expansionUnit) loss in
-    (λ t. formedOutcome (s .degree) (r .coefficients) (w t) (e t))
+    (λ t. formedOutcome (s .degree) (r .coefficients) (w t) (e t) standardInterval)
     ∙ formed-is m (r .coefficients) (λ h. f .coefficients-are (omega arith) ∙ ap (λ c. rounded expansionUnit c ++ replicate (coefficientCount - n) (pos 0)) all)
 
 -- of a series within its limits only the result is tested

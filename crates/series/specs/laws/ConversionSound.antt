@@ -1,5 +1,5 @@
 -- Document 02, S-3: "Each converted model allows the series' exact value at every fraction from −1 to 1."
-use mathlib.Core.Path.{_≡_, refl, sym, _∙_, ap, ap₂}
+use mathlib.Core.Path.{_≡_, refl, sym, _∙_, ap, ap₂, subst, subst⁻¹}
 use mathlib.Core.Bool.{true}
 use mathlib.Core.List.{List, [], _∷_}
 use Prim.Native.Nat.{ℕ, zero, suc, _+_, _-_, _≤_}
@@ -9,7 +9,7 @@ use lib.ListN.{length, take, drop, replicate, length-take}
 use lib.Seq.{take-all}
 use borrow.Author.Tests.{not-false}
 use Rattle.integer.specs.definitions.Integer.{ℤ-ring}
-use Rattle.integer.specs.definitions.Fraction.{ℚ, whole, _+ℚ_, _-ℚ_, _*ℚ_, _/ℚ_, _≤ℚ_, ∣_∣ℚ}
+use Rattle.integer.specs.definitions.Fraction.{ℚ, whole, _+ℚ_, _-ℚ_, -ℚ_, _*ℚ_, _/ℚ_, _≤ℚ_, ∣_∣ℚ}
 use Rattle.integer.specs.laws.FractionInverse.{quotient-mul}
 use Rattle.integer.specs.laws.FractionRounding.{up-bound}
 use Rattle.integer.specs.laws.FractionSolver.{solveℚ, reifyℚ}
@@ -19,7 +19,10 @@ use Rattle.chebyshev.specs.laws.Weight.{weight-end, weight-zero}
 use Rattle.model.specs.definitions.Models.{scale, coefficientCount, zeroModel}
 use Rattle.model.specs.definitions.Outcomes.{accepted}
 use Rattle.model.specs.definitions.Round.{rounded, roundingLoss}
-use Rattle.model.specs.definitions.Allowed.{position, AllowsAt, Allows, OnInterval}
+use Rattle.model.specs.definitions.Intervals.{standardInterval}
+use Rattle.model.specs.laws.IntervalLaws.{within}
+use Rattle.model.specs.laws.StandardInterval.{standard-ends, position-standard, on-standard}
+use Rattle.model.specs.definitions.Allowed.{position, AllowsAt, Allows}
 use Rattle.model.specs.laws.PlaceLaws.{outcome-accepted}
 use Rattle.model.specs.laws.RoundingPassLaws.{rounding-value}
 use Rattle.model.specs.laws.ValueLaws.{valueAt, valueAt-add, valueAt-scale, valueAt-append-zeros, scale-nonzero}
@@ -65,12 +68,12 @@ series-take x k (suc n) (p ∷ ps) h = ap (λ v. whole p *ℚ power x k +ℚ v) 
 -- ---- the claim
 
 -- d·(v − c) within the weight of the rounding differences, where d·v is the value of e, and c that of e rounded over d
-rounded-sound : (d : ℕ) (e : List ℤ) {x : ℚ} (v : ℚ) → OnInterval x → valueAt x e ≡ whole (pos d) *ℚ v
+rounded-sound : (d : ℕ) (e : List ℤ) (x v : ℚ) → ∣ x ∣ℚ ≤ℚ whole (pos 1) → valueAt x e ≡ whole (pos d) *ℚ v
     → ∣ whole (pos d) *ℚ (v -ℚ valueAt x (rounded d e)) ∣ℚ ≤ℚ whole (pos (roundingLoss d e))
-rounded-sound d e {x} v on h =
+rounded-sound d e x v on h =
     let all : take (length e) e ≡ e = take-all (length e) e (omega arith) in
     let none : roundingLoss d e + weight (drop (length e) e) ≡ roundingLoss d e = omega (arith, weight-end e (length e) (omega arith)) in
-    rw (split, ← none) (rw all at (rounding-value d (length e) on e))
+    rw (split, ← none) (rw all at (rounding-value d (length e) x on e))
   where
     spread : (d v c : ℚ) → d *ℚ (v -ℚ c) ≡ d *ℚ v -ℚ d *ℚ c
     spread d v c = solveℚ (d ∷ v ∷ c ∷ []) (search reifyℚ depth 20) (search reifyℚ depth 20) tt
@@ -78,12 +81,12 @@ rounded-sound d e {x} v on h =
     split : whole (pos d) *ℚ (v -ℚ valueAt x (rounded d e)) ≡ valueAt x e -ℚ whole (pos d) *ℚ valueAt x (rounded d e)
     split = spread (whole (pos d)) v (valueAt x (rounded d e)) ∙ ap (λ z. z -ℚ whole (pos d) *ℚ valueAt x (rounded d e)) (sym h)
 
-series-sound : (s : Series) → goodSeries s ≡ true → (x : ℚ) → OnInterval x → AllowsAt (seriesModel s) x (seriesValue (s .coefficients) x /ℚ whole (pos scale))
+series-sound : (s : Series) → goodSeries s ≡ true → (x : ℚ) → ∣ x ∣ℚ ≤ℚ whole (pos 1) → AllowsAt (seriesModel s) x (seriesValue (s .coefficients) x /ℚ whole (pos scale))
 unfolding AllowsAt allows seriesModel
 series-sound s g x on =
     rw (quotient-mul (seriesValue (s .coefficients) x) (whole (pos scale)) scale-nonzero, valueAt-append-zeros x (rounded expansionUnit (expanded s)) (coefficientCount - suc (s .degree)))
     (up-bound (roundingLoss expansionUnit (expanded s)) expansionUnit (seriesValue (s .coefficients) x -ℚ valueAt x (rounded expansionUnit (expanded s))) (omega arith)
-    (rounded-sound expansionUnit (expanded s) (seriesValue (s .coefficients) x) on value-is))
+    (rounded-sound expansionUnit (expanded s) x (seriesValue (s .coefficients) x) on value-is))
   where
     value-is : valueAt x (expanded s) ≡ whole (pos expansionUnit) *ℚ seriesValue (s .coefficients) x
     value-is =
@@ -91,9 +94,17 @@ series-sound s g x on =
         value-expanded x 0 (seriesTerms s) (omega (arith, length-take (suc (s .degree)) (s .coefficients), l .degree-fits))
         ∙ ap (λ v. whole (pos expansionUnit) *ℚ v) (sym (series-take x 0 (suc (s .degree)) (s .coefficients) (l .beyond-zero)))
 
+-- S-24: the converter's models are on −S and S
+pub conversion-interval : (s : Series) {m : Model} → conversion s ≡ accepted m → m .interval ≡ standardInterval
+unfolding conversion seriesModel
+conversion-interval s e = ap (λ (r : Model). r .interval) (outcome-accepted (conversionPlaces s) (seriesModel s) zeroModel e .1)
+
 pub conversion-sound : (s : Series) {m : Model} → conversion s ≡ accepted m
-    → (x : ℚ) → OnInterval x → Allows m x (seriesValue (s .coefficients) x /ℚ whole (pos scale))
-unfolding conversion position
-conversion-sound s e x on =
+    → (x : ℚ) → (-ℚ whole (pos 1)) ≤ℚ x → x ≤ℚ whole (pos 1) → Allows m x (seriesValue (s .coefficients) x /ℚ whole (pos scale))
+unfolding conversion
+conversion-sound s {m} e x above below =
     let p = outcome-accepted (conversionPlaces s) (seriesModel s) zeroModel e in
-    rw (p .1) (series-sound s (not-false (goodSeries s) (p .0 .0)) x on)
+    let near = subst (λ y. ∣ y ∣ℚ ≤ℚ whole (pos 1)) (position-standard x) (within standard-ends x (on-standard above below)) in
+    let v = seriesValue (s .coefficients) x /ℚ whole (pos scale) in
+    let at-x = subst⁻¹ (λ r. AllowsAt r x v) (p .1) (series-sound s (not-false (goodSeries s) (p .0 .0)) x near) in
+    subst⁻¹ (λ i. AllowsAt m (position i x) v) (conversion-interval s e) (subst⁻¹ (λ y. AllowsAt m y v) (position-standard x) at-x)

@@ -7,7 +7,7 @@ use Rattle.integer.specs.definitions.Rounding.{floor, near, upℕ}
 use Rattle.chebyshev.specs.definitions.Coefficients.{weight, addLists, scaleList}
 use Rattle.chebyshev.specs.definitions.Negation.{odd, negatedFrom}
 use Rattle.chebyshev.specs.definitions.Neighbours.{neighbourSums}
-use Rattle.model.specs.definitions.Models.{makeModel, zeroModel, tooLarge}
+use Rattle.model.specs.definitions.Models.{standardModel, zeroModel, tooLarge}
 use Rattle.model.specs.definitions.Outcomes.{accepted, refused, passing}
 use Rattle.model.specs.definitions.Round.{rounded, roundingLoss}
 use Rattle.model.specs.laws.Examples.{padded}
@@ -22,7 +22,7 @@ series n ps = record { degree = n; coefficients = padded ps }
 -- 2·x² + 3·x³ is 1 + 9/4·T_1 + T_2 + 3/4·T_3; the same with degree 2; 7 + (2^28 − 7)·x^5, of weight 2^28, which rounding raises by 1
 abbrev pub Examples : Type 0
 Examples =
-    (conversion (series 3 (pos 0 ∷ pos 0 ∷ pos 2 ∷ pos 3 ∷ [])) ≡ accepted (makeModel 3 (padded (pos 1 ∷ pos 2 ∷ pos 1 ∷ pos 1 ∷ [])) 1))
+    (conversion (series 3 (pos 0 ∷ pos 0 ∷ pos 2 ∷ pos 3 ∷ [])) ≡ accepted (standardModel 3 (padded (pos 1 ∷ pos 2 ∷ pos 1 ∷ pos 1 ∷ [])) 1))
     × (conversion (series 2 (pos 0 ∷ pos 0 ∷ pos 2 ∷ pos 3 ∷ [])) ≡ refused 14 zeroModel)
     × (conversion (series 5 (pos 7 ∷ pos 0 ∷ pos 0 ∷ pos 0 ∷ pos 0 ∷ pos 268435449 ∷ [])) ≡ refused 3 zeroModel)
 
@@ -36,9 +36,9 @@ tied = series 3 (pos 0 ∷ pos 0 ∷ pos 3 ∷ pos 6 ∷ [])
 
 abbrev pub Ties : Type 0
 Ties =
-    (conversion tied ≡ accepted (makeModel 3 (padded (pos 2 ∷ pos 4 ∷ pos 2 ∷ pos 2 ∷ [])) 2))
-    × (conversion (negatedSeries tied) ≡ accepted (makeModel 3 (padded (negsuc 1 ∷ negsuc 3 ∷ negsuc 1 ∷ negsuc 1 ∷ [])) 2))
-    × (conversion (mirroredSeries tied) ≡ accepted (makeModel 3 (padded (pos 2 ∷ negsuc 3 ∷ pos 2 ∷ negsuc 1 ∷ [])) 2))
+    (conversion tied ≡ accepted (standardModel 3 (padded (pos 2 ∷ pos 4 ∷ pos 2 ∷ pos 2 ∷ [])) 2))
+    × (conversion (negatedSeries tied) ≡ accepted (standardModel 3 (padded (negsuc 1 ∷ negsuc 3 ∷ negsuc 1 ∷ negsuc 1 ∷ [])) 2))
+    × (conversion (mirroredSeries tied) ≡ accepted (standardModel 3 (padded (pos 2 ∷ negsuc 3 ∷ pos 2 ∷ negsuc 1 ∷ [])) 2))
 
 pub ties : Ties
 unfolding conversion goodSeries seriesModel expandedFrom expansionRow neighbourSums addLists scaleList rounded roundingLoss near floor upℕ passing tooLarge weight zeroModel odd negatedFrom

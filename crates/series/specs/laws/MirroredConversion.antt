@@ -16,10 +16,10 @@ use Rattle.chebyshev.specs.definitions.Coefficients.{addLists, scaleList}
 use Rattle.chebyshev.specs.definitions.Negation.{every, odd, negatedIf, negatedFrom}
 use Rattle.chebyshev.specs.laws.NegationLaws.{negated-zero, negated-left, take-negated, negated-append-zeros, negated-sum, odd-twice}
 use Rattle.model.specs.definitions.Mirror.{negatedWhere, negated, mirrored}
-use Rattle.model.specs.definitions.Models.{maxDegree, coefficientCount, makeModel, zeroModel}
+use Rattle.model.specs.definitions.Models.{maxDegree, coefficientCount, standardModel, zeroModel}
 use Rattle.model.specs.definitions.Outcomes.{refused, mapOutcome}
 use Rattle.model.specs.definitions.Round.{rounded, roundingLoss}
-use Rattle.model.specs.laws.MirrorLaws.{rounded-negated, roundingLoss-negated, good-negated, tooLarge-negated, zero-negated, outcome-mapped}
+use Rattle.model.specs.laws.MirrorLaws.{rounded-negated, roundingLoss-negated, withinLimits-negated, tooLarge-negated, zero-negated, outcome-mapped}
 use Rattle.series.specs.definitions.Convert.{seriesTerms, goodSeries, expandedFrom, expanded, seriesModel, conversionPlaces, conversion}
 use Rattle.series.specs.definitions.Mirror.{negatedSeriesWhere, negatedSeries, mirroredSeries}
 use Rattle.series.specs.definitions.Table.{expansionUnit, expansionRow}
@@ -86,7 +86,7 @@ module _ (chosen : ℕ → Bool) (fits : Fits chosen) where
 
   goodSeries-negated : (s : Series) → goodSeries (negatedSeriesWhere chosen s) ≡ goodSeries s
   goodSeries-negated s =
-      sym (series-good (negatedSeriesWhere chosen s)) ∙ good-negated chosen (makeModel (s .degree) (s .coefficients) 0) ∙ series-good s
+      sym (series-good (negatedSeriesWhere chosen s)) ∙ withinLimits-negated chosen (standardModel (s .degree) (s .coefficients) 0) ∙ series-good s
 
   module _ (s : Series) (good : goodSeries s ≡ true) where
     expanded-is : expanded (negatedSeriesWhere chosen s) ≡ negatedFrom chosen 0 (expanded s)
@@ -98,7 +98,7 @@ module _ (chosen : ℕ → Bool) (fits : Fits chosen) where
     unfolding seriesModel
     seriesModel-negated =
         let zeros = replicate (coefficientCount - suc (s .degree)) (pos 0) in
-        ap₂ (makeModel (s .degree))
+        ap₂ (standardModel (s .degree))
         (ap (λ c. rounded expansionUnit c ++ zeros) expanded-is
         ∙ ap (λ c. c ++ zeros) (rounded-negated chosen expansionUnit (omega arith) 0 (expanded s))
         ∙ sym (negated-append-zeros chosen 0 (coefficientCount - suc (s .degree)) (rounded expansionUnit (expanded s))))

@@ -8,7 +8,7 @@ use lib.IntN.{pos}
 use Rattle.integer.specs.definitions.Integer.{ℤ-ring}
 use Rattle.integer.specs.definitions.Rounding.{upℕ}
 use Rattle.chebyshev.specs.definitions.Coefficients.{weight, subtractLists}
-use Rattle.model.specs.definitions.Models.{candidateModel}
+use Rattle.certificate.specs.definitions.InnerContracts.{standardCandidate}
 use Rattle.model.specs.laws.ModelLaws.{good-is}
 use Rattle.model.specs.definitions.Multiply.{productList}
 use Rattle.model.specs.declared.types.Model.{Model}
@@ -18,7 +18,7 @@ use Rattle.certificate.proofs.numbers.quotient_contraction.Statement.{s
 use Rattle.certificate.proofs.numbers.quotient_contraction.Tie as tie
 
 terms-requires : tie.Need-terms-requires
-terms-requires c κs = let s = c .before .before .before in good-is (candidateModel (s .args .t3)) (s .pre .0 .first-good) .degree-fits
+terms-requires c κs = let s = c .before .before .before in good-is (standardCandidate (s .args .t3)) (s .pre .0 .first-good) .degree-fits
 
 terms-requires-2 : tie.Need-terms-requires-2
 terms-requires-2 c κs = let s = c .before .before .before .before .before .before in good-is (s .args .t2) (s .pre .0 .second-good) .degree-fits
@@ -36,7 +36,7 @@ module _ (c : tie.After-part) where
   g = s .args .t2
 
   abbrev w : Model
-  w = candidateModel (s .args .t3)
+  w = standardCandidate (s .args .t3)
 
   error : (s .args .weight ≤ 2 ^ 28) × (s .args .weight * g .radius ≤ 2 ^ 56)
   error = let r = s .pre .0 in error-range (s .args .weight) w g (r .first-good) (r .second-good) (s .pre .1)

@@ -5,7 +5,7 @@ use Prim.Native.Nat.{ℕ, _+_, _*_, _^_, _≤_}
 use native.Mathlib.Omega.{arith}
 use Rattle.integer.specs.definitions.Rounding.{upℕ}
 use Rattle.chebyshev.specs.definitions.Coefficients.{weight}
-use Rattle.model.specs.definitions.Models.{candidateModel}
+use Rattle.certificate.specs.definitions.InnerContracts.{standardCandidate}
 use Rattle.model.specs.laws.ModelLaws.{Good, good-is}
 use Rattle.model.specs.definitions.Multiply.{productList}
 use Rattle.model.specs.declared.types.Model.{Model}
@@ -23,7 +23,7 @@ terms-requires c κs = let s = c .before .before .before in good-is (s .args .t3
 
 terms-requires-2 : tie.Need-terms-requires-2
 terms-requires-2 c κs =
-    let s = c .before .before .before .before .before .before in good-is (candidateModel (s .args .t4)) (s .pre .0 .0 .second-good) .degree-fits
+    let s = c .before .before .before .before .before .before in good-is (standardCandidate (s .args .t4)) (s .pre .0 .0 .second-good) .degree-fits
 
 residual-requires : tie.Need-residual-requires
 residual-requires c κs =
@@ -45,7 +45,7 @@ module _ (c : tie.After-part) where
   g = s .args .t3
 
   abbrev h : Model
-  h = candidateModel (s .args .t4)
+  h = standardCandidate (s .args .t4)
 
   error : (s .args .weight ≤ 2 ^ 28) × (s .args .weight * g .radius ≤ 2 ^ 56)
   error = let r = s .pre .0 .0 in error-range (s .args .weight) h g (r .second-good) (r .first-good) (s .pre .1)

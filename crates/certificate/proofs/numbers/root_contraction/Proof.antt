@@ -4,7 +4,7 @@ use mathlib.Core.Path.{_∙_, ap}
 use Prim.Native.Nat.{ℕ, _^_}
 use native.Mathlib.Omega.{arith}
 use Rattle.integer.specs.definitions.Rounding.{upℕ}
-use Rattle.model.specs.definitions.Models.{candidateModel}
+use Rattle.certificate.specs.definitions.InnerContracts.{standardCandidate}
 use Rattle.model.specs.laws.ModelLaws.{good-is}
 use Rattle.certificate.specs.definitions.Root.{rootContraction}
 use Rattle.certificate.proofs.Ranges.{factors, of-constant, constant}
@@ -12,10 +12,10 @@ use Rattle.certificate.proofs.numbers.root_contraction.Statement.{state
 use Rattle.certificate.proofs.numbers.root_contraction.Tie as tie
 
 terms-requires : tie.Need-terms-requires
-terms-requires c κs = let s = c .before .before .before in good-is (candidateModel (s .args .t3)) (s .pre .first-good) .degree-fits
+terms-requires c κs = let s = c .before .before .before in good-is (standardCandidate (s .args .t3)) (s .pre .first-good) .degree-fits
 
 terms-requires-2 : tie.Need-terms-requires-2
-terms-requires-2 c κs = let s = c .before .before .before .before .before .before in good-is (candidateModel (s .args .t2)) (s .pre .second-good) .degree-fits
+terms-requires-2 c κs = let s = c .before .before .before .before .before .before in good-is (standardCandidate (s .args .t2)) (s .pre .second-good) .degree-fits
 
 residual-requires : tie.Need-residual-requires
 residual-requires c κs =

@@ -5,7 +5,7 @@ use Prim.Native.Nat.{ℕ, _+_, _*_, _^_, _≤_}
 use native.Mathlib.Omega.{arith}
 use Rattle.integer.specs.definitions.Rounding.{upℕ}
 use Rattle.chebyshev.specs.definitions.Coefficients.{weight}
-use Rattle.model.specs.definitions.Models.{candidateModel}
+use Rattle.certificate.specs.definitions.InnerContracts.{standardCandidate}
 use Rattle.model.specs.laws.ModelLaws.{Good, good-is}
 use Rattle.model.specs.definitions.Multiply.{productList}
 use Rattle.model.specs.declared.types.Model.{Model}
@@ -18,8 +18,8 @@ use Rattle.certificate.proofs.numbers.root_residual.Tie as tie
 of-f : (s : tie.Start) → Good (s .args .t2)
 of-f s = good-is (s .args .t2) (s .pre .1)
 
-of-h : (s : tie.Start) → Good (candidateModel (s .args .t3))
-of-h s = good-is (candidateModel (s .args .t3)) (s .pre .0 .first-good)
+of-h : (s : tie.Start) → Good (standardCandidate (s .args .t3))
+of-h s = good-is (standardCandidate (s .args .t3)) (s .pre .0 .first-good)
 
 residual-requires : tie.Need-residual-requires
 residual-requires c κs =
@@ -38,7 +38,7 @@ module _ (c : tie.After-part) where
   f = s .args .t2
 
   abbrev h : Model
-  h = candidateModel (s .args .t3)
+  h = standardCandidate (s .args .t3)
 
   distance : (c .before .residual .result ≡ weight (residualList (productList h h) (f .coefficients))) × (c .before .residual .result ≤ 2 ^ 58)
   distance =

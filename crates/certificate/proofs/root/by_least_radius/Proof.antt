@@ -29,14 +29,14 @@ returns c =
     let d = c .before in
     let a = s d .args in
     c .accepted .ensures
-    ∙ sym (root-end-found (candidateModel (a .h)) (a .weight) (a .m) (a .n) (a .b) (r d) (is-found d) (s d .pre .good-h))
+    ∙ sym (root-end-found (candidateModel (a .interval) (a .h)) (a .weight) (a .m) (a .n) (a .b) (r d) (is-found d) (s d .pre .good-h))
 
 returns-2 : tie.Need-returns-2
 returns-2 c =
     let l = c .before .before .before in
     let a = l .before .args in
     c .refused .ensures
-    ∙ sym (root-end-missing (candidateModel (a .h)) (a .weight) (a .m) (a .n) (a .b) (sym (l .least-radius .ensures) ∙ c .before .enum-told .given .1))
+    ∙ sym (root-end-missing (candidateModel (a .interval) (a .h)) (a .weight) (a .m) (a .n) (a .b) (sym (l .least-radius .ensures) ∙ c .before .enum-told .given .1))
 
 pub by-least-radius-spec : {M : Type 1} → statement M
 by-least-radius-spec =

@@ -3,7 +3,6 @@ use borrow.Author.Needs.{needs}
 use mathlib.Core.Path.{sym, _∙_, ap}
 use Prim.Native.Nat.{ℕ}
 use lib.ListN.{length}
-use Rattle.model.specs.definitions.Models.{candidateModel}
 use Rattle.model.specs.definitions.Outcomes.{numberOf}
 use Rattle.certificate.specs.definitions.InnerContracts.{reachOf}
 use Rattle.certificate.specs.laws.RootStages.{RootReached, root-reached-is, root-refused-is, root-last}
@@ -26,15 +25,15 @@ module _ (c : tie.After-known-told2) where
   abbrev b : ℕ
   b = c .before .numbers2 .given .0 .1 .1 .1 .0
 
-  is-reached : RootReached (length (s .args .scratch .now)) (s .args .f) (candidateModel (s .args .h)) (candidateModel (s .args .w)) M m n b
+  is-reached : RootReached (length (s .args .scratch .now)) (s .args .f) (s .args .h) (s .args .w) M m n b
   is-reached =
-      root-reached-is (length (s .args .scratch .now)) (s .args .f) (candidateModel (s .args .h)) (candidateModel (s .args .w)) M m n b
+      root-reached-is (length (s .args .scratch .now)) (s .args .f) (s .args .h) (s .args .w) M m n b
       (sym (c .before .before .before .before .root-numbers .ensures .0) ∙ ap reachOf (c .before .numbers2 .given .1))
 
 root-result-requires : tie.Need-root-result-requires
 root-result-requires c κs =
     let a = s c .args in
-    root-last (length (a .scratch .now)) (a .f) (candidateModel (a .h)) (candidateModel (a .w)) (M c) (m c) (n c) (b c) (is-reached c)
+    root-last (length (a .scratch .now)) (a .f) (a .h) (a .w) (M c) (m c) (n c) (b c) (is-reached c)
 
 returns : tie.Need-returns
 returns c =
@@ -42,7 +41,7 @@ returns c =
     let r = d .before .before .before .root-numbers in
     let a = d .before .before .before .before .before .args in (
       c .refused .ensures
-          ∙ sym (root-refused-is (length (a .scratch .now)) (a .f) (candidateModel (a .h)) (candidateModel (a .w)) (a .rule) (numberOf (d .numbers .given .0 .0))
+          ∙ sym (root-refused-is (length (a .scratch .now)) (a .f) (a .h) (a .w) (a .rule) (numberOf (d .numbers .given .0 .0))
           (sym (r .ensures .0) ∙ ap reachOf (d .numbers .given .1))),
       r .ensures .1,
     )

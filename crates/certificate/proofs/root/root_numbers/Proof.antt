@@ -3,7 +3,6 @@ use borrow.Author.Needs.{needs}
 use mathlib.Core.Path.{sym, _∙_}
 use native.Mathlib.Omega.{arith}
 use lib.ListN.{length}
-use Rattle.model.specs.definitions.Models.{candidateModel}
 use Rattle.certificate.specs.laws.Stages.{scratch-short, scratch-again, scratch-first}
 use Rattle.certificate.specs.laws.NumbersStages.{numbers-short, numbers-room}
 use Rattle.certificate.proofs.root.root_numbers.Statement.{statement}
@@ -12,7 +11,7 @@ use Rattle.certificate.proofs.root.root_numbers.Tie as tie
 returns : tie.Need-returns
 returns c =
     let a = c .before .args in (
-      sym (numbers-short (length (a .scratch .now)) (a .f) (candidateModel (a .h)) (candidateModel (a .w)) (omega arith)),
+      sym (numbers-short (length (a .scratch .now)) (a .f) (a .h) (a .w) (omega arith)),
       sym (scratch-short (a .scratch .now) (omega arith)),
     )
 
@@ -21,7 +20,7 @@ returns-2 c =
     let d = c .before .before .before .before in
     let a = d .before .before .before .args in
     let z = d .numbers-in in (
-      z .ensures ∙ sym (numbers-room (length (a .scratch .now)) (a .f) (candidateModel (a .h)) (candidateModel (a .w)) (omega arith)),
+      z .ensures ∙ sym (numbers-room (length (a .scratch .now)) (a .f) (a .h) (a .w) (omega arith)),
       c .before .clear-scratch .ensures ∙ scratch-again (a .scratch .now) (z .last .0) (omega arith) (z .kept .0 ∙ scratch-first (a .scratch .now) (omega arith)),
     )
 

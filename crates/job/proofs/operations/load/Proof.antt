@@ -4,6 +4,7 @@ use mathlib.Core.Path.{ap, sym, _∙_}
 use Prim.Native.Nat.{_+_}
 use denote.Ref.{now}
 use Rattle.model.specs.definitions.Load.{loading}
+use Rattle.model.specs.definitions.Intervals.{standardInterval}
 use Rattle.job.specs.definitions.Bytes.{blockAt, unsignedAt}
 use Rattle.job.specs.definitions.Decode.{makerAt}
 use Rattle.job.specs.definitions.InnerContracts.{untestedOutcome}
@@ -15,14 +16,12 @@ use Rattle.job.proofs.operations.load.Tie as tie
 returns : tie.Need-returns
 unfolding makerAt
 returns c =
-    let l = c .before in
-    let r = l .before in
-    let u = r .before in
-    let g = u .before .before .args in
-    let m = blockAt (now (g .job)) (g .at + 1) (unsignedAt (now (g .job)) (g .at + 134)) in
-    let e = r .read-model .ensures ∙ ap (blockAt (now (g .job)) (g .at + 1)) (u .read-unsigned .ensures) in
-    λ w. performs-untested (loading m) (c .untested .ensures ∙ ap untestedOutcome (l .load .ensures ∙ ap loading e)) (loading-storable m)
+    let i = c .before in
+    let g = i .before .before .args in
+    let block = blockAt (now (g .job)) (g .at + 1) (unsignedAt (now (g .job)) (g .at + 134)) in
+    let m = block standardInterval in
+    λ w. performs-untested (loading m) (c .load-block .ensures ∙ ap (λ i. untestedOutcome (loading (block i))) (i .standard .ensures)) (loading-storable m)
     (λ count rs t h n. sym (load-operation m rs))
 
 pub load-spec : {M : Type 1} → statement M
-load-spec = tie.close (tie.spec (λ c. search needs) (λ c. search needs) (λ c κs. search needs) (λ c κs. search needs) (λ c κs. search needs) (λ c κs. search needs) returns)
+load-spec = tie.close (tie.spec (λ c κs. search needs) (λ c κs. search needs) returns)

@@ -5,10 +5,10 @@ use native.Mathlib.Omega.{arith}
 use lib.ListN.{length}
 use denote.Ref.{now}
 use Rattle.certificate.specs.definitions.Tests.{scratchSize}
-use Rattle.certificate.specs.definitions.Quotient.{quotientOutcome}
+use Rattle.certificate.specs.definitions.Quotient.{quotientTest}
 use Rattle.certificate.specs.laws.Stages.{quotient-room}
 use Rattle.certificate.specs.laws.TestFits.{quotient-storable}
-use Rattle.job.specs.definitions.Bytes.{byteAt, blockAt}
+use Rattle.job.specs.definitions.Bytes.{byteAt, candidateAt}
 use Rattle.job.specs.definitions.Decode.{makerAt}
 use Rattle.job.specs.laws.MakerLaws.{quotient-operation}
 use Rattle.job.proofs.OperationLaws.{performs, held-two}
@@ -32,15 +32,15 @@ returns c =
     let len = length (now (s .args .scratch)) in
     let f = o .read-operands .result .first in
     let g = o .read-operands .result .second in
-    let h = blockAt job (at + 3) 0 in
-    let w = blockAt job (at + 136) 0 in (
+    let h = candidateAt job (at + 3) in
+    let w = candidateAt job (at + 136) in (
       performs
           (q .quotient .ensures .0
-          ∙ ap₂ (quotientOutcome len f g) (d .before .read-candidate .ensures) (d .read-candidate2 .ensures)
+          ∙ ap₂ (quotientTest len f g) (d .before .read-candidate .ensures) (d .read-candidate2 .ensures)
           ∙ quotient-room len f g h w (s .pre .1 .long))
           (quotient-storable scratchSize f g h w)
           (λ count rs t z n.
-          held-two z (λ f g. quotientOutcome scratchSize f g h w) f g (byteAt job (at + 1)) (byteAt job (at + 2))
+          held-two z (λ f g. quotientTest scratchSize f g h w) f g (byteAt job (at + 1)) (byteAt job (at + 2))
           (o .read-operands .ensures .0) (o .read-operands .ensures .1) n
           ∙ sym (quotient-operation _ _ h w rs)),
       q .quotient .ensures .1 ∙ s .pre .1 .clear,

@@ -6,10 +6,10 @@ use borrow.Author.Tests.{leb-false}
 use lib.ListN.{length}
 use denote.Ref.{now}
 use Rattle.certificate.specs.definitions.Tests.{scratchSize}
-use Rattle.certificate.specs.definitions.Root.{rootOutcome}
+use Rattle.certificate.specs.definitions.Root.{rootTest}
 use Rattle.certificate.specs.laws.Stages.{root-room}
 use Rattle.certificate.specs.laws.TestFits.{root-storable}
-use Rattle.job.specs.definitions.Bytes.{byteAt, blockAt}
+use Rattle.job.specs.definitions.Bytes.{byteAt, candidateAt}
 use Rattle.job.specs.definitions.Reading.{maxResults}
 use Rattle.job.specs.definitions.Decode.{makerAt}
 use Rattle.job.specs.laws.MakerLaws.{root-operation}
@@ -41,15 +41,15 @@ returns c =
     let at = s .args .at in
     let len = length (now (s .args .scratch)) in
     let f = e .named .result in
-    let h = blockAt job (at + 2) 0 in
-    let w = blockAt job (at + 135) 0 in (
+    let h = candidateAt job (at + 2) in
+    let w = candidateAt job (at + 135) in (
       performs
           (q .root .ensures .0
-          ∙ ap₂ (rootOutcome rule len f) (d .before .read-candidate .ensures) (d .read-candidate2 .ensures)
+          ∙ ap₂ (rootTest rule len f) (d .before .read-candidate .ensures) (d .read-candidate2 .ensures)
           ∙ root-room rule len f h w (s .pre .1 .long))
           (root-storable rule scratchSize f h w)
           (λ count rs t z n.
-          held-one z (λ f. rootOutcome rule scratchSize f h w) f (byteAt job (at + 1)) (e .named .ensures) n
+          held-one z (λ f. rootTest rule scratchSize f h w) f (byteAt job (at + 1)) (e .named .ensures) n
           ∙ sym (root-operation rule _ h w rs)),
       q .root .ensures .1 ∙ s .pre .1 .clear,
     )

@@ -13,15 +13,17 @@ use Rattle.model.proofs.area.read.Tie as tie
 
 returns : tie.Need-returns
 returns c =
-    let d = c .before .before .before in
+    let p = c .before in
+    let u = p .before .before in
+    let d = u .before .before in
     let s = now (d .before .before .before .args .area) in
     let e : d .before .read-candidate .result ≡ areaCandidate s = d .before .read-candidate .ensures ∙ candidate-front candidateSize s (omega arith) in
-    let r : c .before .unsigned .result ≡ unsignedOf (getD s candidateSize (pos 0)) =
-    c .before .unsigned .ensures ∙ ap unsignedOf (toZ-ofZ {w = w32} {z = getD s candidateSize (pos 0)} (sfits-of (c .before .before .unsigned-arg .given))) in
-    c .new .ensures ∙ rw (e, r)
+    let r : u .unsigned .result ≡ unsignedOf (getD s candidateSize (pos 0)) =
+    u .unsigned .ensures ∙ ap unsignedOf (toZ-ofZ {w = w32} {z = getD s candidateSize (pos 0)} (sfits-of (u .before .unsigned-arg .given))) in
+    (simp (toZ-ofZ {w = w32} {z = getD s 35 (pos 0)} (sfits-of (p .before .lower .given)), toZ-ofZ {w = w32} {z = getD s 36 (pos 0)} (sfits-of (p .upper .given))) at (c .new .ensures)) ∙ rw (e, r)
 
 pub read-spec : {M : Type 1} → statement M
 read-spec =
     tie.close (tie.spec
     (λ c. simp length-take (omega arith)) (λ c κs. simp length-take (omega arith)) (λ c. search needs) (λ c κs. search needs)
-    (λ c κs. search needs) returns)
+    (λ c. search needs) (λ c. search needs) (λ c κs. search needs) returns)

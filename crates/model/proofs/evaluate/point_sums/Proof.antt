@@ -5,7 +5,7 @@ use mathlib.Core.List.{List}
 use Prim.Native.Nat.{ℕ, suc, _+_, _*_, _-_, _^_, _≤_, _<_}
 use native.Mathlib.Omega.{arith}
 use lib.IntN.{ℤ, pos, natAbs, _+ℤ_, _-ℤ_, _*ℤ_}
-use lib.ListN.{length, getD, take, length-take}
+use lib.ListN.{length, getD, take}
 use lib.Seq.{getD-take}
 use lib.Signed.{ltZ-yes}
 use mir.Syntax.{w32, w64}
@@ -13,18 +13,18 @@ use mir.Val.{SFits, toZ}
 use mir.Facts.{toZ-ofZ}
 use Rattle.integer.specs.definitions.Rounding.{near}
 use Rattle.integer.specs.laws.Machine.{abs-fits, fits-widens, signed-needs}
-use Rattle.chebyshev.specs.laws.Weight.{weight-at, weight-take}
+use Rattle.model.specs.definitions.InnerContracts.{errorFactor}
 use Rattle.model.specs.definitions.Models.{scale}
-use Rattle.model.proofs.EvaluationWalk.{Walk, begins, pairs-is, square-small, turn, ends, Small, small, term-fits, first-fits, twice-fits, numerator-fits}
+use Rattle.model.proofs.EvaluationWalk.{Walk, begins, turn, ends, first-fits, Turn, length-list, bounded, turn-fits}
 use Rattle.model.proofs.evaluate.point_sums.Statement.{statement}
 use Rattle.model.proofs.evaluate.point_sums.Tie as tie
 
 abbrev Inv-loop : tie.InvT-loop
-Inv-loop degree coefficients p n value₀ error₀ t₀ next₀ k₀ value error t next k =
-    (n ≡ degree) × Walk (toZ w64 p) (take (suc degree) coefficients) (toZ w64 value) error (toZ w64 t) (toZ w64 next) k
+Inv-loop degree coefficients p exact n value₀ error₀ t₀ next₀ k₀ value error t next k =
+    (n ≡ degree) × Walk exact (toZ w64 p) (take (suc degree) coefficients) (toZ w64 value) error (toZ w64 t) (toZ w64 next) k
 
 abbrev μ-loop : tie.MeasureT-loop
-μ-loop degree coefficients p n value₀ error₀ t₀ next₀ k₀ value error t next k = suc degree - k
+μ-loop degree coefficients p exact n value₀ error₀ t₀ next₀ k₀ value error t next k = suc degree - k
 
 -- the terms up to the degree, and 2^10·p
 module _ (s : tie.Start Inv-loop μ-loop) where
@@ -32,10 +32,7 @@ module _ (s : tie.Start Inv-loop μ-loop) where
   cs = take (suc (s .args .degree)) (s .args .coefficients .now)
 
   length-cs : length cs ≡ suc (s .args .degree)
-  length-cs = rw length-take (omega (arith, s .pre))
-
-  bounded : {value : ℤ} {error : ℕ} {t next : ℤ} {k : ℕ} → Walk (s .args .p) cs value error t next k → Small value error t next
-  bounded w = small w (s .pre .inside) (omega (arith, length-cs, s .pre)) (omega (arith, weight-take (suc (s .args .degree)) (s .args .coefficients .now), s .pre))
+  length-cs = length-list (s .pre)
 
   fits-first : SFits w64 (pos 1024 *ℤ s .args .p)
   fits-first = first-fits (s .args .p) (s .pre .inside)
@@ -63,7 +60,7 @@ module _ (l : tie.At-loop Inv-loop μ-loop) where
   fits-p : SFits w64 p
   fits-p = s .fits .p
 
-  walk : Walk p (cs s) value (l .loop .error) t next k
+  walk : Walk (s .args .exact) p (cs s) value (l .loop .error) t next k
   walk = simp (toZ-ofZ fits-p) at (l .loop .inv .1)
 
   inside : k ≤ suc (s .args .degree)
@@ -83,33 +80,30 @@ module _ (c : tie.After-c Inv-loop μ-loop) where
   fits-64 : SFits w64 x
   fits-64 = fits-widens fits-32
 
-  after : (m : ℕ) (u : ℤ) → m ≡ natAbs x → u ≡ near (pos 2 *ℤ p l *ℤ next l) scale → Walk (p l) (cs (s l)) (value l +ℤ x *ℤ t l) (l .loop .error + m * (k l * k l - k l)) (next l) (u -ℤ t l) (k l + 1)
-  after m u =
-      turn x m u (walk l) (omega (arith, length-cs (s l)))
-      (sym (getD-take (suc (s l .args .degree)) (s l .args .coefficients .now) (k l) (pos 0) (omega arith)))
+  x-is : x ≡ getD (cs (s l)) (k l) (pos 0)
+  x-is = sym (getD-take (suc (s l .args .degree)) (s l .args .coefficients .now) (k l) (pos 0) (omega arith))
 
-  fits-term : SFits w64 (x *ℤ t l)
-  fits-term = term-fits x (t l) (omega (arith, weight-at (s l .args .coefficients .now) (k l), s l .pre)) (bounded (s l) (walk l) .t-small)
+  after : (m f : ℕ) (u : ℤ) → m ≡ natAbs x → f ≡ errorFactor (s l .args .exact) (k l) → u ≡ near (pos 2 *ℤ p l *ℤ next l) scale
+      → Walk (s l .args .exact) (p l) (cs (s l)) (value l +ℤ x *ℤ t l) (l .loop .error + m * f) (next l) (u -ℤ t l) (k l + 1)
+  after m f u = turn x m f u (walk l) (omega (arith, length-cs (s l))) x-is
 
-  fits-sum : SFits w64 (value l +ℤ x *ℤ t l)
-  fits-sum = abs-fits w64 (value l +ℤ x *ℤ t l) (omega (arith, bounded (s l) (after (natAbs x) _ refl refl) .value-small))
-
-  fits-twice : SFits w64 (pos 2 *ℤ p l)
-  fits-twice = twice-fits (p l) (s l .pre .inside)
-
-  fits-numerator : SFits w64 (pos 2 *ℤ p l *ℤ next l)
-  fits-numerator = numerator-fits (p l) (s l .pre .inside) (next l) (bounded (s l) (walk l) .next-small)
+  fits : Turn (p l) (value l) (t l) (next l) x
+  fits = turn-fits (s l .pre) x (walk l) (omega (arith, length-cs (s l))) x-is
 
 module _ (m : tie.After-magnitude Inv-loop μ-loop) where
   x-abs : m .magnitude .result ≡ natAbs (x (m .before))
   x-abs = simp (toZ-ofZ (fits-32 (m .before)), toZ-ofZ (fits-64 (m .before))) at (m .magnitude .ensures)
 
-  error-small : let l = l (m .before) in l .loop .error + m .magnitude .result * (k l * k l - k l) < 2 ^ 40
-  error-small = bounded (s (l (m .before))) (after (m .before) (m .magnitude .result) _ x-abs refl) .error-small
+module _ (f : tie.After-error-factor Inv-loop μ-loop) where
+  error-small : let l = l (f .before .before) in l .loop .error + f .before .magnitude .result * f .error-factor .result < 2 ^ 50
+  error-small = let m = f .before in bounded (s (l (m .before)) .pre) (after (m .before) (m .magnitude .result) _ _ (x-abs m) (f .error-factor .ensures) refl) .error-small
 
 module _ (n : tie.After-near Inv-loop μ-loop) where
+  abbrev f : tie.After-error-factor Inv-loop μ-loop
+  f = n .before
+
   abbrev m : tie.After-magnitude Inv-loop μ-loop
-  m = n .before
+  m = f .before
 
   abbrev c : tie.After-c Inv-loop μ-loop
   c = m .before
@@ -118,18 +112,18 @@ module _ (n : tie.After-near Inv-loop μ-loop) where
   fits-near = record { sfits = n .near .ok }
 
   near-is : n .near .result ≡ near (pos 2 *ℤ p (l c) *ℤ next (l c)) scale
-  near-is = simp (toZ-ofZ (fits-p (l c)), toZ-ofZ (fits-twice c), toZ-ofZ (fits-numerator c)) at (n .near .ensures)
+  near-is = simp (toZ-ofZ (fits-p (l c)), toZ-ofZ (fits c .double-fits), toZ-ofZ (fits c .numerator-fits)) at (n .near .ensures)
 
   fits-after : SFits w64 (n .near .result -ℤ t (l c))
-  fits-after = abs-fits w64 (n .near .result -ℤ t (l c)) (omega (arith, bounded (s (l c)) (after c _ _ (x-abs m) near-is) .next-small))
+  fits-after = abs-fits w64 (n .near .result -ℤ t (l c)) (omega (arith, bounded (s (l c) .pre) (after c _ _ _ (x-abs m) (f .error-factor .ensures) near-is) .next-small))
 
 loop-holds : tie.Need-loop-holds Inv-loop μ-loop
-loop-holds c = simp (toZ-ofZ (c .fits .p), toZ-ofZ (fits-first c)) (refl, begins (c .args .p) (cs c))
+loop-holds c = simp (toZ-ofZ (c .fits .p), toZ-ofZ (fits-first c)) (refl, begins (c .args .exact) (c .args .p) (cs c))
 
 loop-again : tie.Need-loop-again Inv-loop μ-loop
 loop-again n =
     let c = c n in
-    simp (toZ-ofZ (fits-32 c), toZ-ofZ (fits-64 c), toZ-ofZ (fits-term c), toZ-ofZ (fits-sum c), toZ-ofZ (fits-p (l c)), toZ-ofZ (fits-near n), toZ-ofZ (fits-after n)) (refl, after c _ _ (x-abs (m n)) (near-is n))
+    simp (toZ-ofZ (fits-32 c), toZ-ofZ (fits-64 c), toZ-ofZ (fits c .term-fits), toZ-ofZ (fits c .sum-fits), toZ-ofZ (fits-p (l c)), toZ-ofZ (fits-near n), toZ-ofZ (fits-after n)) (refl, after c _ _ _ (x-abs (m n)) (f n .error-factor .ensures) (near-is n))
 
 returns : tie.Need-returns Inv-loop μ-loop
 returns c = ends (walk (c .before)) (omega (arith, length-cs (s (c .before))))
@@ -139,11 +133,10 @@ point-sums-spec =
     tie.close (tie.spec
     Inv-loop μ-loop (λ c. simp (toZ-ofZ (c .fits .p)) (fits-first c)) loop-holds (λ c. omega (arith, s (c .before) .pre))
     (λ c. omega (arith, s (c .before) .pre)) (λ c. search signed-needs)
-    (λ c. simp (toZ-ofZ (fits-32 c), toZ-ofZ (fits-64 c)) (fits-term c))
-    (λ c. simp (toZ-ofZ (fits-32 c), toZ-ofZ (fits-64 c), toZ-ofZ (fits-term c)) (fits-sum c)) (λ c κs. tt)
-    (λ m. let l = l (m .before) in omega (arith, square-small (k l) (omega (arith, inside l, s l .pre))))
-    (λ c. pairs-is (k (l (c .before))) .0) (λ m. omega (arith, error-small m)) (λ m. omega (arith, error-small m))
-    (λ m. simp (toZ-ofZ (fits-p (l (m .before)))) (fits-twice (m .before)))
-    (λ m. simp (toZ-ofZ (fits-p (l (m .before))), toZ-ofZ (fits-twice (m .before))) (fits-numerator (m .before)))
+    (λ c. simp (toZ-ofZ (fits-32 c), toZ-ofZ (fits-64 c)) (fits c .term-fits))
+    (λ c. simp (toZ-ofZ (fits-32 c), toZ-ofZ (fits-64 c), toZ-ofZ (fits c .term-fits)) (fits c .sum-fits)) (λ c κs. tt)
+    (λ m κs. let l = l (m .before) in omega (arith, s l .pre)) (λ f. omega (arith, error-small f)) (λ f. omega (arith, error-small f))
+    (λ f. let c = f .before .before in simp (toZ-ofZ (fits-p (l c))) (fits c .double-fits))
+    (λ f. let c = f .before .before in simp (toZ-ofZ (fits-p (l c)), toZ-ofZ (fits c .double-fits)) (fits c .numerator-fits))
     (λ c κs. ltZ-yes tt) (λ n. simp (toZ-ofZ (fits-near n)) (fits-after n))
     (λ n. omega (arith, s (l (c n)) .pre)) (λ c. omega arith) loop-again returns)

@@ -1,20 +1,22 @@
--- `measure::measure` meets its contract: a model is good where it is good with radius 0 and its radius is within the limit.
+-- `measure::measure` meets its contract.
 use borrow.Author.Needs.{needs}
-use borrow.Author.Tests.{le-leb, lt-leb}
-use mathlib.Core.Path.{refl}
-use mathlib.Core.Bool.{and-false}
-use native.Mathlib.Omega.{arith}
-use Rattle.model.specs.definitions.Models.{good}
+use mathlib.Core.Path.{refl, sym, _∙_}
+use mathlib.Core.Bool.{and-true, and-false}
+use Rattle.model.specs.definitions.Models.{good, withinLimits}
 use Rattle.model.proofs.measure.measure.Statement.{statement}
 use Rattle.model.proofs.measure.measure.Tie as tie
 
 returns : tie.Need-returns
 unfolding good
-returns c = rw (le-leb (c .before .before .before .before .args .t1 .radius) 268435456 (omega arith)) (c .before .measure-parts .ensures)
+returns c =
+    let m = c .before .before .measure-limits in
+    rw (sym (c .before .is-good .ensures) ∙ c .if1 .taken, and-true) (m .ensures)
 
 returns-2 : tie.Need-returns-2
 unfolding good
-returns-2 c = simp (lt-leb (c .before .before .before .before .args .t1 .radius) 268435456 (omega arith), and-false) (refl, c .before .measure-parts .ensures .1)
+returns-2 c =
+    let m = c .before .before .measure-limits in
+    rw (sym (c .before .is-good .ensures) ∙ c .if1 .left, and-false) (refl, m .ensures .1)
 
 pub measure-spec : {M : Type 1} → statement M
-measure-spec = tie.close (tie.spec (λ c κs. search needs) (λ c. search needs) returns returns-2)
+measure-spec = tie.close (tie.spec (λ c κs. search needs) (λ c κs. search needs) returns returns-2)

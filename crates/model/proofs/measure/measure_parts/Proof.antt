@@ -16,7 +16,7 @@ use Rattle.integer.specs.laws.Parts.{abs}
 use Rattle.integer.specs.laws.Machine.{signed-needs, within, fits-widens}
 use Rattle.chebyshev.specs.definitions.Coefficients.{weight}
 use Rattle.chebyshev.specs.laws.Weight.{weight-step, weight-end}
-use Rattle.model.specs.definitions.Models.{good}
+use Rattle.model.specs.definitions.Models.{partsWithinLimits}
 use Rattle.model.proofs.measure.measure_parts.Statement.{statement}
 use Rattle.model.proofs.measure.measure_parts.Tie as tie
 
@@ -91,20 +91,20 @@ module _ (c : tie.After-loop Inv-loop μ-loop) where
       omega (arith, weight-end (cs e) (max (i e) (suc (n e))) (omega (arith, e .before .pre)), ap (λ (k : ℕ). weight (drop k (cs e))) m)
 
 returns : tie.Need-returns Inv-loop μ-loop
-unfolding good
+unfolding partsWithinLimits
 returns k =
     let c = k .before .before in
     rw (le-leb (n (e c)) 32 (omega arith), le-leb (weight (cs (e c))) 268435456 (omega (arith, total-is c)))
     (ap (λ (b : ℕ). eqb b 0) (beyond-is c), total-is c)
 
 returns-2 : tie.Need-returns-2 Inv-loop μ-loop
-unfolding good
+unfolding partsWithinLimits
 returns-2 k =
     let c = k .before .before in
     rw (le-leb (n (e c)) 32 (omega arith), lt-leb (weight (cs (e c))) 268435456 (omega (arith, total-is c))) (refl, total-is c)
 
 returns-3 : tie.Need-returns-3 Inv-loop μ-loop
-unfolding good
+unfolding partsWithinLimits
 returns-3 k = rw (lt-leb (n (e (k .before))) 32 (omega arith)) (refl, total-is (k .before))
 
 pub measure-parts-spec : {M : Type 1} → statement M

@@ -8,6 +8,7 @@ use Prim.Native.Nat.{ℕ, _≤_}
 use native.Mathlib.Omega.{arith}
 use Rattle.model.specs.definitions.InnerContracts.{unlessLarge}
 use Rattle.model.specs.definitions.Models.{maxDegree, good}
+use Rattle.model.specs.definitions.Intervals.{sameInterval}
 use Rattle.model.specs.definitions.Outcomes.{passing}
 use Rattle.model.specs.definitions.Multiply.{keptDegree, productModel, multiplication}
 use Rattle.model.specs.laws.MultiplicationLaws.{multiplication-of-good}
@@ -18,8 +19,9 @@ use Rattle.model.proofs.multiply.multiply.Tie as tie
 returns : tie.Need-returns
 unfolding multiplication passing
 returns c =
-    let m = c .before .before .before .measure in
-    rw (c .refused .ensures, ← (m .ensures .0), not-true (m .result .good) (c .before .if1 .taken))
+    let f = c .before in
+    let m = f .before .before .before .measure in
+    rw (c .refused .ensures, f .fault-of .ensures, ← (m .ensures .0), not-true (m .result .good) (f .before .if1 .taken))
 
 module _ (c : tie.Else1) where
   abbrev s : tie.Start
@@ -37,8 +39,9 @@ module _ (c : tie.Else1) where
 returns-2 : tie.Need-returns-2
 unfolding multiplication passing
 returns-2 c =
-    let m = c .before .before .before .measure2 in
-    rw (c .refused2 .ensures, good-a (c .before .before .before .before), ← (m .ensures .0), not-true (m .result .good) (c .before .if2 .taken))
+    let f = c .before in
+    let m = f .before .before .before .measure2 in
+    rw (c .refused2 .ensures, f .fault-of2 .ensures, good-a (f .before .before .before .before), ← (m .ensures .0), not-true (m .result .good) (f .before .if2 .taken))
 
 module _ (c : tie.Else2) where
   abbrev e : tie.Else1
@@ -47,42 +50,59 @@ module _ (c : tie.Else2) where
   good-b : good (b e) ≡ true
   good-b = let m = c .before .before .measure2 in sym (m .ensures .0) ∙ not-false (m .result .good) (c .if2 .left)
 
--- 255 means 32
-degree-is : (j : tie.Joined3) → j .if3 .degree ≡ keptDegree (s (e (j .before)) .args .kept)
-degree-is j =
-    let d = s (e (j .before)) .args .kept in
-    ⊎-elim (λ w. rw (eq-eqb d 255 (w .0 .taken)) (w .1)) (λ w. rw (ne-eqb d 255 (w .0 .left)) (w .1)) (j .if3 .came)
-
 returns-3 : tie.Need-returns-3
 unfolding multiplication passing
 returns-3 c =
+    let g = c .before .before .is-same in
+    let k = c .before .before .before in
+    rw (c .refused3 .ensures, good-a (e k), good-b k, ← (g .ensures), not-true (g .result) (c .before .if3 .taken))
+
+module _ (c : tie.Else3) where
+  abbrev k : tie.Else2
+  k = c .before .before
+
+  same-interval : sameInterval (a (e k) .interval) (b (e k) .interval) ≡ true
+  same-interval = let g = c .before .is-same in sym (g .ensures) ∙ not-false (g .result) (c .if3 .left)
+
+-- 255 means 32
+degree-is : (j : tie.Joined4) → j .if4 .degree ≡ keptDegree (s (e (k (j .before))) .args .kept)
+degree-is j =
+    let d = s (e (k (j .before))) .args .kept in
+    ⊎-elim (λ w. rw (eq-eqb d 255 (w .0 .taken)) (w .1)) (λ w. rw (ne-eqb d 255 (w .0 .left)) (w .1)) (j .if4 .came)
+
+returns-4 : tie.Need-returns-4
+unfolding multiplication passing
+returns-4 c =
     let j = c .before .before in
-    let d = keptDegree (s (e (j .before)) .args .kept) in
-    rw (c .refused3 .ensures, good-a (e (j .before)), good-b (j .before), lt-leb d maxDegree (omega (arith, degree-is j)))
+    let h = j .before in
+    let d = keptDegree (s (e (k h)) .args .kept) in
+    rw (c .refused4 .ensures, good-a (e (k h)), good-b (k h), same-interval h, lt-leb d maxDegree (omega (arith, degree-is j)))
 
 multiply-good-requires : tie.Need-multiply-good-requires
 multiply-good-requires c κs =
-    let k = c .before .before in
+    let k = k (c .before .before) in
     let x = e k in
     record {
       first-good = good-a x;
       second-good = good-b k;
       first-weight = x .before .before .measure .ensures .1;
       second-weight = k .before .before .measure2 .ensures .1;
-      kept-fits = c .if4 .left;
+      kept-fits = c .if5 .left;
     }
 
-returns-4 : tie.Need-returns-4
-returns-4 c =
+returns-5 : tie.Need-returns-5
+returns-5 c =
     let j = c .before .before in
-    let x = e (j .before) in
+    let h = j .before in
+    let x = e (k h) in
     let d = s x .args .kept in
     c .multiply-good .ensures
     ∙ ap (λ (n : ℕ). unlessLarge (productModel n (a x) (b x))) (degree-is j)
-    ∙ multiplication-of-good d (a x) (b x) (good-a x) (good-b (j .before)) (subst (λ (n : ℕ). n ≤ maxDegree) (degree-is j) (c .before .if4 .left))
+    ∙ multiplication-of-good d (a x) (b x) (good-a x) (good-b (k h)) (same-interval h) (subst (λ (n : ℕ). n ≤ maxDegree) (degree-is j) (c .before .if5 .left))
 
 pub multiply-spec : {M : Type 1} → statement M
 multiply-spec =
     tie.close (tie.spec
-    (λ c κs. search needs) (λ c κs. search needs) returns (λ c κs. search needs) (λ c κs. search needs) returns-2
-    (λ c κs. search needs) returns-3 multiply-good-requires returns-4)
+    (λ c κs. search needs) (λ c κs. search needs) (λ c κs. search needs) returns (λ c κs. search needs) (λ c κs. search needs)
+    (λ c κs. search needs) returns-2 (λ c κs. search needs) (λ c κs. search needs) returns-3 (λ c κs. search needs) returns-4
+    multiply-good-requires returns-5)

@@ -115,7 +115,7 @@ returns c =
     let n : l .radius-loss .result ≡ radiusLoss (a s) (b s) = l .radius-loss .ensures .0 ∙ (λ t. 2 * (s .pre .first-weight t * b s .radius + s .pre .second-weight t * a s .radius + a s .radius * b s .radius)) in
     let e : u .up-unsigned .result ≡ upℕ (p .loss + radiusLoss (a s) (b s)) (2 * scale) = u .up-unsigned .ensures ∙ ap (λ m. upℕ (p .loss + m) (2 * scale)) n in
     c .formed .ensures
-    ∙ (λ t. formedOutcome (degree-is (at r) t) (p .coefficients) (p .weight) (e t))
+    ∙ (λ t. formedOutcome (degree-is (at r) t) (p .coefficients) (p .weight) (e t) (a s .interval))
     ∙ product-formed (s .args .kept) (a s) (b s) p (rounded-from r)
 
 pub multiply-good-spec : {M : Type 1} → statement M

@@ -3,40 +3,60 @@ use borrow.Author.Needs.{needs}
 use borrow.Author.Tests.{not-true, not-false}
 use mathlib.Core.Path.{_≡_, sym, _∙_, ap}
 use mathlib.Core.Bool.{true}
+use Prim.Native.Nat.{ℕ}
 use mathlib.Core.List.{List}
 use lib.Ieee.{Float}
 use Rattle.model.specs.definitions.Models.{good}
-use Rattle.model.specs.definitions.Outcomes.{Outcome, accepted}
+use Rattle.model.specs.definitions.Intervals.{sameInterval}
+use Rattle.model.specs.definitions.Outcomes.{Outcome, accepted, refused}
 use Rattle.model.specs.declared.types.Model.{Model}
 use Rattle.model.specs.declared.types.Candidate.{Candidate}
 use Rattle.proposals.specs.definitions.Product.{product}
 use Rattle.proposals.specs.definitions.Units.{inUnits}
 use Rattle.proposals.specs.definitions.Reciprocal.{valuesOf}
 use Rattle.proposals.specs.definitions.Quotient.{Quotient, makeQuotient, refusedQuotient, quotientProposal}
-use Rattle.proposals.specs.laws.MakerLaws.{quotient-of-bad, quotient-by-bad, quotient-not-finite, quotient-in-units, thenUnits, units-stop, units-go-on}
+use Rattle.proposals.specs.laws.MakerLaws.{quotient-of-bad, quotient-by-bad, quotient-different, quotient-not-finite, quotient-in-units, thenUnits, units-stop, units-go-on}
 use Rattle.proposals.proofs.quotient.make_quotient.Statement.{statement}
 use Rattle.proposals.proofs.quotient.make_quotient.Tie as tie
 
 returns : tie.Need-returns
 returns c =
-    let b = c .before .before .is-good in
-    let a = c .before .before .before .args in
-    c .refused .ensures ∙ quotient-of-bad (a .f) (a .g) (sym (b .ensures) ∙ not-true (b .result) (c .before .if1 .taken))
+    let k = c .before in
+    let b = k .before .before .is-good in
+    let a = k .before .before .before .args in
+    c .refused .ensures ∙ ap (λ (n : ℕ). refused n refusedQuotient) (k .fault-of .ensures)
+    ∙ quotient-of-bad (a .f) (a .g) (sym (b .ensures) ∙ not-true (b .result) (k .before .if1 .taken))
 
 first-good : (e : tie.Else1) → good (e .before .before .args .f) ≡ true
 first-good e = let b = e .before .is-good in sym (b .ensures) ∙ not-false (b .result) (e .if1 .left)
 
 returns-2 : tie.Need-returns-2
 returns-2 c =
-    let b = c .before .before .is-good2 in
-    let e = c .before .before .before in
+    let k = c .before in
+    let b = k .before .before .is-good2 in
+    let e = k .before .before .before in
     let a = e .before .before .args in
-    c .refused2 .ensures ∙ quotient-by-bad (a .f) (a .g) (first-good e) (sym (b .ensures) ∙ not-true (b .result) (c .before .if2 .taken))
+    c .refused2 .ensures ∙ ap (λ (n : ℕ). refused n refusedQuotient) (k .fault-of2 .ensures)
+    ∙ quotient-by-bad (a .f) (a .g) (first-good e) (sym (b .ensures) ∙ not-true (b .result) (k .before .if2 .taken))
+
+divisor-good : (e : tie.Else2) → good (e .before .before .before .before .args .g) ≡ true
+divisor-good e = let b = e .before .is-good2 in sym (b .ensures) ∙ not-false (b .result) (e .if2 .left)
+
+returns-3 : tie.Need-returns-3
+returns-3 c =
+    let b = c .before .before .is-same in
+    let d = c .before .before .before in
+    let e = d .before .before in
+    let a = e .before .before .args in
+    c .refused3 .ensures ∙ quotient-different (a .f) (a .g) (first-good e) (divisor-good d) (sym (b .ensures) ∙ not-true (b .result) (c .before .if3 .taken))
 
 -- the rounds were made
 module _ (m : tie.After-make) where
+  abbrev d : tie.Else3
+  d = m .before .before .before
+
   abbrev e : tie.Else2
-  e = m .before .before .before
+  e = d .before .before
 
   abbrev f : Model
   f = e .before .before .before .before .args .f
@@ -45,17 +65,20 @@ module _ (m : tie.After-make) where
   g = e .before .before .before .before .args .g
 
   second-good : good g ≡ true
-  second-good = let b = e .before .is-good2 in sym (b .ensures) ∙ not-false (b .result) (e .if2 .left)
+  second-good = divisor-good e
+
+  same-interval : sameInterval (f .interval) (g .interval) ≡ true
+  same-interval = let b = d .before .is-same in sym (b .ensures) ∙ not-false (b .result) (d .if3 .left)
 
   abbrev values : List Float
   values = m .make .result .round .coefficients
 
-returns-3 : tie.Need-returns-3
-returns-3 c =
+returns-4 : tie.Need-returns-4
+returns-4 c =
     let m = c .before .before .before in
-    c .refused3 .ensures
-    ∙ quotient-not-finite (f m) (g m) (first-good (e m .before .before)) (m .make .result) (second-good m) (m .make .ensures)
-    (not-true (m .make .result .finite) (c .before .if3 .taken))
+    c .refused4 .ensures
+    ∙ quotient-not-finite (f m) (g m) (first-good (e m .before .before)) (m .make .result) (second-good m) (same-interval m) (m .make .ensures)
+    (not-true (m .make .result .finite) (c .before .if4 .taken))
 
 -- f·w was turned into units
 module _ (u : tie.After-to-units) where
@@ -76,14 +99,14 @@ module _ (u : tie.After-to-units) where
 
   in-units : thenUnits one refusedQuotient (inUnits q) ≡ quotientProposal (f m) (g m)
   in-units =
-      quotient-in-units (f m) (g m) (first-good (e m .before .before)) (m .make .result) (second-good m) (m .make .ensures) q q-is
-      (not-false (m .make .result .finite) (u .before .before .before .before .before .if3 .left))
+      quotient-in-units (f m) (g m) (first-good (e m .before .before)) (m .make .result) (second-good m) (same-interval m) (m .make .ensures) q q-is
+      (not-false (m .make .result .finite) (u .before .before .before .before .before .if4 .left))
 
-returns-4 : tie.Need-returns-4
-returns-4 c =
+returns-5 : tie.Need-returns-5
+returns-5 c =
     let u = c .before .before .before .before .before in
     let r = u .to-units .result in
-    c .refused4 .ensures
+    c .refused5 .ensures
     ∙ units-stop (one u) refusedQuotient (r .verdict) (r .candidate) (inUnits (q u)) (u .to-units .ensures) _ (c .before .before .of-first .given .1)
     ∙ in-units u
 
@@ -98,17 +121,17 @@ module _ (v : tie.After-to-units2) where
       units-go-on (one u) refusedQuotient (r .verdict) (r .candidate) (inUnits (q u)) (u .to-units .ensures) (v .before .enum-told .given .1)
       ∙ in-units u
 
-returns-5 : tie.Need-returns-5
-returns-5 c =
+returns-6 : tie.Need-returns-6
+returns-6 c =
     let v = c .before .before .before .before .before in
     let r = v .to-units2 .result in
-    c .refused5 .ensures
+    c .refused6 .ensures
     ∙ units-stop (both (u v) (u v .to-units .result .candidate)) refusedQuotient (r .verdict) (r .candidate) (inUnits (values (m (u v)))) (v .to-units2 .ensures) _
     (c .before .before .of-second .given .1)
     ∙ h-stays v
 
-returns-6 : tie.Need-returns-6
-returns-6 c =
+returns-7 : tie.Need-returns-7
+returns-7 c =
     let v = c .before .before .before in
     let r = v .to-units2 .result in
     units-go-on (both (u v) (u v .to-units .result .candidate)) refusedQuotient (r .verdict) (r .candidate) (inUnits (values (m (u v)))) (v .to-units2 .ensures)
@@ -118,7 +141,8 @@ returns-6 c =
 pub make-quotient-spec : {M : Type 1} → statement M
 make-quotient-spec =
     tie.close (tie.spec
-    (λ c κs. search needs) (λ c κs. search needs) returns (λ c κs. search needs) (λ c κs. search needs) returns-2 (λ c κs. search needs)
-    (λ c κs. search needs) returns-3 (λ c κs. search needs) (λ c κs. search needs) (λ c κs. search needs) (λ c. search needs)
+    (λ c κs. search needs) (λ c κs. search needs) (λ c κs. search needs) returns (λ c κs. search needs) (λ c κs. search needs)
+    (λ c κs. search needs) returns-2 (λ c κs. search needs) (λ c κs. search needs) returns-3 (λ c κs. search needs)
+    (λ c κs. search needs) returns-4 (λ c κs. search needs) (λ c κs. search needs) (λ c κs. search needs) (λ c. search needs)
     (λ c κs. search needs) (λ c. search needs) (λ c κs. search needs) (λ c. search needs) (λ c κs. search needs) (λ c. search needs)
-    returns-4 returns-5 returns-6)
+    returns-5 returns-6 returns-7)

@@ -1,10 +1,11 @@
 -- `reciprocal::make_reciprocal` meets its contract.
 use borrow.Author.Needs.{needs}
 use borrow.Author.Tests.{not-true, not-false}
-use mathlib.Core.Path.{_≡_, sym, _∙_}
+use mathlib.Core.Path.{_≡_, sym, _∙_, ap}
+use Prim.Native.Nat.{ℕ}
 use mathlib.Core.Bool.{true}
 use Rattle.model.specs.definitions.Models.{good}
-use Rattle.model.specs.definitions.Outcomes.{Outcome, accepted}
+use Rattle.model.specs.definitions.Outcomes.{Outcome, accepted, refused}
 use Rattle.model.specs.declared.types.Model.{Model}
 use Rattle.model.specs.declared.types.Candidate.{Candidate}
 use Rattle.proposals.specs.definitions.Units.{inUnits}
@@ -15,8 +16,10 @@ use Rattle.proposals.proofs.reciprocal.make_reciprocal.Tie as tie
 
 returns : tie.Need-returns
 returns c =
-    let b = c .before .before .is-good in
-    c .refused .ensures ∙ reciprocal-of-bad (c .before .before .before .args .g) (sym (b .ensures) ∙ not-true (b .result) (c .before .if1 .taken))
+    let k = c .before in
+    let b = k .before .before .is-good in
+    c .refused .ensures ∙ ap (λ (n : ℕ). refused n refusedReciprocal) (k .fault-of .ensures)
+    ∙ reciprocal-of-bad (k .before .before .before .args .g) (sym (b .ensures) ∙ not-true (b .result) (k .before .if1 .taken))
 
 -- the rounds were made
 module _ (m : tie.After-make) where
@@ -64,5 +67,5 @@ returns-4 c =
 pub make-reciprocal-spec : {M : Type 1} → statement M
 make-reciprocal-spec =
     tie.close (tie.spec
-    (λ c κs. search needs) (λ c κs. search needs) returns (λ c κs. search needs) (λ c κs. search needs) returns-2 (λ c κs. search needs)
+    (λ c κs. search needs) (λ c κs. search needs) (λ c κs. search needs) returns (λ c κs. search needs) (λ c κs. search needs) returns-2 (λ c κs. search needs)
     (λ c. search needs) (λ c κs. search needs) (λ c. search needs) returns-3 returns-4)

@@ -1,6 +1,6 @@
 -- `convert::convert_good` meets its contract.
 use borrow.Author.Needs.{needs}
-use mathlib.Core.Path.{_≡_, sym, _∙_, ap}
+use mathlib.Core.Path.{_≡_, sym, _∙_, ap, ap₂}
 use mathlib.Core.List.{List}
 use Prim.Native.Nat.{suc, _+_, _^_, _<_, _≤_}
 use native.Mathlib.Omega.{arith}
@@ -12,7 +12,7 @@ use lib.Signed.{ltZ-yes}
 use Rattle.chebyshev.specs.definitions.Coefficients.{weight}
 use Rattle.chebyshev.specs.laws.Weight.{weight-take, weight-zeros}
 use Rattle.model.specs.definitions.InnerContracts.{formedOutcome}
-use Rattle.model.specs.definitions.Models.{makeModel}
+use Rattle.model.specs.definitions.Models.{standardModel}
 use Rattle.model.specs.laws.ModelLaws.{Good}
 use Rattle.series.specs.definitions.Convert.{seriesTerms, expandedFrom}
 use Rattle.series.specs.laws.ConversionLaws.{limits, length-expanded, weight-expanded, from-zeros, series-formed}
@@ -24,7 +24,7 @@ module _ (s : tie.Start) where
   abbrev series : Series
   series = s .args .s
 
-  within : Good (makeModel (series .degree) (series .coefficients) 0)
+  within : Good (standardModel (series .degree) (series .coefficients) 0)
   within = limits series (s .pre)
 
   length-all : length (series .coefficients) ≡ 33
@@ -89,12 +89,12 @@ round-requires c κs =
 
 returns : tie.Need-returns
 returns c =
-    let r = c .before .before .before in
+    let r = c .before .before .before .before in
     let d = r .before .before .before in
     let s = series (start d) in
     let n : length (seriesTerms s) ≡ suc (s .degree) = rw add-one at (length-ps (start d)) in
     c .formed .ensures
-    ∙ ap (formedOutcome (s .degree) (r .round .result .coefficients) (r .round .result .weight)) (c .before .up-unsigned .ensures)
+    ∙ ap₂ (formedOutcome (s .degree) (r .round .result .coefficients) (r .round .result .weight)) (c .before .up-unsigned .ensures) (c .before .before .standard .ensures)
     ∙ series-formed s (r .round .result) n (simp add-one at (rw (sums-are d) at (r .round .ensures)))
 
 pub convert-good-spec : {M : Type 1} → statement M
@@ -102,4 +102,4 @@ convert-good-spec =
     tie.close (tie.spec
     (λ c κs. search needs) (λ c. search needs) (λ c. search needs) (λ c. search needs) array-share-prefix-all
     (λ c. sym (length-ps (c .before .before .before .before .before))) (λ c. search needs) add-expanded-requires array-share-prefix-sums
-    (λ c. sym (first-sums (c .before .before))) round-requires (λ c. search needs) (λ c κs. search needs) (λ c κs. search needs) returns)
+    (λ c. sym (first-sums (c .before .before))) round-requires (λ c κs. search needs) (λ c. search needs) (λ c κs. search needs) (λ c κs. search needs) returns)

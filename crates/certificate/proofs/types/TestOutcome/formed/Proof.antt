@@ -12,13 +12,13 @@ returns : tie.Need-returns
 unfolding passing
 returns c =
     let a = c .before .before .args in
-    rw (large-radius (candidateModel (a .h)) (a .radius) (c .before .before .pre), le-ltb maxRadius (a .radius) (omega arith)) (c .accepted .ensures)
+    rw (large-radius (candidateModel (a .interval) (a .h)) (a .radius) (c .before .before .pre), le-ltb maxRadius (a .radius) (omega arith)) (c .accepted .ensures)
 
 returns-2 : tie.Need-returns-2
 unfolding passing
 returns-2 c =
     let a = c .before .before .args in
-    rw (large-radius (candidateModel (a .h)) (a .radius) (c .before .before .pre), lt-ltb maxRadius (a .radius) (omega arith)) (c .refused .ensures)
+    rw (large-radius (candidateModel (a .interval) (a .h)) (a .radius) (c .before .before .pre), lt-ltb maxRadius (a .radius) (omega arith)) (c .refused .ensures)
 
 pub formed-spec : {M : Type 1} → statement M
 formed-spec =
