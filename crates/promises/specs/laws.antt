@@ -1,0 +1,7 @@
+pub mod Rounding
+pub mod Operations
+pub mod Tests
+pub mod Mirrors
+pub mod Series
+pub mod Jobs
+pub mod Benchmarks
