@@ -11,6 +11,7 @@ pub mod QuotientConditions
 pub mod QuotientSound
 pub mod QuotientTheorem
 pub mod QuotientIntegral
+pub mod MirroredQuotient
 pub mod LeastAlgebra
 pub mod RootAlgebra
 pub mod RootConditions
