@@ -18,6 +18,7 @@ pub mod RootConditions
 pub mod RootRadius
 pub mod RootSound
 pub mod RootTheorem
+pub mod MirroredRoot
 pub mod NumbersStages
 pub mod RootStages
 pub mod Discriminant
