@@ -11,3 +11,4 @@ pub mod InnerContracts
 pub mod Order
 pub mod Requirement
 pub mod ExactValues
+pub mod Mirror
