@@ -53,35 +53,29 @@ module _ (rs : List Model) where
   result-mirrored : (i : ℕ) → resultAt (map mirrored rs) i ≡ mirrored (resultAt rs i)
   result-mirrored i = ap (getD (map mirrored rs) i) (sym (zero-negated odd)) ∙ List·getD-map mirrored rs i zeroModel
 
-  -- a plain operation, whose mirrored outcome is o′
-  plain : (m : Maker) (o o′ : Outcome Model) {c : Certificate} → operation m rs ≡ untestedOutcome o → o′ ≡ mapOutcome mirrored o
-      → operation m rs ≡ Outcome.accepted c → untestedOutcome o′ ≡ Outcome.accepted (onModel mirrored c)
-  plain m o o′ is mirrors e =
-      ap untestedOutcome mirrors ∙ untested-mirrored o ∙ ap (mapOutcome (onModel mirrored)) (sym is ∙ e)
+  -- a maker of an operation on two results
+  on-two : (m : Maker) (op : Model → Model → Outcome Model) (i j : ℕ)
+      → ((l : List Model) → operation m l ≡ untestedOutcome (op (resultAt l i) (resultAt l j)))
+      → ((f g : Model) → op (mirrored f) (mirrored g) ≡ mapOutcome mirrored (op f g))
+      → {c : Certificate} → operation m rs ≡ Outcome.accepted c → operation m (map mirrored rs) ≡ Outcome.accepted (onModel mirrored c)
+  on-two m op i j is mirrors e =
+      let f = resultAt rs i in
+      let g = resultAt rs j in
+      is (map mirrored rs)
+      ∙ ap untestedOutcome (ap₂ op (result-mirrored i) (result-mirrored j) ∙ mirrors f g)
+      ∙ untested-mirrored (op f g)
+      ∙ ap (mapOutcome (onModel mirrored)) (sym (is rs) ∙ e)
 
   pub operation-mirrored : (m : Maker) {c : Certificate} → operation m rs ≡ Outcome.accepted c
       → operation (mirroredMaker m) (map mirrored rs) ≡ Outcome.accepted (onModel mirrored c)
   operation-mirrored (load m) e =
       load-operation (mirrored m) (map mirrored rs)
-      ∙ plain (load m) (loading m) (loading (mirrored m)) (load-operation m rs) (loading-negated odd m) e
-  operation-mirrored (add i j) e =
-      let f = resultAt rs i in
-      let g = resultAt rs j in
-      add-operation i j (map mirrored rs)
-      ∙ ap₂ (λ a b. untestedOutcome (addition a b)) (result-mirrored i) (result-mirrored j)
-      ∙ plain (add i j) (addition f g) (addition (mirrored f) (mirrored g)) (add-operation i j rs) (addition-negated odd f g) e
-  operation-mirrored (subtract i j) e =
-      let f = resultAt rs i in
-      let g = resultAt rs j in
-      subtract-operation i j (map mirrored rs)
-      ∙ ap₂ (λ a b. untestedOutcome (subtraction a b)) (result-mirrored i) (result-mirrored j)
-      ∙ plain (subtract i j) (subtraction f g) (subtraction (mirrored f) (mirrored g)) (subtract-operation i j rs) (subtraction-negated odd f g) e
-  operation-mirrored (multiply i j d) e =
-      let f = resultAt rs i in
-      let g = resultAt rs j in
-      multiply-operation i j d (map mirrored rs)
-      ∙ ap₂ (λ a b. untestedOutcome (multiplication d a b)) (result-mirrored i) (result-mirrored j)
-      ∙ plain (multiply i j d) (multiplication d f g) (multiplication d (mirrored f) (mirrored g)) (multiply-operation i j d rs) (multiplication-mirrored d f g) e
+      ∙ ap untestedOutcome (loading-negated odd m)
+      ∙ untested-mirrored (loading m)
+      ∙ ap (mapOutcome (onModel mirrored)) (sym (load-operation m rs) ∙ e)
+  operation-mirrored (add i j) e = on-two (add i j) addition i j (add-operation i j) (addition-negated odd) e
+  operation-mirrored (subtract i j) e = on-two (subtract i j) subtraction i j (subtract-operation i j) (subtraction-negated odd) e
+  operation-mirrored (multiply i j d) e = on-two (multiply i j d) (multiplication d) i j (multiply-operation i j d) (multiplication-mirrored d) e
   operation-mirrored (quotient i j h w) e =
       quotient-operation i j (mirroredCandidate h) (mirroredCandidate w) (map mirrored rs)
       ∙ ap₂ (λ a b. quotientTest scratchSize a b (mirroredCandidate h) (mirroredCandidate w)) (result-mirrored i) (result-mirrored j)
