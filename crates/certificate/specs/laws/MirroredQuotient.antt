@@ -20,7 +20,7 @@ use Rattle.model.specs.declared.types.Candidate.{Candidate}
 use Rattle.model.specs.declared.types.Model.{Model}
 use Rattle.certificate.specs.definitions.Mirror.{onModel}
 use Rattle.certificate.specs.definitions.Quotient.{quotientContraction, quotientResidual, quotientModel, quotientPlaces, quotientCertificate, quotientNeeding, quotientTest}
-use Rattle.certificate.specs.definitions.Tests.{placed, withRadius, displacement, makeCertificate, zeroCertificate}
+use Rattle.certificate.specs.definitions.Tests.{placed, displacement, makeCertificate, zeroCertificate}
 
 -- ---- the numbers of the test, which stay
 

@@ -1,7 +1,7 @@
 -- Document 02, S-11, of the root tests, by either rule: "A mirrored crown must give mirrored models". An accepted root is accepted
 -- mirrored, with the same m, N, b and radius. Whole outcomes need not agree: Σ w_k is w at the upper end, of the mirror at the lower
 -- one, so that a refused root may have 7 for 5, or 5 for 7.
-use mathlib.Core.Path.{_≡_, refl, sym, _∙_, ap, ap₂}
+use mathlib.Core.Path.{_≡_, refl, sym, _∙_, ap}
 use mathlib.Core.List.{[], _∷_}
 use Prim.Native.Nat.{ℕ, _+_, _*_}
 use lib.IntN.{ℤ, pos}

@@ -1,7 +1,7 @@
 -- Document 02, S-11, of a whole job: "A mirrored crown must give mirrored models". Of accepted jobs alone, since a root that is
 -- refused with 5 may be refused with 7 mirrored (MirroredRoot of certificate).
 use mathlib.Core.Path.{_≡_, refl, sym, _∙_, ap, ap₂, subst, subst₂}
-use mathlib.Core.List.{List, [], _∷_, _++_, map, map-append}
+use mathlib.Core.List.{List, [], _∷_, map, map-append}
 use Prim.Native.Nat.{ℕ}
 use lib.ListN.{getD, length, length-map, List·getD-map}
 use Rattle.chebyshev.specs.definitions.Negation.{odd}

@@ -1,4 +1,4 @@
--- Document 02, S-3: "Each converted model allows the series' exact value at every fraction from −1 to 1."
+-- Document 02, S-3: "Each converted model allows the series' exact value at every fraction from −1 to 1." And it is a good model.
 use mathlib.Core.Path.{_≡_, refl, sym, _∙_, ap, ap₂, subst, subst⁻¹}
 use mathlib.Core.Bool.{true}
 use mathlib.Core.List.{List, [], _∷_}
