@@ -1,5 +1,5 @@
--- Document 02, S-11: "A mirrored crown must give mirrored models", of the commands of a job: loads and candidates are mirrored, each
--- on its own interval. The names of results, a kept degree and a root's rule stay.
+-- Document 02, S-11: "A mirrored crown must give mirrored models", of the commands of a job. Loads and candidates are mirrored,
+-- each on its own interval; the names of results, a kept degree and a root's rule stay.
 use Rattle.model.specs.definitions.Mirror.{mirrored, mirroredCandidate}
 use Rattle.job.specs.definitions.Operations.{Maker, load, add, subtract, multiply, quotient, root}
 use Rattle.job.specs.definitions.Decode.{Command, edition, result, finish, unknown}
