@@ -1,4 +1,5 @@
 pub mod Tests
+pub mod Mirror
 pub mod Quotient
 pub mod Root
 pub mod InnerContracts

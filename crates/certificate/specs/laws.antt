@@ -11,12 +11,14 @@ pub mod QuotientConditions
 pub mod QuotientSound
 pub mod QuotientTheorem
 pub mod QuotientIntegral
+pub mod MirroredQuotient
 pub mod LeastAlgebra
 pub mod RootAlgebra
 pub mod RootConditions
 pub mod RootRadius
 pub mod RootSound
 pub mod RootTheorem
+pub mod MirroredRoot
 pub mod NumbersStages
 pub mod RootStages
 pub mod Discriminant

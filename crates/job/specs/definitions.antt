@@ -12,3 +12,4 @@ pub mod Order
 pub mod Requirement
 pub mod ExactValues
 pub mod FormedBoxes
+pub mod Mirror

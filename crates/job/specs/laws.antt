@@ -13,6 +13,7 @@ pub mod Accepted
 pub mod Hull
 pub mod Claim
 pub mod MeetsNone
+pub mod MirroredJob
 pub mod ExactAllowed
 pub mod ChosenValues
 pub mod ExactExists

@@ -89,7 +89,7 @@ module _ (len : ℕ) (f : Model) (h w : Candidate) (c : NumbersConditions len f 
       (rw (value-constant ℚ-ring x (whole (pos (scale * scale)))) at (valueAt-difference x on (pos (scale * scale) ∷ []) (productList w′ h′)))
 
   -- w(x) > 0
-  helper-value : (x : ℚ) → ∣ x ∣ℚ ≤ℚ whole (pos 1) → whole (pos 0) <ℚ valueAt x (w .coefficients)
+  pub helper-value : (x : ℚ) → ∣ x ∣ℚ ≤ℚ whole (pos 1) → whole (pos 0) <ℚ valueAt x (w .coefficients)
   unfolding rootContraction
   helper-value x on =
       helper-positive (whole (pos scale) *ℚ whole (pos scale)) (whole (pos contractionWeight)) (w .coefficients) (h .coefficients)

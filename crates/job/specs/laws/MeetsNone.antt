@@ -79,7 +79,7 @@ module _ {cs : List Command} {rs : List Model} (made : Made cs rs) where
   by-operation k next cs₀ n finish d e r f = none-first tt f
   by-operation k next cs₀ n unknown d e r f = none-first tt f
 
-  refuses-nowhere : (job : List ℕ) → jobReading job ≡ well cs → (n k : ℕ) → ¬ RefusesAt job n k
+  pub refuses-nowhere : (job : List ℕ) → jobReading job ≡ well cs → (n k : ℕ) → ¬ RefusesAt job n k
   unfolding commandPlaces
   refuses-nowhere job read n k m =
       by (first-parts (readingPlaces job k (length (m .0)) (m .1)) (operationPlaces (commandRead job k (length (m .0)) (m .1)) (m .0)) (m .3))
