@@ -4,6 +4,7 @@ ghost use Rattle.proposals.specs.definitions.Quotient.{quotientProposal,
 use crate::product::multiply;
 use crate::reciprocal::make;
 use crate::types::QuotientOutcome;
+use crate::types::QuotientRecord;
 use crate::units::to_units;
 use crate::values::values_of;
 use model::measure::fault_of;
@@ -51,8 +52,7 @@ pub fn make_quotient(f: Model, g: Model) -> QuotientOutcome
                 Verdict::Accepted => QuotientOutcome {
                     verdict: Verdict::Accepted,
                     ending,
-                    quotient,
-                    round,
+                    recorded: QuotientRecord { quotient, round },
                     h,
                     w,
                 },

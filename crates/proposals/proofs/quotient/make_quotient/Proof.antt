@@ -14,7 +14,7 @@ use Rattle.model.specs.declared.types.Candidate.{Candidate}
 use Rattle.proposals.specs.definitions.Product.{product}
 use Rattle.proposals.specs.definitions.Units.{inUnits}
 use Rattle.proposals.specs.definitions.Reciprocal.{valuesOf}
-use Rattle.proposals.specs.definitions.Quotient.{Quotient, makeQuotient, refusedQuotient, quotientProposal}
+use Rattle.proposals.specs.definitions.Quotient.{Quotient, quotientRecord, makeQuotient, refusedQuotient, quotientProposal}
 use Rattle.proposals.specs.laws.MakerLaws.{quotient-of-bad, quotient-by-bad, quotient-different, quotient-not-finite, quotient-in-units, thenUnits, units-stop, units-go-on}
 use Rattle.proposals.proofs.quotient.make_quotient.Statement.{statement}
 use Rattle.proposals.proofs.quotient.make_quotient.Tie as tie
@@ -89,7 +89,7 @@ module _ (u : tie.After-to-units) where
   q = u .before .multiply .result
 
   abbrev both : Candidate → Candidate → Outcome Quotient
-  both h w = accepted (makeQuotient (m .make .result .ending) q (m .make .result .round) h w)
+  both h w = accepted (makeQuotient (m .make .result .ending) (quotientRecord q (m .make .result .round)) h w)
 
   abbrev one : Candidate → Outcome Quotient
   one h = thenUnits (both h) refusedQuotient (inUnits (values m))
