@@ -23,9 +23,10 @@ use Rattle.proposals.specs.definitions.Rounds.{rounds, roundOf, madeOf}
 use Rattle.proposals.specs.definitions.Units.{unitsOf, candidateIn, zeroCandidate, inUnits, inUnitsOf}
 use Rattle.proposals.specs.definitions.Reciprocal.{valuesOf, firstValue, constantList, zeroRound, reciprocalRounds, makeReciprocal, refusedReciprocal, reciprocalProposal, reciprocalOf}
 use Rattle.proposals.specs.definitions.Quotient.{Quotient, quotientRecord, makeQuotient, refusedQuotient, quotientProposal, quotientOf}
+use Rattle.proposals.specs.definitions.Endings.{changeIn}
 use Rattle.proposals.specs.definitions.InnerContracts.{limitedUnits}
 use Rattle.proposals.specs.laws.UnitsLaws.{limited-list, weight-over, weight-within}
-use Rattle.proposals.specs.laws.RoundsLaws.{FiniteIn, rounds-finite, changeIn, rounds-change}
+use Rattle.proposals.specs.laws.RoundsLaws.{FiniteIn, rounds-finite, rounds-change}
 use Rattle.proposals.specs.declared.types.Made.{Made}
 use Rattle.proposals.specs.declared.types.CandidateOutcome.{CandidateOutcome}
 use Rattle.proposals.specs.declared.types.ReciprocalOutcome.{ReciprocalOutcome}
