@@ -7,5 +7,6 @@ pub mod Quotient
 pub mod Endings
 pub mod Finite
 pub mod Bits
+pub mod ExactCase
 pub mod InnerContracts
 pub mod Areas
