@@ -17,3 +17,4 @@ pub mod FiniteMaking
 pub mod Examples
 pub mod FormerProposals
 pub mod IntervalExamples
+pub mod OrderExamples

@@ -22,10 +22,11 @@ use Rattle.proposals.specs.definitions.Product.{product}
 use Rattle.proposals.specs.definitions.Rounds.{rounds, roundOf, madeOf}
 use Rattle.proposals.specs.definitions.Units.{unitsOf, candidateIn, zeroCandidate, inUnits, inUnitsOf}
 use Rattle.proposals.specs.definitions.Reciprocal.{valuesOf, firstValue, constantList, zeroRound, reciprocalRounds, makeReciprocal, refusedReciprocal, reciprocalProposal, reciprocalOf}
-use Rattle.proposals.specs.definitions.Quotient.{Quotient, makeQuotient, refusedQuotient, quotientProposal, quotientOf}
+use Rattle.proposals.specs.definitions.Quotient.{Quotient, quotientRecord, makeQuotient, refusedQuotient, quotientProposal, quotientOf}
+use Rattle.proposals.specs.definitions.Endings.{changeIn}
 use Rattle.proposals.specs.definitions.InnerContracts.{limitedUnits}
 use Rattle.proposals.specs.laws.UnitsLaws.{limited-list, weight-over, weight-within}
-use Rattle.proposals.specs.laws.RoundsLaws.{FiniteIn, rounds-finite, changeIn, rounds-change}
+use Rattle.proposals.specs.laws.RoundsLaws.{FiniteIn, rounds-finite, rounds-change}
 use Rattle.proposals.specs.declared.types.Made.{Made}
 use Rattle.proposals.specs.declared.types.CandidateOutcome.{CandidateOutcome}
 use Rattle.proposals.specs.declared.types.ReciprocalOutcome.{ReciprocalOutcome}
@@ -134,7 +135,7 @@ module _ (f g : Model) where
       quotient-not-finite e = rw (bf, bg, same, ← em, e)
 
       pub quotient-in-units : (q : List Float) → q ≡ product (valuesOf f) (m .round .coefficients) → m .finite ≡ true
-          → thenUnits (λ h. thenUnits (λ w. accepted (makeQuotient (m .ending) q (m .round) h w)) refusedQuotient (inUnits (m .round .coefficients))) refusedQuotient (inUnits q)
+          → thenUnits (λ h. thenUnits (λ w. accepted (makeQuotient (m .ending) (quotientRecord q (m .round)) h w)) refusedQuotient (inUnits (m .round .coefficients))) refusedQuotient (inUnits q)
           ≡ quotientProposal f g
       unfolding quotientProposal passing
       quotient-in-units q eq e = go (allFinite q) refl
@@ -143,7 +144,7 @@ module _ (f g : Model) where
           v = m .round .coefficients
 
           second : Candidate → Candidate → Outcome Quotient
-          second h w = accepted (makeQuotient (m .ending) q (m .round) h w)
+          second h w = accepted (makeQuotient (m .ending) (quotientRecord q (m .round)) h w)
 
           first : Candidate → Outcome Quotient
           first h = thenUnits (second h) refusedQuotient (inUnits v)
@@ -173,4 +174,4 @@ reciprocalOf-injective r s e =
 pub quotientOf-injective : (r s : QuotientOutcome) → quotientOf r ≡ quotientOf s → r ≡ s
 quotientOf-injective r s e =
     let (v, m) = judged-injective (r .verdict) (s .verdict) _ _ e in
-    λ i. record { verdict = v i; ending = m i .ending; quotient = m i .quotient; round = m i .round; h = m i .h; w = m i .w }
+    λ i. record { verdict = v i; ending = m i .ending; recorded = m i .recorded; h = m i .h; w = m i .w }
