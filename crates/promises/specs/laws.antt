@@ -4,5 +4,6 @@ pub mod Tests
 pub mod Mirrors
 pub mod Series
 pub mod Selections
+pub mod Proposals
 pub mod Jobs
 pub mod Benchmarks

@@ -15,7 +15,7 @@ use Rattle.certificate.specs.definitions.Tests.{makeCertificate, zeroCertificat
 use Rattle.certificate.specs.definitions.Quotient.{quotientTest}
 use Rattle.certificate.specs.definitions.Root.{rootTest}
 use Rattle.certificate.specs.declared.types.RootRule.the-variants.{ByDiscriminant}
-use Rattle.job.specs.definitions.Outcomes as job
+use Rattle.job.specs.definitions.Outcomes.{refused as jobRefused}
 use Rattle.job.specs.definitions.Run.{jobOutcome}
 
 -- 33 coefficients, of which the first are given; the model of degree n and radius e that has them; a constant candidate
@@ -56,4 +56,4 @@ pub record Benchmarks : Type 0 where
   -- "P10 f = S, h = 2S, w = S/4: 8."
   pub P10 : rootTest ByDiscriminant 16 (constantModel (pos 1048576)) (constant 2097152) (constant 262144) ≡ refused 8 zeroCertificate
   -- "P11 Empty job: 10 at command 0."
-  pub P11 : jobOutcome [] ≡ job.refused 10 0
+  pub P11 : jobOutcome [] ≡ jobRefused 10 0

@@ -25,6 +25,8 @@ pub record SeriesPromises : Type 0 where
       → (x : ℚ) → (-ℚ whole (pos 1)) ≤ℚ x → x ≤ℚ whole (pos 1) → Allows m x (seriesValue (s .coefficients) x /ℚ whole (pos scale))
   -- S-24: "the converter of S-3" means "−S and S"
   pub conversion-interval : (s : Series) (m : Model) → conversion s ≡ accepted m → m .interval ≡ standardInterval
+  -- a converted model is a good one, which a job may load
+  pub conversion-good : (s : Series) (m : Model) → conversion s ≡ accepted m → good m ≡ true
   -- "Each x^k is expanded in T_0..T_32 with weights times 2^32, all whole numbers"
   pub expansion-value : (k : ℕ) → k ≤ 32 → (x : ℚ)
       → value ℚ-ring x (map whole (expansionRow k)) ≡ whole (pos (2 ^ 32)) *ℚ power x k

@@ -2,6 +2,9 @@
 use Rattle.model.specs.laws.MirrorAllowed as allowed
 use Rattle.model.specs.laws.MirroredEvaluation as evaluations
 use Rattle.model.specs.laws.MirroredOperations as operations
+use Rattle.certificate.specs.laws.MirroredQuotient as quotients
+use Rattle.certificate.specs.laws.MirroredRoot as roots
+use Rattle.job.specs.laws.MirroredJob as jobs
 use Rattle.series.specs.laws.MirroredConversion as series
 use Rattle.promises.specs.definitions.Mirrors.{Mirrors}
 
@@ -16,6 +19,11 @@ mirrors-kept = record {
   multiplication-mirrored = operations.multiplication-mirrored;
   conversion-negated = series.conversion-negated;
   conversion-mirrored = series.conversion-mirrored;
+  quotient-dividend = quotients.quotient-dividend;
+  quotient-divisor = quotients.quotient-divisor;
+  quotient-mirrored = quotients.quotient-mirrored;
+  root-mirrored = λ rule len f h w c e. roots.root-mirrored rule len f h w e;
+  job-mirrored = λ job job′ cs rs read read′ e. jobs.job-mirrored job job′ read read′ e;
   allows-negated = allowed.allows-negated;
   allows-mirrored = allowed.allows-mirrored;
   mirrored-fraction = allowed.mirrored-fraction;

@@ -7,6 +7,7 @@ pub series-kept : SeriesPromises
 series-kept = record {
   conversion-sound = λ s m e. conversions.conversion-sound s e;
   conversion-interval = λ s m e. conversions.conversion-interval s e;
+  conversion-good = λ s m e. conversions.conversion-good s e;
   expansion-value = rows.expansion-value;
   row-twice = rows.row-twice;
 }
