@@ -29,10 +29,8 @@ use Rattle.job.specs.definitions.Reader.{well, jobReading}
 use Rattle.job.specs.definitions.Requirement.{Made, nothing, one-more}
 use Rattle.job.specs.definitions.Run.{jobOutcome}
 use Rattle.job.specs.laws.Accepted.{accepted-read}
-use Rattle.job.specs.laws.MadeUnique.{made-unique}
 use Rattle.job.specs.laws.MakerLaws.{load-operation, add-operation, subtract-operation, multiply-operation, quotient-operation, root-operation}
-use Rattle.job.specs.laws.MeetsNone.{refuses-nowhere}
-use Rattle.job.specs.laws.OrderLaws.{accepted-unless-refused}
+use Rattle.job.specs.laws.MeetsNone.{made-accepted}
 
 -- ---- one command
 
@@ -98,14 +96,6 @@ made-mirrored (one-more {cs} {rs} {c} d m names gives) =
     (operation-mirrored rs m gives))
 
 -- ---- whole jobs
-
--- a job whose commands make the results rs is accepted with them
-pub made-accepted : {cs : List Command} {rs : List Model} → Made cs rs → (job : List ℕ) → jobReading job ≡ well cs → jobOutcome job ≡ accepted rs
-made-accepted {cs} made job read =
-    let (rs′, e) = accepted-unless-refused job .1 (refuses-nowhere made job read) in
-    let (cs′, read′, made′) = accepted-read job rs′ e in
-    let same : cs′ ≡ cs = cc (read, read′) in
-    e ∙ ap accepted (made-unique (subst (λ (l : List Command). Made l rs′) same made′) made)
 
 -- two jobs, the commands of one being those of the other mirrored
 pub job-mirrored : (job job′ : List ℕ) {cs : List Command} {rs : List Model} → jobReading job ≡ well cs
