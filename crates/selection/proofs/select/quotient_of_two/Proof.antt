@@ -6,9 +6,10 @@ use lib.ListN.{length}
 use denote.Ref.{now}
 use Rattle.certificate.specs.definitions.Tests.{scratchAfter}
 use Rattle.selection.specs.definitions.Select.{selection, selectionOf}
-use Rattle.selection.specs.laws.SelectSound.{selection-allowed, chosen-long}
+use Rattle.selection.specs.laws.SelectSound.{chosen-long}
+use Rattle.selection.specs.laws.SelectLaws.{tighter-is-least}
 use Rattle.selection.specs.declared.types.Selection.{Selection}
-use Rattle.selection.proofs.Selecting.{two-tests, not-zero, none-selected}
+use Rattle.selection.proofs.Selecting.{two-tests, Promised, chosen-promised, not-zero, none-selected}
 use Rattle.selection.proofs.select.quotient_of_two.Statement.{statement}
 use Rattle.selection.proofs.select.quotient_of_two.Tie as tie
 
@@ -21,10 +22,13 @@ selects c =
     let d = b .before .before .before in
     let a = d .before .before .args in
     two-tests (a .f) (a .g) (now (a .first)) (now (a .second)) (now (a .scratch)) (d .test-proposal .last .1 .1 .1 .0) (b .test-proposal2 .last .1 .1 .1 .0)
-    (d .test-proposal .ensures .0) (d .test-proposal .ensures .1) (b .test-proposal2 .ensures .0) (b .test-proposal2 .ensures .1) (c .select .ensures)
+    (d .test-proposal .ensures .0) (d .test-proposal .ensures .1 .0) (b .test-proposal2 .ensures .0) (b .test-proposal2 .ensures .1 .0) (c .select .ensures)
 
 -- of one that is known
 module _ (c : tie.After-select) (r : Selection) (e : c .select .result ≡ r) where
+  abbrev a : tie.Args
+  a = c .before .before .before .before .before .before .before .args
+
   same : let a = c .before .before .before .before .before .before .before .args in
       selectionOf r ≡ selection (length (now (a .scratch))) (a .f) (a .g) (now (a .first)) (now (a .second))
   same = sym (ap selectionOf e) ∙ selects c .0
