@@ -32,7 +32,7 @@ two-tests f g first second s s₁ s₂ ep e₁ eq e₂ eo =
 
 -- what is promised of each proposal that passes is promised of the chosen one
 module _ (f g : Model) (first second : List ℤ) where
-  abbrev Promised : ℕ → ℕ → Type 0
+  abbrev pub Promised : ℕ → ℕ → Type 0
   Promised k e = QuotientAllowed f g (partModel (partNumbers k first second) e (f .interval))
 
   pub chosen-promised : (a b : ProposalOutcome) → (a .verdict ≡ Accepted → Promised 1 (a .radius)) → (b .verdict ≡ Accepted → Promised 2 (b .radius))

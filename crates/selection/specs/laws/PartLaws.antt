@@ -4,8 +4,8 @@ use mathlib.Core.List.{List, []}
 use Prim.Native.Nat.{ℕ, _+_, _<_}
 use denote.Ref.{RefT, ptr, now}
 use lib.IntN.{ℤ, pos}
-use lib.ListN.{getD, take, drop, List·getD-drop}
-use lib.Seq.{getD-take}
+use lib.ListN.{getD, take, drop}
+use lib.Seq.{getD-take, getD-drop}
 use Rattle.model.specs.definitions.Models.{coefficientCount}
 use Rattle.selection.specs.definitions.Select.{IsPart}
 
@@ -23,7 +23,7 @@ module _ (first second r : RefT (List ℤ)) where
     numbers = λ k few.
         ap (λ (l : List ℤ). getD l k (pos 0)) same
         ∙ getD-take coefficientCount (drop 1 (now s)) k (pos 0) few
-        ∙ List·getD-drop 1 (now s) k (pos 0);
+        ∙ getD-drop 1 (now s) k (pos 0);
   }
 
   pub part-of-first : IsPart 1 first second r → LiesBehindDegree first r

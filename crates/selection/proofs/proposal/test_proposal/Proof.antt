@@ -1,11 +1,11 @@
 -- `proposal::test_proposal` meets its contract.
 use borrow.Author.Needs.{needs}
-use mathlib.Core.Path.{sym}
+use mathlib.Core.Path.{sym, ap}
 use native.Mathlib.Omega.{arith}
 use lib.ListN.{length, length-take}
 use denote.Ref.{now}
+use Rattle.model.specs.definitions.Outcomes.{verdictNumber}
 use Rattle.selection.specs.laws.ProposalLaws.{short-radius, test-read, proposal-read, proposal-promised}
-use Rattle.model.specs.laws.OutcomeLaws.{refused-verdict}
 use Rattle.selection.proofs.proposal.test_proposal.Statement.{statement}
 use Rattle.selection.proofs.proposal.test_proposal.Tie as tie
 
@@ -13,7 +13,7 @@ returns : tie.Need-returns
 returns c =
     let a = c .before .before .before .before .args in (
       sym (short-radius (length (now (a .scratch))) (a .f) (a .g) (now (a .proposal)) (omega arith)),
-      (c .before .clear-scratch .ensures, λ e. absurd (refused-verdict e)),
+      (c .before .clear-scratch .ensures, λ e. absurd (omega (arith, ap verdictNumber e))),
     )
 
 returns-2 : tie.Need-returns-2
