@@ -55,7 +55,7 @@ module _ (len : ℕ) (f g : Model) (first second : List ℤ) {c : Selected} (acc
       count s h = length-take-le coefficientCount (drop 1 s) (omega (arith, h, length-drop 1 s))
 
 -- the claim put to use, of a part with any degree
-pub allowed-quotient : {f g : Model} {cs : List ℤ} {e : ℕ} → QuotientAllowed f g (partModel cs e (f .interval)) → (n : ℕ) (x u v : ℚ) → OnInterval (f .interval) x
+pub allowed-part : {f g : Model} {cs : List ℤ} {e : ℕ} → QuotientAllowed f g (partModel cs e (f .interval)) → (n : ℕ) (x u v : ℚ) → OnInterval (f .interval) x
     → Allows f x u → Allows g x v → (¬ (v ≡ whole (pos 0))) × Allows (makeModel n cs e (f .interval)) x (u /ℚ v)
 unfolding AllowsAt
-allowed-quotient q n x u v on hu hv = (q .divisor x v on hv, q .quotient x u v on hu hv)
+allowed-part q n x u v on hu hv = (q .divisor x v on hv, q .quotient x u v on hu hv)

@@ -118,3 +118,8 @@ pub series-allowed : (s : Series) (r : ModelOutcome) → outcomeOf r ≡ convers
 series-allowed s r e a =
     let given = accepted-judged (r .verdict) (r .model) e a in
     record { value = conversion-sound s given; interval = conversion-interval s given }
+
+-- the promise put to use
+pub allowed-series : {s : Series} {m : Model} → SeriesAllowed s m → (x : ℚ) → (-ℚ whole (pos 1)) ≤ℚ x → x ≤ℚ whole (pos 1)
+    → (m .interval ≡ standardInterval) × Allows m x (seriesValue (s .coefficients) x /ℚ whole (pos scale))
+allowed-series a x above below = (a .interval, a .value x above below)
