@@ -73,25 +73,25 @@ module _ (test : Outcome Certificate) (scratch out : List ℤ) (numbers : List �
 -- what is promised of an accepted model is promised of what stands in the area where it was stored
 module _ (P : Model → Type 0) (v : Verdict) (m : Model) (all : length (m .coefficients) ≡ coefficientCount) (promise : v ≡ Accepted → P m)
     (out : List ℤ) (room : modelSize ≤ length out) where
-  stored-promised : {n : ℕ} {o : List ℤ} → n ≡ verdictNumber v → o ≡ areaOut modelSize (words m) out → n ≡ 0 → P (areaModel o)
-  stored-promised number-is stored zero =
+  model-in-area : {n : ℕ} {o : List ℤ} → n ≡ verdictNumber v → o ≡ areaOut modelSize (words m) out → n ≡ 0 → P (areaModel o)
+  model-in-area number-is stored zero =
       subst P (sym (ap areaModel stored ∙ model-stored m out all room)) (promise (zero-accepted v (sym number-is ∙ zero)))
 
-pub operation-promised : (P : Model → Type 0) (r : ModelOutcome) → length (r .model .coefficients) ≡ coefficientCount
+pub operation-in-area : (P : Model → Type 0) (r : ModelOutcome) → length (r .model .coefficients) ≡ coefficientCount
     → (r .verdict ≡ Accepted → P (r .model)) → (out : List ℤ) → modelSize ≤ length out → {n : ℕ} {o : List ℤ}
     → operationAnswer n o ≡ outcomeIn (outcomeOf r) out → n ≡ 0 → P (areaModel o)
 unfolding outcomeIn
-operation-promised P r all promise out room e =
-    stored-promised P (r .verdict) (r .model) all promise out room
+operation-in-area P r all promise out room e =
+    model-in-area P (r .verdict) (r .model) all promise out room
     (ap (λ (x : OperationAnswer). x .number) e ∙ number-judged (r .verdict) (r .model))
     (ap (λ (x : OperationAnswer). x .out) e ∙ ap (λ (m : Model). areaOut modelSize (words m) out) (payload-judged (r .verdict) (r .model)))
 
-pub test-promised : (P : Model → Type 0) (t : TestOutcome) → length (t .model .coefficients) ≡ coefficientCount
+pub test-in-area : (P : Model → Type 0) (t : TestOutcome) → length (t .model .coefficients) ≡ coefficientCount
     → (t .verdict ≡ Accepted → P (t .model)) → (x out : List ℤ) (numbers : List ℕ) → modelSize ≤ length out
     → {n : ℕ} {s o : List ℤ} {k : List ℕ} → testAnswer n s o k ≡ testIn (testOf t) x out numbers → n ≡ 0 → P (areaModel o)
 unfolding testIn
-test-promised P t all promise x out numbers room e =
-    stored-promised P (t .verdict) (t .model) all promise out room
+test-in-area P t all promise x out numbers room e =
+    model-in-area P (t .verdict) (t .model) all promise out room
     (ap (λ (a : TestAnswer). a .number) e ∙ number-judged (t .verdict) _)
     (ap (λ (a : TestAnswer). a .out) e ∙ ap (λ (c : Certificate). areaOut modelSize (words (c .model)) out) (payload-judged (t .verdict) _))
 

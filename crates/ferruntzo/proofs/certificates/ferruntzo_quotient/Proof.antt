@@ -11,7 +11,7 @@ use Rattle.model.specs.declared.types.Model.{Model}
 use Rattle.certificate.specs.definitions.Quotient.{quotientTest}
 use Rattle.certificate.specs.definitions.Promise.{QuotientAllowed}
 use Rattle.certificate.specs.laws.TestFits.{quotient-storable}
-use Rattle.ferruntzo.proofs.Answering.{two-fit, test-fits, test-given, test-storable, test-promised, short-test}
+use Rattle.ferruntzo.proofs.Answering.{two-fit, test-fits, test-given, test-storable, test-in-area, short-test}
 use Rattle.ferruntzo.proofs.certificates.ferruntzo_quotient.Statement.{statement}
 use Rattle.ferruntzo.proofs.certificates.ferruntzo_quotient.Tie as tie
 
@@ -46,7 +46,7 @@ returns c =
           (_∙_ {b = quotientTest (length (now (a .scratch))) (g .before .model-in .result) (g .model-in2 .result) (h .candidate-in .result) (w .candidate-in2 .result)}
           (q .quotient .ensures .0)
           (λ k. quotientTest (length (now (a .scratch))) (g .before .model-in .ensures k) (g .model-in2 .ensures k) (h .candidate-in .ensures k) (w .candidate-in2 .ensures k)))),
-      test-promised (QuotientAllowed (areaModel (now (a .f))) (areaModel (now (a .g)))) (q .quotient .result) (all q)
+      test-in-area (QuotientAllowed (areaModel (now (a .f))) (areaModel (now (a .g)))) (q .quotient .result) (all q)
           (λ v.
           subst (λ (m : Model). QuotientAllowed m (areaModel (now (a .g))) (q .quotient .result .model)) (g .before .model-in .ensures)
           (subst (λ (m : Model). QuotientAllowed (g .before .model-in .result) m (q .quotient .result .model)) (g .model-in2 .ensures)

@@ -11,7 +11,7 @@ use Rattle.model.specs.declared.types.Model.{Model}
 use Rattle.certificate.specs.definitions.Root.{rootTest}
 use Rattle.certificate.specs.definitions.Promise.{RootAllowed}
 use Rattle.certificate.specs.laws.TestFits.{root-storable}
-use Rattle.ferruntzo.proofs.Answering.{test-fits, test-given, test-storable, test-promised, short-test}
+use Rattle.ferruntzo.proofs.Answering.{test-fits, test-given, test-storable, test-in-area, short-test}
 use Rattle.ferruntzo.proofs.certificates.root_in.Statement.{statement}
 use Rattle.ferruntzo.proofs.certificates.root_in.Tie as tie
 
@@ -42,7 +42,7 @@ returns c =
           (_∙_ {b = rootTest (a .rule) (length (now (a .scratch))) (h .before .model-in .result) (h .candidate-in .result) (w .candidate-in2 .result)}
           (q .root .ensures .0)
           (λ k. rootTest (a .rule) (length (now (a .scratch))) (h .before .model-in .ensures k) (h .candidate-in .ensures k) (w .candidate-in2 .ensures k)))),
-      test-promised (RootAllowed (areaModel (now (a .f)))) (q .root .result) (all q)
+      test-in-area (RootAllowed (areaModel (now (a .f)))) (q .root .result) (all q)
           (λ v. subst (λ (m : Model). RootAllowed m (q .root .result .model)) (h .before .model-in .ensures) (q .root .ensures .1 .1 v))
           (now (a .scratch)) (now (a .out)) (now (a .numbers)) (long d .3) (stored (now (a .scratch))),
     )

@@ -10,7 +10,7 @@ use Rattle.series.specs.definitions.Promise.{SeriesAllowed}
 use Rattle.series.specs.declared.types.Series.{Series}
 use Rattle.series.specs.laws.ConversionLaws.{conversion-storable}
 use Rattle.ferruntzo.specs.definitions.Conversions.{seriesSize, areaSeries}
-use Rattle.ferruntzo.proofs.Answering.{two-fit, answered, outcome-storable, operation-promised, short-operation}
+use Rattle.ferruntzo.proofs.Answering.{two-fit, answered, outcome-storable, operation-in-area, short-operation}
 use Rattle.ferruntzo.proofs.conversions.ferruntzo_from_series.Statement.{statement}
 use Rattle.ferruntzo.proofs.conversions.ferruntzo_from_series.Tie as tie
 
@@ -34,7 +34,7 @@ returns c =
     let r = i .from-series .result in
     let stored = c .before .answer-operation .ensures in (
       rw (d .if1 .taken) (answered conversion (now (a .out)) stored (i .from-series .ensures .0) (i .before .series-in .ensures)),
-      operation-promised (SeriesAllowed (areaSeries (now (a .series)))) r (all i)
+      operation-in-area (SeriesAllowed (areaSeries (now (a .series)))) r (all i)
           (λ v. subst (λ (s : Series). SeriesAllowed s (r .model)) (i .before .series-in .ensures) (i .from-series .ensures .1 v))
           (now (a .out)) (two-fit seriesSize modelSize (now (a .series)) (now (a .out)) (d .if1 .taken) .1) stored,
     )
