@@ -6,3 +6,4 @@ pub mod InnerContracts
 pub mod TwoSums
 pub mod Groups
 pub mod RootBounds
+pub mod Promise

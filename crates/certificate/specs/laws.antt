@@ -17,6 +17,7 @@ pub mod RootAlgebra
 pub mod RootConditions
 pub mod RootRadius
 pub mod RootSound
+pub mod PromiseLaws
 pub mod RootTheorem
 pub mod MirroredRoot
 pub mod NumbersStages
