@@ -50,7 +50,8 @@ fn radius_loss(a: u64, ea: u64, b: u64, eb: u64) -> u64
 fn round_product(a: &[i32], b: &[i32], kept: usize) -> RoundedProduct
     requires { ⌜ Factors (now a) (now b) ⌝ }
     requires { ⌜ (kept ≤ coefficientCount) × (kept < length (now a) + length (now b)) ⌝ }
-    ensures { λ (r : RoundedProduct). ⌜ RoundedWalk (2 * scale) (productWalk ℤ-ring productSize (now (a .entry)) (now (b .entry))) kept r ⌝ }
+    ensures { λ (r : RoundedProduct).
+        ⌜ RoundedWalk (2 * scale) (productWalk ℤ-ring productSize (now (a .entry)) (now (b .entry))) kept r ⌝ }
 {
     let mut c = [0i64; PRODUCT_SIZE];
     let visits = add_products(&mut c, a, b);

@@ -1,6 +1,6 @@
 -- `multiply::multiply_good` meets its contract.
 use borrow.Author.Needs.{needs}
-use mathlib.Core.Path.{_≡_, sym, _∙_, ap, subst}
+use mathlib.Core.Path.{_≡_, sym, _∙_, ap}
 use mathlib.Core.Logic.{⊎-elim}
 use Prim.Native.Nat.{suc, _+_, _*_}
 use native.Mathlib.Omega.{arith}
@@ -8,18 +8,15 @@ use native.Mathlib.Numerals.{add-one}
 use lib.ListN.{length, take}
 use lib.Seq.{length-take-le}
 use Rattle.integer.specs.definitions.Rounding.{upℕ}
-use Rattle.integer.specs.definitions.Integer.{ℤ-ring}
-use Rattle.chebyshev.specs.definitions.Product.{product, productWalk}
 use Rattle.chebyshev.specs.laws.Weight.{weight-take}
-use Rattle.model.specs.definitions.InnerContracts.{RoundedFrom, RoundedWalk, formedOutcome}
-use Rattle.model.specs.definitions.Models.{scale, productSize, terms}
+use Rattle.model.specs.definitions.InnerContracts.{RoundedFrom, formedOutcome}
+use Rattle.model.specs.definitions.Models.{scale}
 use Rattle.model.specs.laws.ModelLaws.{Good, good-is}
 use Rattle.model.specs.definitions.Multiply.{productDegree, productList, productVisits}
 use Rattle.model.specs.laws.GoodLaws.{weight-productList}
-use Rattle.model.specs.laws.MultiplicationLaws.{kept-is, radiusLoss, product-formed}
+use Rattle.model.specs.laws.MultiplicationLaws.{kept-is, radiusLoss, walk-rounded, product-formed}
 use Rattle.model.specs.laws.RoundingPassLaws.{rounded-loss}
 use Rattle.model.specs.declared.types.Model.{Model}
-use Rattle.model.specs.declared.multiply.RoundedProduct.{RoundedProduct}
 use Rattle.model.proofs.multiply.multiply_good.Statement.{statement}
 use Rattle.model.proofs.multiply.multiply_good.Tie as tie
 
@@ -95,19 +92,10 @@ module _ (c : tie.After-round-product) where
   abbrev start : tie.Start
   start = s at
 
-  abbrev p : RoundedProduct
-  p = c .round-product .result
-
-  walk : RoundedWalk (2 * scale) (productWalk ℤ-ring productSize (terms (a start)) (terms (b start))) (suc (productDegree (start .args .kept) (a start) (b start))) p
-  walk = simp (add-one, degree-is at) at (c .round-product .ensures)
-
-  rounded-from : RoundedFrom (2 * scale) (productList (a start) (b start)) (suc (productDegree (start .args .kept) (a start) (b start))) (p .rounded)
-  unfolding productList product
-  rounded-from = subst (λ l. RoundedFrom (2 * scale) l (suc (productDegree (start .args .kept) (a start) (b start))) (p .rounded)) (ap (λ w. w .0) (walk .walk-is)) (walk .rounded-from)
-
-  visits-are : p .visits ≡ productVisits (a start) (b start)
-  unfolding productVisits
-  visits-are = ap (λ w. w .1) (walk .walk-is)
+  walked :
+      RoundedFrom (2 * scale) (productList (a start) (b start)) (suc (productDegree (start .args .kept) (a start) (b start))) (c .round-product .result .rounded)
+      × (c .round-product .result .visits ≡ productVisits (a start) (b start))
+  walked = walk-rounded (a start) (b start) (c .round-product .result) (simp (add-one, degree-is at) at (c .round-product .ensures))
 
 radius-loss-requires : tie.Need-radius-loss-requires
 radius-loss-requires c κs = let s = start (c .before .before .before .before) in omega (arith, s .pre, good-a s, good-b s)
@@ -116,7 +104,7 @@ add-loss : tie.Need-add-loss
 add-loss c =
     let r = c .before .before .before .before .before .before in
     let s = start r in
-    omega (arith, c .before .radius-loss .ensures .1, rounded-loss (2 * scale) (omega arith) (productList (a s) (b s)) _ (p r .rounded) (rounded-from r), weight-productList (a s) (b s) (s .pre .first-good) (s .pre .second-good))
+    omega (arith, c .before .radius-loss .ensures .1, rounded-loss (2 * scale) (omega arith) (productList (a s) (b s)) _ (r .round-product .result .rounded) (walked r .0), weight-productList (a s) (b s) (s .pre .first-good) (s .pre .second-good))
 
 returns : tie.Need-returns
 returns c =
@@ -124,14 +112,11 @@ returns c =
     let l = u .before .before in
     let r = l .before .before .before .before .before in
     let s = start r in
-    let p = p r .rounded in
+    let p = r .round-product .result .rounded in
     let n : l .radius-loss .result ≡ radiusLoss (a s) (b s) = l .radius-loss .ensures .0 ∙ (λ t. 2 * (s .pre .first-weight t * b s .radius + s .pre .second-weight t * a s .radius + a s .radius * b s .radius)) in
-    let e : u .up-unsigned .result ≡ upℕ (p .loss + radiusLoss (a s) (b s)) (2 * scale) = u .up-unsigned .ensures ∙ ap (λ m. upℕ (p .loss + m) (2 * scale)) n in (
-      c .formed .ensures
-          ∙ (λ t. formedOutcome (degree-is (at r) t) (p .coefficients) (p .weight) (e t) (a s .interval))
-          ∙ product-formed (s .args .kept) (a s) (b s) p (rounded-from r),
-      visits-are r,
-    )
+    let e : u .up-unsigned .result ≡ upℕ (p .loss + radiusLoss (a s) (b s)) (2 * scale) = u .up-unsigned .ensures ∙ ap (λ m. upℕ (p .loss + m) (2 * scale)) n in
+    let o = c .formed .ensures ∙ (λ t. formedOutcome (degree-is (at r) t) (p .coefficients) (p .weight) (e t) (a s .interval)) ∙ product-formed (s .args .kept) (a s) (b s) p (walked r .0) in
+    (o, walked r .1)
 
 pub multiply-good-spec : {M : Type 1} → statement M
 multiply-good-spec =

@@ -65,13 +65,9 @@ returns : tie.Need-returns
 unfolding product
 returns c =
     let s = c .before .before .before .before .before in
-    let p = c .before .before .before in record {
-      list = C s;
-      walk-is = λ t. (C s, p .add-products .ensures .0 t .1);
-      rounded-from =
-          rounded-prefix (2 * scale) (C s) (end s) (s .args .kept) (c .round .result) (product-end productSize (end s) (a s) (b s) (omega arith)) (omega (arith, s .pre))
-          (rw (formed p) at (c .round .ensures));
-    }
+    let p = c .before .before .before in
+    let f = rounded-prefix (2 * scale) (C s) (end s) (s .args .kept) (c .round .result) (product-end productSize (end s) (a s) (b s) (omega arith)) (omega (arith, s .pre)) (rw (formed p) at (c .round .ensures)) in
+    record { list = C s; walk-is = λ t. (C s, p .add-products .ensures .0 t .1); rounded-from = f }
 
 pub round-product-spec : {M : Type 1} → statement M
 round-product-spec =
