@@ -27,6 +27,7 @@ pub mod RootEnd
 pub mod TightTheorem
 pub mod Examples
 pub mod TightExamples
+pub mod OrderExamples
 pub mod GroupExamples
 pub mod IntervalExamples
 pub mod FormerTests

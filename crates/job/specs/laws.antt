@@ -14,9 +14,11 @@ pub mod Hull
 pub mod Claim
 pub mod MeetsNone
 pub mod MirroredJob
+pub mod EveryJob
 pub mod ExactAllowed
 pub mod ChosenValues
 pub mod ExactExists
+pub mod ExactChosen
 pub mod FormedBoxes
 pub mod Examples
 pub mod ExampleBytes
