@@ -20,3 +20,4 @@ pub mod IntervalExamples
 pub mod OrderExamples
 pub mod SignedOperations
 pub mod TimesConstant
+pub mod ExactQuotient

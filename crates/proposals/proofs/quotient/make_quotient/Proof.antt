@@ -16,7 +16,7 @@ use Rattle.proposals.specs.definitions.Units.{inUnits}
 use Rattle.proposals.specs.definitions.Reciprocal.{valuesOf}
 use Rattle.proposals.specs.definitions.Quotient.{Quotient, quotientRecord, makeQuotient, refusedQuotient, quotientProposal}
 use Rattle.proposals.specs.laws.MakerLaws.{quotient-of-bad, quotient-by-bad, quotient-different, quotient-not-finite, quotient-in-units, thenUnits, units-stop, units-go-on}
-use Rattle.proposals.specs.laws.ExactCase.{with-exact-quotient}
+use Rattle.proposals.specs.laws.ExactQuotient.{with-exact-quotient}
 use Rattle.proposals.proofs.quotient.make_quotient.Statement.{statement}
 use Rattle.proposals.proofs.quotient.make_quotient.Tie as tie
 
