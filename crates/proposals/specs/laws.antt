@@ -18,3 +18,6 @@ pub mod Examples
 pub mod FormerProposals
 pub mod IntervalExamples
 pub mod OrderExamples
+pub mod SignedOperations
+pub mod TimesConstant
+pub mod ExactQuotient

@@ -1,4 +1,4 @@
--- "exact work on its bits": what the bits of an f64 stand for, by the sign's bit, the exponent's 11 and the 52 digits behind them.
+-- "exact work on its bits": what the bits of an f64 stand for: the sign's, the exponent's 11, and the 52 digits behind them.
 use mathlib.Core.Bool.{Bool}
 use Prim.Native.Nat.{ℕ, zero, suc, _+_, _-_, _*_, _/_, _%_, _^_}
 use lib.Dec.{leb}

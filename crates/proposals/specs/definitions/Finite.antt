@@ -1,4 +1,4 @@
--- "a value isn't finite, while making": that every value of a product and of a round is finite, those on the way to its result too.
+-- "a value isn't finite, while making": that every value of a product and of a round is finite, those on its way too.
 use mathlib.Core.Path.{_≡_}
 use mathlib.Core.Bool.{Bool, true, _&&_}
 use mathlib.Core.List.{List, [], _∷_, _++_, map}
@@ -33,7 +33,7 @@ unfoldable pub allProductsFinite : List Float → List Float → Bool
 allProductsFinite [] b = true
 allProductsFinite (x ∷ a) b = productsFinite x b && allProductsFinite a b
 
--- the list after any pair: those of a₀ are added, and of x those with b₀ (between a pair's two sums: half-pair-finite, FiniteWalk.antt)
+-- the list after any pair: those of a₀ are added, and of x those with b₀ (between a pair's two sums: half-pair-finite)
 abbrev pub StatesFinite : List Float → List Float → Type 0
 StatesFinite a b = (a₀ : List Float) (x : Float) (a₁ b₀ b₁ : List Float) → a ≡ a₀ ++ (x ∷ a₁) → b ≡ b₀ ++ b₁
     → allFinite (walkTerm (walkTerms fromZero 0 a₀ b) x (length a₀) 0 b₀ .0) ≡ true

@@ -32,7 +32,8 @@ abbrev pub makeQuotient : Ending → QuotientRecord → Candidate → Candidate 
 makeQuotient e r h w = record { ending = e; recorded = r; h = h; w = w }
 
 unfoldable pub refusedQuotient : Quotient
-refusedQuotient = makeQuotient (GivenUp nought) (quotientRecord (replicate coefficientCount nought) zeroRound) zeroCandidate zeroCandidate
+refusedQuotient =
+    makeQuotient (GivenUp nought) (quotientRecord (replicate coefficientCount nought) zeroRound) zeroCandidate zeroCandidate
 
 -- w and f·w are made, then both are turned into units: 15 of either comes before 16 of either, and each list has its own weight.
 unfoldable pub quotientProposal : Model → Model → Outcome Quotient

@@ -15,14 +15,12 @@ use Rattle.chebyshev.specs.definitions.Coefficients.{weight}
 use Rattle.chebyshev.specs.laws.Weight.{weight-zeros}
 use Rattle.model.specs.definitions.Intervals.{goodEnds}
 use Rattle.model.specs.definitions.Models.{partsWithinLimits, scale, maxWeight, good, constantModel}
-use Rattle.model.specs.definitions.Outcomes.{Outcome, accepted, refused, passing}
-use Rattle.model.specs.laws.PlaceLaws.{outcome-accepted}
+use Rattle.model.specs.definitions.Outcomes.{accepted, refused, passing}
 use Rattle.proposals.specs.definitions.Values.{nought, settledLimit, valueOf}
 use Rattle.proposals.specs.definitions.Rounds.{nextRound, finiteRound, roundOf, madeOf, improved, rounds}
 use Rattle.proposals.specs.definitions.Units.{signed, unitsOf}
-use Rattle.proposals.specs.definitions.Reciprocal.{constantList, valuesOf, reciprocalRounds, Reciprocal, makeReciprocal, refusedReciprocal, reciprocalProposal}
-use Rattle.proposals.specs.definitions.Quotient.{Quotient, refusedQuotient, quotientProposal}
-use Rattle.proposals.specs.definitions.ExactCase.{constantUnits, exactValue, exactRound, exactHelper, PowerOfTwo, ExactCase, ExactReciprocal, ExactQuotient}
+use Rattle.proposals.specs.definitions.Reciprocal.{constantList, reciprocalRounds, makeReciprocal, refusedReciprocal, reciprocalProposal}
+use Rattle.proposals.specs.definitions.ExactCase.{constantUnits, exactValue, exactRound, exactHelper, PowerOfTwo, ExactCase}
 use Rattle.proposals.specs.laws.UnitsLaws.{units-value, signed-scaled}
 use Rattle.proposals.specs.laws.RoundsLaws.{round-settled}
 use Rattle.proposals.specs.laws.ConstantProduct.{map-replicate, improved-constant, no-change, constant-finite}
@@ -143,18 +141,3 @@ below-the-exact-case g j p h =
 pub exact-constant : (j : ℕ) → 12 ≤ j → j ≤ 28
     → reciprocalProposal (constantModel (pos (2 ^ j))) ≡ accepted (makeReciprocal (Settled nought) (exactRound j) (exactHelper j))
 exact-constant j h l = exact-proposal (constantModel (pos (2 ^ j))) j (record { power = good-power j l; from = h; to = l })
-
--- of a quotient: "its record keeping w"
-pub exact-quotient : (f g : Model) → ExactQuotient f g (quotientProposal f g)
-unfolding quotientProposal
-exact-quotient f g j e a h =
-    let made : reciprocalRounds (valuesOf g) ≡ madeOf true (Settled nought) (exactRound j) = ap (λ c. reciprocalRounds (map valueOf c)) (e .power .constant) ∙ exact-rounds j (e .to) in
-    outcome-accepted _ _ refusedQuotient h .1 ∙ rw (made, exact-units j (e .to))
-
--- ---- as the contracts have it
-
-pub with-exact-reciprocal : (g : Model) {o : Outcome Reciprocal} → o ≡ reciprocalProposal g → (o ≡ reciprocalProposal g) × ExactReciprocal g o
-with-exact-reciprocal g h = (h, λ j e. h ∙ exact-proposal g j e)
-
-pub with-exact-quotient : (f g : Model) {o : Outcome Quotient} → o ≡ quotientProposal f g → (o ≡ quotientProposal f g) × ExactQuotient f g o
-with-exact-quotient f g h = (h, λ j e a k. exact-quotient f g j e a (sym h ∙ k))

@@ -1,7 +1,7 @@
 -- What the makers answer, by what code finds: a list in units (Units.antt) is refused or goes on.
 use borrow.Author.Tests.{lt-ltb, le-ltb}
 use mathlib.Core.Path.{_≡_, refl, sym, _∙_, ap, subst}
-use mathlib.Core.Bool.{Bool, true, false, cond}
+use mathlib.Core.Bool.{Bool, true, false, _&&_, cond}
 use mathlib.Core.List.{List, map}
 use Prim.Native.Nat.{ℕ, _≤_, _<_, _^_}
 use lib.Dec.{T, ltb}
@@ -159,6 +159,13 @@ module _ (f g : Model) where
               ∙ ap (cond (ltb maxWeight (weight (map unitsOf q))) (refused 16 refusedQuotient)) (finite-units (second h) refusedQuotient v finite)
               ∙ rw (bf, bg, same, ← em, e, ← eq, a)
           go false a = ap (thenUnits first refusedQuotient) (sym (units-not-finite q a)) ∙ rw (bf, bg, same, ← em, e, ← eq, a)
+
+-- "Number 15: … while making. Number 16: … after it.": a value of w or of f·w that is not finite, whatever the lists weigh
+pub not-finite-before-weight : (f g : Model) → good f ≡ true → good g ≡ true → sameInterval (f .interval) (g .interval) ≡ true
+    → reciprocalRounds (valuesOf g) .finite && allFinite (product (valuesOf f) (reciprocalRounds (valuesOf g) .round .coefficients)) ≡ false
+    → quotientProposal f g ≡ refused 15 refusedQuotient
+unfolding quotientProposal passing
+not-finite-before-weight f g bf bg same h = rw (bf, bg, same, h)
 
 -- ---- no two answers of code have one meaning
 

@@ -1,6 +1,6 @@
 -- Closed values in which the order shows: of the factors, in a bit; of the areas; of the refusals 15 and 16. Definition and code
 -- cannot both have another.
-use mathlib.Core.Path.{_≡_, refl, sym, _∙_, ap}
+use mathlib.Core.Path.{_≡_, refl, sym, ap}
 use mathlib.Core.Bool.{true, false}
 use mathlib.Core.List.{List, [], _∷_, _++_, map}
 use Prim.Native.Nat.{ℕ, _*_, _^_}
@@ -16,7 +16,7 @@ use Rattle.model.specs.definitions.Area.{areaOut, words}
 use Rattle.model.specs.definitions.Outcomes.{accepted, refused, passing}
 use Rattle.model.specs.declared.types.Model.{Model}
 use Rattle.proposals.specs.definitions.Values.{nought, one, two, settledLimit, difference, magnitude, greater, allFinite, valueOf}
-use Rattle.proposals.specs.definitions.Product.{half, product, productWide}
+use Rattle.proposals.specs.definitions.Product.{half, productWide}
 use Rattle.proposals.specs.definitions.Rounds.{twoLess, improved, changeFrom, nextRound, finiteRound, roundOf, madeOf, rounds}
 use Rattle.proposals.specs.definitions.Units.{unitsOf, candidateIn}
 use Rattle.proposals.specs.definitions.Reciprocal.{constantList, reciprocalRounds, valuesOf, refusedReciprocal, reciprocalProposal}
@@ -72,10 +72,6 @@ helper-made : reciprocalRounds (valuesOf divisor) ≡ madeOf true (Settled (help
 unfolding reciprocalRounds valueOf ofInt div round eq
 helper-made = round-settled (valuesOf divisor) (roundOf (constantList sixth) nought) helper 12 11 (sym first-round) refl helper-finite helper-settles
 
-quotient-made : product (valuesOf dividend) (helper .coefficients) ≡ quotient
-unfolding productWide addTermsBy addTermBy addPairBy addAtBy half valueOf ofInt add mul div round sum
-quotient-made = refl
-
 abbrev answered : List ℤ
 answered = pos 524288 ∷ pos 349525 ∷ replicate 31 (pos 0)
 
@@ -83,14 +79,14 @@ abbrev helping : List ℤ
 helping = pos 174763 ∷ replicate 32 (pos 0)
 
 quotient-proposed : quotientProposal dividend divisor ≡ accepted (makeQuotient (Settled (helper .change)) (quotientRecord quotient helper) (candidateIn answered) (candidateIn helping))
-unfolding quotientProposal passing sameInterval goodEnds partsWithinLimits good weight allFinite unitsOf near floor
-quotient-proposed = rw (helper-made, quotient-made)
+unfolding quotientProposal passing sameInterval goodEnds partsWithinLimits good weight allFinite unitsOf near floor productWide addTermsBy addTermBy addPairBy addAtBy half valueOf ofInt add mul div round sum
+quotient-proposed = rw helper-made refl
 
 -- every area has numbers behind, which stay
 quotient-over-areas : makeQuotientAnswer (words dividend ++ (pos 1 ∷ [])) (words divisor ++ (pos 2 ∷ [])) (replicate 68 one) (replicate 35 (pos 7)) (replicate 35 (pos 8)) (9 ∷ 9 ∷ [])
     ≡ quotientAnswer 0 (quotient ++ (helper .coefficients ++ (helper .change ∷ one ∷ []))) (pos 32 ∷ (answered ++ (pos 7 ∷ []))) (pos 32 ∷ (helping ++ (pos 8 ∷ []))) (1 ∷ 9 ∷ [])
 unfolding quotientIn areaOut
-quotient-over-areas = rw quotient-proposed refl
+quotient-over-areas = ap (λ p. quotientIn p (replicate 68 one) (replicate 35 (pos 7)) (replicate 35 (pos 8)) (9 ∷ 9 ∷ [])) quotient-proposed
 
 -- ---- 15 before 16: g = 1 + (1762584 / S)·T_32
 
@@ -107,7 +103,7 @@ heavy-made = refl
 
 too-heavy : reciprocalProposal diverging ≡ refused 16 refusedReciprocal
 unfolding reciprocalProposal passing goodEnds partsWithinLimits good weight unitsOf near floor
-too-heavy = rw heavy-made
+too-heavy = rw heavy-made refl
 
 abbrev constant : ℕ → Model
 constant n = standardModel 0 (pos n ∷ replicate 32 (pos 0)) 0
@@ -115,8 +111,8 @@ constant n = standardModel 0 (pos n ∷ replicate 32 (pos 0)) 0
 -- 1·w is finite, 2·w is not, and w is too heavy in both
 heavy-quotient : quotientProposal (constant (2 ^ 20)) diverging ≡ refused 16 refusedQuotient
 unfolding quotientProposal passing sameInterval goodEnds partsWithinLimits good weight allFinite unitsOf near floor productWide addTermsBy addTermBy addPairBy addAtBy half valueOf ofInt add mul div round sum
-heavy-quotient = rw heavy-made
+heavy-quotient = rw heavy-made refl
 
 not-finite-before-heavy : quotientProposal (constant (2 ^ 21)) diverging ≡ refused 15 refusedQuotient
 unfolding quotientProposal passing sameInterval goodEnds partsWithinLimits good weight allFinite unitsOf near floor productWide addTermsBy addTermBy addPairBy addAtBy half valueOf ofInt add mul div round sum
-not-finite-before-heavy = rw heavy-made
+not-finite-before-heavy = rw heavy-made refl

@@ -11,7 +11,7 @@ use Rattle.model.specs.declared.types.Candidate.{Candidate}
 use Rattle.proposals.specs.definitions.Units.{inUnits}
 use Rattle.proposals.specs.definitions.Reciprocal.{Reciprocal, makeReciprocal, refusedReciprocal, reciprocalProposal}
 use Rattle.proposals.specs.laws.MakerLaws.{reciprocal-of-bad, reciprocal-not-finite, reciprocal-in-units, thenUnits, units-stop, units-go-on}
-use Rattle.proposals.specs.laws.ExactCase.{with-exact-reciprocal}
+use Rattle.proposals.specs.laws.ExactQuotient.{with-exact-reciprocal}
 use Rattle.proposals.proofs.reciprocal.make_reciprocal.Statement.{statement}
 use Rattle.proposals.proofs.reciprocal.make_reciprocal.Tie as tie
 
