@@ -7,3 +7,5 @@ pub mod Selections
 pub mod Proposals
 pub mod Jobs
 pub mod Benchmarks
+pub mod Contracts
+pub mod Promises

@@ -26,7 +26,7 @@ use Rattle.job.specs.definitions.Run.{jobOutcome}
 use Rattle.job.specs.definitions.Order.{RefusesAt, EndsWith, Meets}
 use Rattle.job.specs.definitions.Work.{storedResult, modelsIn, areaPlaces, checkOutcome, checkNeeding, workAfter, workNeeding}
 use Rattle.job.specs.definitions.Requirement.{Made, Box, Lies, Permitted, Results, Requirement3}
-use Rattle.job.specs.definitions.ExactValues.{Exact, Follows, Chosen}
+use Rattle.job.specs.definitions.ExactValues.{Exact, valueBy, Follows, FormedFrom, Chosen}
 use Rattle.job.specs.definitions.FormedBoxes.{Formed}
 
 -- the commands of an accepted job, of which the claim in the contracts of `check` and `ferruntzo_check` speaks
@@ -60,6 +60,13 @@ pub record Requirement3Says (areas : List (Bool × ℕ)) (job : List ℕ) (answe
       → (j : ℕ) (rule : RootRule) (h w : Candidate) → commandFor (commandsOf claim e) i ≡ result (root rule j h w)
       → (v : ℚ) → Allows (storedResult work j) x v → ¬ (v <ℚ whole (pos 0))
 
+  -- with the order of refusals, for every list of bytes:
+  -- a job that ends with the results rs is accepted with their count, and they are the models in the work area
+  pub ends-accepted : Passed areas → (rs : List Model) → EndsWith job rs → answer ≡ accepted (length rs)
+  pub ends-models : Passed areas → (rs : List Model) → EndsWith job rs → modelsIn work (length rs) ≡ rs
+  -- and one that meets no refusal is such a job
+  pub none-accepted : ((n k : ℕ) → ¬ Meets areas job n k) → (rs : List Model) × EndsWith job rs × (answer ≡ accepted (length rs))
+
 -- ---- what follows from it, for every job and every answer of which the claim holds
 
 module _ (areas : List (Bool × ℕ)) (job : List ℕ) (answer : JobOutcome ℕ) (work : List ℤ) (claim : Requirement3 areas job answer work)
@@ -77,6 +84,10 @@ module _ (areas : List (Bool × ℕ)) (job : List ℕ) (answer : JobOutcome ℕ)
         → ((i : ℕ) → i < count → (m : Maker) → commandFor (commandsOf claim e) i ≡ result m → Formed x box i m)
         → (i : ℕ) → i < count → OnInterval (storedResult work i .interval) x
         → (v : ℚ) × Lies v (box i) × Allows (storedResult work i) x v
+    -- and exact values are such a choice
+    pub exact-chosen : (x : ℚ) (v : ℕ → ℚ) (i : ℕ) → Exact (commandsOf claim e) x v i → Chosen (commandsOf claim e) x v v i
+    pub exact-follows : (x : ℚ) (v : ℕ → ℚ) (i : ℕ) → Exact (commandsOf claim e) x v i → (r : ℕ) (m : Maker)
+        → FormedFrom (commandsOf claim e) i r → commandFor (commandsOf claim e) r ≡ result m → v r ≡ valueBy v v r m
     pub exact-divisor : (x : ℚ) (v : ℕ → ℚ) (i j k : ℕ) (h w : Candidate) → i < count → k < count
         → OnInterval (storedResult work i .interval) x → commandFor (commandsOf claim e) i ≡ result (quotient j k h w)
         → Exact (commandsOf claim e) x v k → ¬ (v k ≡ whole (pos 0))

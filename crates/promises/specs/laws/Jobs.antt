@@ -7,7 +7,9 @@ use lib.IntN.{ℤ}
 use Rattle.job.specs.definitions.Outcomes.{JobOutcome, accepted}
 use Rattle.job.specs.definitions.Requirement.{Requirement3}
 use Rattle.job.specs.laws.CheckLaws as checks
+use Rattle.job.specs.laws.EveryJob as every
 use Rattle.job.specs.laws.ExactAllowed as exact
+use Rattle.job.specs.laws.ExactChosen as chosen
 use Rattle.job.specs.laws.ExactExists as values
 use Rattle.job.specs.laws.FormedBoxes as boxes
 use Rattle.job.specs.laws.GoodResults as results
@@ -26,6 +28,9 @@ module _ (areas : List (Bool × ℕ)) (job : List ℕ) (answer : JobOutcome ℕ)
         let o = claim .results count e .vouched i h x on .overlaps box p in (o .v, o .lies .above, o .lies .below, o .allowed);
     divisor = λ count e i h x on. claim .results count e .vouched i h x on .divisor;
     radicand = λ count e i h x on. claim .results count e .vouched i h x on .radicand;
+    ends-accepted = λ fit rs ends. every.ends-accepted claim fit ends;
+    ends-models = λ fit rs ends. every.ends-models claim fit ends;
+    none-accepted = every.none-accepted claim;
   }
 
   gives : (count : ℕ) (e : answer ≡ accepted count) → Requirement3Gives areas job answer work claim count e
@@ -33,6 +38,8 @@ module _ (areas : List (Bool × ℕ)) (job : List ℕ) (answer : JobOutcome ℕ)
     exact-allowed = λ x v i h on p. exact.exact-allowed claim e x h on p;
     exact-values = λ x choice. values.exact-values claim e x choice;
     formed-overlaps = λ x box formed i h on. let o = boxes.formed-overlaps claim e x box formed i h on in (o .v, o .lies, o .allowed);
+    exact-chosen = λ x v i p. chosen.exact-chosen p;
+    exact-follows = λ x v i p. chosen.exact-follows p;
     exact-divisor = λ x v i j k h w hi hk on f p. exact.exact-divisor claim e x hi hk on f p;
     accepted-meets-none = meets.accepted-meets-none claim count e;
     results-good = results.results-good (claim .results count e);

@@ -13,6 +13,7 @@ use Rattle.certificate.specs.definitions.Tests.{Certificate, zeroCertificate}
 use Rattle.certificate.specs.definitions.Quotient.{quotientTest, quotientNeeding}
 use Rattle.certificate.specs.definitions.Root.{rootTest, rootNeeding}
 use Rattle.certificate.specs.laws.GroupTheorem as groups
+use Rattle.certificate.specs.laws.PromiseLaws as promised
 use Rattle.certificate.specs.laws.QuotientIntegral as integrals
 use Rattle.certificate.specs.laws.QuotientSound as quotients
 use Rattle.certificate.specs.laws.QuotientTheorem as quotient
@@ -107,7 +108,7 @@ tests-sound = record {
   quotient-sound = λ len f g h w c e x u v on. quotients.quotient-sound len f g h w e x on u v;
   quotient-nonzero = λ len f g h w c e x v on. quotients.quotient-nonzero len f g h w e x on v;
   root-positive = λ rule len f h w c e x v on a. roots.root-sound rule len f h w e x v on a .positive;
-  root-sound = ?;
+  root-sound = λ rule len f h w c e x v y on a nonneg square. promised.root-allowed rule len f h w e .root x v y on a nonneg square;
   root-overlap = λ rule len f h w c e x v on a. roots.root-overlap rule len f h w e x v on a;
   quotient-interval = λ len f g h w c e. quotients.quotient-interval len f g h w e;
   root-interval = λ rule len f h w c e. roots.root-interval rule len f h w e;
