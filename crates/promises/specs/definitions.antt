@@ -7,5 +7,7 @@ pub mod Selections
 pub mod Proposals
 pub mod Jobs
 pub mod Benchmarks
+pub mod Calls
+pub mod Former
 pub mod Contracts
 pub mod Promises

@@ -10,6 +10,8 @@ use Rattle.promises.specs.definitions.Proposals.{MadeProposals}
 use Rattle.promises.specs.definitions.Jobs.{JobPromises}
 use Rattle.promises.specs.definitions.Contracts.{ContractClaims}
 use Rattle.promises.specs.definitions.Benchmarks.{Benchmarks}
+use Rattle.promises.specs.definitions.Calls.{Calls}
+use Rattle.promises.specs.definitions.Former.{FormerNumbers}
 
 pub record Promises : Type 0 where
   -- requirement 2
@@ -24,6 +26,7 @@ pub record Promises : Type 0 where
   pub benchmarks : Benchmarks
   -- what the contracts say of accepted answers
   pub contracts : ContractClaims
+  pub calls : Calls
   -- 02: S-3, S-5, S-8, S-11, S-14, S-17, S-19, S-22, S-24
   pub series : SeriesPromises
   pub products : Products
@@ -35,3 +38,4 @@ pub record Promises : Type 0 where
   pub made-proposals : MadeProposals
   pub tighter-roots : TighterRoots
   pub positions : Positions
+  pub former-numbers : FormerNumbers

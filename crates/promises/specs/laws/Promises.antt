@@ -10,6 +10,8 @@ use Rattle.promises.specs.laws.Proposals.{proposals-kept}
 use Rattle.promises.specs.laws.Jobs.{jobs-kept}
 use Rattle.promises.specs.laws.Contracts.{contracts-say}
 use Rattle.promises.specs.laws.Benchmarks.{benchmarks-hold}
+use Rattle.promises.specs.laws.Calls.{calls-kept}
+use Rattle.promises.specs.laws.Former.{former-numbers}
 
 pub promises-kept : Promises
 promises-kept = record {
@@ -21,6 +23,7 @@ promises-kept = record {
   tests-sound = tests.tests-sound;
   benchmarks = benchmarks-hold;
   contracts = contracts-say;
+  calls = calls-kept;
   series = series-kept;
   products = operations.products-kept;
   old-sense = operations.old-sense;
@@ -31,4 +34,5 @@ promises-kept = record {
   made-proposals = proposals-kept;
   tighter-roots = tests.tighter-roots;
   positions = operations.positions-kept;
+  former-numbers = former-numbers;
 }
