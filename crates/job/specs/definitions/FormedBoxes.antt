@@ -1,4 +1,5 @@
--- 01, "What boxes a value", by the commands and of any boxes: the rules that `Permitted` (Requirement.antt) has by its constructors.
+-- 01, "What boxes a value", by the commands and of any boxes: the rules that `Permitted` (Requirement.antt) has by its
+-- constructors.
 use mathlib.Core.Path.{_≡_}
 use mathlib.Core.Logic.{_⊎_}
 use Prim.Native.Nat.{ℕ}

@@ -52,8 +52,10 @@ pub record Benchmarks : Type 0 where
   pub P8 : rootTest ByDiscriminant 16 (constantModel (pos 2097152)) (constant 2097152) (constant 262144)
       ≡ accepted (makeCertificate (modelOf 0 (pos 2097152 ∷ []) 1048576) 0 2097152 524288)
   -- "P9 With f one less: 8."
-  pub P9 : rootTest ByDiscriminant 16 (constantModel (pos 2097151)) (constant 2097152) (constant 262144) ≡ refused 8 zeroCertificate
+  pub P9 : rootTest ByDiscriminant 16 (constantModel (pos 2097151)) (constant 2097152) (constant 262144)
+      ≡ refused 8 zeroCertificate
   -- "P10 f = S, h = 2S, w = S/4: 8."
-  pub P10 : rootTest ByDiscriminant 16 (constantModel (pos 1048576)) (constant 2097152) (constant 262144) ≡ refused 8 zeroCertificate
+  pub P10 : rootTest ByDiscriminant 16 (constantModel (pos 1048576)) (constant 2097152) (constant 262144)
+      ≡ refused 8 zeroCertificate
   -- "P11 Empty job: 10 at command 0."
   pub P11 : jobOutcome [] ≡ jobRefused 10 0

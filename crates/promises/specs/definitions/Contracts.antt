@@ -1,5 +1,5 @@
--- What the contracts of the tests, of two proposals, of the converter and of the makers promise of an accepted answer, by records and
--- definitions of these crates: each said in so many words. Requirement 3 in the contract of a check: Jobs.antt.
+-- What the contracts of the tests, of two proposals, of the converter and of the makers promise of an accepted answer, by
+-- records and definitions of these crates: each said in so many words. Requirement 3 in the contract of a check: Jobs.antt.
 use mathlib.Core.Path.{_≡_}
 use mathlib.Core.Bool.{true}
 use mathlib.Core.List.{List, _∷_, map}
@@ -32,8 +32,8 @@ use Rattle.proposals.specs.definitions.ExactCase.{ExactReciprocal, ExactQuotien
 use Rattle.proposals.specs.declared.types.Ending.the-variants.{Settled}
 
 pub record ContractClaims : Type 0 where
-  -- 02, S-14: "at every fraction …" of the own interval "no value that g allows is zero, and each allowed value of f over one of g is
-  -- allowed by it with its radius"
+  -- 02, S-14: "at every fraction …" of the own interval "no value that g allows is zero, and each allowed value of f over one of
+  -- g is allowed by it with its radius"
   pub quotient-allowed : (f g q : Model) → QuotientAllowed f g q → (x u v : ℚ) → OnInterval (f .interval) x
       → Allows f x u → Allows g x v → (¬ (v ≡ whole (pos 0))) × Allows q x (u /ℚ v)
   -- "no value that the model under the root allows there is negative"
@@ -54,7 +54,8 @@ pub record ContractClaims : Type 0 where
   -- 02, S-3: "Each converted model allows the series' exact value at every fraction from −1 to 1."
   pub series-allowed : (s : Series) (m : Model) → SeriesAllowed s m
       → (m .interval ≡ standardInterval)
-      × ((x : ℚ) → (-ℚ whole (pos 1)) ≤ℚ x → x ≤ℚ whole (pos 1) → Allows m x (seriesValue (s .coefficients) x /ℚ whole (pos scale)))
+      × ((x : ℚ) → (-ℚ whole (pos 1)) ≤ℚ x → x ≤ℚ whole (pos 1)
+      → Allows m x (seriesValue (s .coefficients) x /ℚ whole (pos scale)))
   -- 02, S-14: "returns the tighter proposal's coefficients": of the radii, or refusals, of the two
   pub tightest : (a b : Outcome ℕ) (c : Selected) → Tightest a b c
       → (((c .chosen ≡ 1) × (a ≡ accepted (c .radius))) ⊎ ((c .chosen ≡ 2) × (b ≡ accepted (c .radius))))
@@ -65,7 +66,8 @@ pub record ContractClaims : Type 0 where
       → (ptr part ≡ (ptr first .0, 4 + ptr first .1)) × (now part ≡ take 33 (drop 1 (now first)))
   pub part-of-second : (first second part : RefT (List ℤ)) → IsPart 2 first second part
       → (ptr part ≡ (ptr second .0, 4 + ptr second .1)) × (now part ≡ take 33 (drop 1 (now second)))
-  -- 02, S-19: "A constant model whose coefficient is a power of two from 2^12 to 2^28 gets its reciprocal with no rounding at all."
+  -- 02, S-19: "A constant model whose coefficient is a power of two from 2^12 to 2^28 gets its reciprocal with no rounding at
+  -- all."
   pub exact-reciprocal : (g : Model) (o : Outcome Reciprocal) → ExactReciprocal g o → (j : ℕ) → good g ≡ true
       → g .coefficients ≡ pos (2 ^ j) ∷ replicate 32 (pos 0) → 12 ≤ j → j ≤ 28
       → o ≡ accepted (makeReciprocal (Settled nought)

@@ -1,5 +1,5 @@
--- 02, S-24: on −S..S every number is what it was before. The former definitions stand in laws, written out: to use the library nobody
--- has to believe them.
+-- 02, S-24: on −S..S every number is what it was before. The former definitions stand in laws, written out: to use the library
+-- nobody has to believe them.
 use mathlib.Core.Path.{_≡_}
 use mathlib.Core.List.{List, _++_}
 use Prim.Native.Nat.{ℕ, _*_, _≤_, _<_}
@@ -42,7 +42,8 @@ pub record FormerNumbers : Type 0 where
       → (d : ℕ) → multiplication d a b ≡ formerMultiplication d a b
   pub integration-former : (a : Model) → a .interval ≡ standardInterval → integration a ≡ formerIntegration a
   pub evaluation-former : (a : Model) (p : ℤ) → a .interval ≡ standardInterval → evaluation a p ≡ formerEvaluation a p
-  pub quotient-former : (need len : ℕ) (f g : Model) (h w : Candidate) → f .interval ≡ standardInterval → g .interval ≡ standardInterval
+  pub quotient-former : (need len : ℕ) (f g : Model) (h w : Candidate) → f .interval ≡ standardInterval → g .interval
+      ≡ standardInterval
       → quotientNeeding need len f g h w ≡ formerQuotient need len f g h w
   pub root-former : (rule : RootRule) (need len : ℕ) (f : Model) (h w : Candidate) → f .interval ≡ standardInterval
       → rootNeeding rule need len f h w ≡ formerRoot rule need len f h w

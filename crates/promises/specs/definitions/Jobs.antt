@@ -43,8 +43,9 @@ pub record Requirement3Says (areas : List (Bool × ℕ)) (job : List ℕ) (answe
   -- "and if it is accepted, its results are exactly those that document 01 gives for its commands."
   pub read : (count : ℕ) (e : answer ≡ accepted count) → jobReading job ≡ well (commandsOf claim e)
   pub made : (count : ℕ) (e : answer ≡ accepted count) → Made (commandsOf claim e) (modelsIn work count)
-  -- "Of each result the following then holds at every fraction" of its own interval (S-24). "Whichever boxes document 01 permits there
-  -- for it and all it is formed from, … its box overlaps its model plus or minus its radius, both as left in the work area."
+  -- "Of each result the following then holds at every fraction" of its own interval (S-24). "Whichever boxes document 01 permits
+  -- there for it and all it is formed from, … its box overlaps its model plus or minus its radius, both as left in the work
+  -- area."
   pub overlaps : (count : ℕ) (e : answer ≡ accepted count) (i : ℕ) → i < count
       → (x : ℚ) → OnInterval (storedResult work i .interval) x
       → (box : ℕ → Box) → Permitted (commandsOf claim e) x box i
@@ -59,9 +60,8 @@ pub record Requirement3Says (areas : List (Bool × ℕ)) (job : List ℕ) (answe
       → (x : ℚ) → OnInterval (storedResult work i .interval) x
       → (j : ℕ) (rule : RootRule) (h w : Candidate) → commandFor (commandsOf claim e) i ≡ result (root rule j h w)
       → (v : ℚ) → Allows (storedResult work j) x v → ¬ (v <ℚ whole (pos 0))
-
-  -- with the order of refusals, for every list of bytes:
-  -- a job that ends with the results rs is accepted with their count, and they are the models in the work area
+  -- with the order of refusals, for every list of bytes: a job that ends with the results rs is accepted with their count, and
+  -- they are the models in the work area
   pub ends-accepted : Passed areas → (rs : List Model) → EndsWith job rs → answer ≡ accepted (length rs)
   pub ends-models : Passed areas → (rs : List Model) → EndsWith job rs → modelsIn work (length rs) ≡ rs
   -- and one that meets no refusal is such a job
@@ -69,13 +69,15 @@ pub record Requirement3Says (areas : List (Bool × ℕ)) (job : List ℕ) (answe
 
 -- ---- what follows from it, for every job and every answer of which the claim holds
 
-module _ (areas : List (Bool × ℕ)) (job : List ℕ) (answer : JobOutcome ℕ) (work : List ℤ) (claim : Requirement3 areas job answer work)
+module _ (areas : List (Bool
+    × ℕ)) (job : List ℕ) (answer : JobOutcome ℕ) (work : List ℤ) (claim : Requirement3 areas job answer work)
     (count : ℕ) (e : answer ≡ accepted count) where
   pub record Requirement3Gives : Type 0 where
     -- an exact value of a result, formed without boxes and without models but those of the loads, is allowed by its model
     pub exact-allowed : (x : ℚ) (v : ℕ → ℚ) (i : ℕ) → i < count → OnInterval (storedResult work i .interval) x
         → Exact (commandsOf claim e) x v i → Allows (storedResult work i) x (v i)
-    -- for every choice of values that the loads allow, and of fractions whose squares stand under the roots, there are such values
+    -- for every choice of values that the loads allow, and of fractions whose squares stand under the roots, there are such
+    -- values
     pub exact-values : (x : ℚ) (choice : ℕ → ℚ) → (v : ℕ → ℚ) × Follows (commandsOf claim e) choice count v
         × ((i : ℕ) → i < count → OnInterval (storedResult work i .interval) x → Chosen (commandsOf claim e) x choice v i
         → Exact (commandsOf claim e) x v i × Allows (storedResult work i) x (v i))
@@ -126,4 +128,5 @@ pub record JobPromises : Type 0 where
   -- 02, S-22, in a job
   pub tight-operation : (i : ℕ) (h w : Candidate) (rs : List Model) (c : Certificate)
       → operation (root ByLeastRadius i h w) rs ≡ Outcome.accepted c
-      → (d : Certificate) × (operation (root ByDiscriminant i h w) rs ≡ Outcome.accepted d) × (c .model .radius ≤ d .model .radius)
+      → (d : Certificate) × (operation (root ByDiscriminant i h w) rs ≡ Outcome.accepted d)
+      × (c .model .radius ≤ d .model .radius)

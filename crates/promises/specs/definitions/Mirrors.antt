@@ -1,4 +1,5 @@
--- 02, S-11: "A mirrored crown must give mirrored models". Equations of whole outcomes, refusals included; with S-24 on any interval.
+-- 02, S-11: "A mirrored crown must give mirrored models". Equations of whole outcomes, refusals included; with S-24 on any
+-- interval.
 use mathlib.Core.Path.{_≡_}
 use mathlib.Core.Bool.{Bool}
 use mathlib.Core.List.{List, map}

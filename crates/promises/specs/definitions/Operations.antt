@@ -1,17 +1,18 @@
--- 01, "Plain operations", with 02, S-5, S-8 and S-24: what the answers of add, subtract, multiply, integrate and evaluate mean. What
--- they are stands in the contracts of the entries, as equations.
+-- 01, "Plain operations", with 02, S-5, S-8 and S-24: what the answers of add, subtract, multiply, integrate and evaluate mean.
+-- What they are stands in the contracts of the entries, as equations.
 use mathlib.Core.Path.{_≡_}
 use mathlib.Core.Bool.{true}
 use mathlib.Core.List.{List, map}
 use mathlib.Core.Logic.{_↔_}
 use Prim.Native.Nat.{ℕ, _+_, _*_, _≤_, _<_}
-use lib.IntN.{ℤ, pos}
+use lib.IntN.{ℤ, pos, _+ℤ_, _-ℤ_, _*ℤ_}
 use lib.ListN.{length, getD}
 use Rattle.integer.specs.definitions.Fraction.{ℚ, whole, _+ℚ_, _-ℚ_, -ℚ_, _*ℚ_, _/ℚ_, _≤ℚ_, ∣_∣ℚ}
 use Rattle.integer.specs.definitions.FractionRing.{ℚ-ring}
 use Rattle.integer.specs.definitions.Integer.{ℤ-ring}
 use Rattle.chebyshev.specs.definitions.Coefficients.{value, subtractLists, lipschitzWeight}
 use Rattle.chebyshev.specs.definitions.Derivative.{derivativeValue, sumFrom, remainder}
+use Rattle.chebyshev.specs.definitions.Homogeneous.{IsFraction, allowsWhole}
 use Rattle.chebyshev.specs.definitions.Norms.{totalAbsolute}
 use Rattle.chebyshev.specs.definitions.Primitive.{primitive}
 use Rattle.chebyshev.specs.definitions.Product.{productWalk}
@@ -72,8 +73,8 @@ pub record Products : Type 0 where
 -- ---- integrals
 
 -- 01: "It bounds the exact primitive of every list of fractions whose coefficients differ from the model's by at most e units in
--- total absolute difference, again summed over coefficients." 02, S-8: "The old sense holds as well"; S-24: "Integration starts at
--- l/S, multiplies each numerator by (u−l)/(2S) before rounding".
+-- total absolute difference, again summed over coefficients." 02, S-8: "The old sense holds as well"; S-24: "Integration starts
+-- at l/S, multiplies each numerator by (u−l)/(2S) before rounding".
 pub record OldSense : Type 0 where
   pub integration-lists : (a c : Model) → integration a ≡ accepted c → (α : List ℚ)
       → totalAbsolute (subtractLists ℚ-ring α (map whole (a .coefficients))) ≤ℚ whole (pos (a .radius))
@@ -101,8 +102,8 @@ pub record OldSense : Type 0 where
   pub primitive-minus-one : (α : List ℚ) → value ℚ-ring (-ℚ whole (pos 1)) (primitive α) ≡ whole (pos 0)
 
 -- 02, S-8: "choose an allowed value at every fraction, cut …" with S-24 l/S "to x into k equal strips, add left-end value times
--- width. For every k ≥ 1 the sum differs from the integral's polynomial at x by at most the radius plus …" with S-24 "L·(u−l)/(S·k)"
--- "units, where L = Σ|a_k|·k² of the integrand."
+-- width. For every k ≥ 1 the sum differs from the integral's polynomial at x by at most the radius plus …" with S-24
+-- "L·(u−l)/(S·k)" "units, where L = Σ|a_k|·k² of the integrand."
 pub record SenseByStrips : Type 0 where
   pub integration-strips : (a c : Model) → integration a ≡ accepted c → (choice : ℚ → ℚ)
       → ((y : ℚ) → OnInterval (a .interval) y → Allows a y (choice y))
@@ -121,3 +122,12 @@ pub record Positions : Type 0 where
   -- on −S..S it is x, and the fractions are those from −1 to 1
   pub position-standard : (x : ℚ) → position standardInterval x ≡ x
   pub standard-on : (x : ℚ) → OnInterval standardInterval x ↔ (((-ℚ whole (pos 1)) ≤ℚ x) × (x ≤ℚ whole (pos 1)))
+  -- 01: "At x = p/q with q ≥ 1 and |p| ≤ q everything is cross-multiplied into whole numbers." On any interval, at x = p/q and v
+  -- = w/d
+  pub allows-cross : (m : Model) (x v : ℚ) (p w : ℤ) (q d : ℕ) → good m ≡ true → IsFraction x p q → IsFraction v w d
+      → Allows m x v
+      ↔ allowsWhole scale (m .coefficients) (m .radius) (m .degree)
+      (pos 2 *ℤ pos scale *ℤ p -ℤ (m .interval .lower +ℤ m .interval .upper) *ℤ pos q) (extent (m .interval) * q) w d
+  -- the strips' term on −S..S: 2·L/k
+  pub term-standard : (l k : ℕ) → 0 < k
+      → whole (pos (l * (2 * scale))) /ℚ whole (pos (scale * k)) ≡ whole (pos (2 * l)) /ℚ whole (pos k)

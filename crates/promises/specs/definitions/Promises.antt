@@ -1,7 +1,9 @@
--- All that is promised: the sentences of the owner's requirements, of 01 and of 02 that say more than an equation in a contract. The
--- contracts themselves: docs/CONTRACTS.txt. Each later request adds its fields here.
+-- All that is promised: the sentences of the owner's requirements, of 01 and of 02 that say more than an equation in a contract.
+-- The contracts themselves: docs/CONTRACTS.txt. Each later request adds its fields here.
+use Rattle.promises.specs.definitions.Answers.{Answers}
 use Rattle.promises.specs.definitions.Rounding.{RoundingPromises}
-use Rattle.promises.specs.definitions.Operations.{SoundOperations, GoodOperations, Products, OldSense, SenseByStrips, Positions}
+use Rattle.promises.specs.definitions.Operations.{SoundOperations, GoodOperations, Products}
+use Rattle.promises.specs.definitions.Operations.{OldSense, SenseByStrips, Positions}
 use Rattle.promises.specs.definitions.Tests.{Requirement2, TighterRoots, SoundTests, GroupLengths}
 use Rattle.promises.specs.definitions.Mirrors.{Mirrors}
 use Rattle.promises.specs.definitions.Series.{SeriesPromises}
@@ -14,6 +16,8 @@ use Rattle.promises.specs.definitions.Calls.{Calls}
 use Rattle.promises.specs.definitions.Former.{FormerNumbers}
 
 pub record Promises : Type 0 where
+  -- requirement 1, what the contracts do not say
+  pub answers : Answers
   -- requirement 2
   pub requirement-2 : Requirement2
   -- requirement 3, and what else is said of jobs

@@ -1,5 +1,6 @@
--- Requirement 2 and 01, "The two tests", with 02, S-17, S-22 and S-24: when candidates are accepted, with what, and what an accepted
--- result means. The list C( , ) is formed by its two sums (`quotient-m` and the others); h and w stand on their operand's interval.
+-- Requirement 2 and 01, "The two tests", with 02, S-17, S-22 and S-24: when candidates are accepted, with what, and what an
+-- accepted result means. The list C( , ) is formed by its two sums (`quotient-m` and the others); h and w stand on their
+-- operand's interval.
 use mathlib.Core.Path.{_≡_}
 use mathlib.Core.Bool.{true}
 use mathlib.Core.Logic.{_↔_, _⊎_}
@@ -85,8 +86,8 @@ rootResult f h w e =
     (root-N f (placed f h))
     (root-b f (placed f h) (placed f w))
 
--- "a quotient or root candidate is accepted, with exactly the stated radius, if its published test holds in those whole numbers and
--- that radius is within 2^28; otherwise it is refused."
+-- "a quotient or root candidate is accepted, with exactly the stated radius, if its published test holds in those whole numbers
+-- and that radius is within 2^28; otherwise it is refused."
 pub record Requirement2 : Type 0 where
   pub quotient-accepted : (len : ℕ) (f g : Model) (h w : Candidate) → GoodQuotient len f g h w → (c : Certificate)
       → (quotientTest len f g h w ≡ accepted c)
@@ -124,7 +125,8 @@ pub record TighterRoots : Type 0 where
       → (c .model .degree ≡ d .model .degree) × (c .model .coefficients ≡ d .model .coefficients)
       × (c .model .interval ≡ d .model .interval) × (c .m ≡ d .m) × (c .N ≡ d .N) × (c .b ≡ d .b)
   -- where 0x22 accepts, 0x21 does
-  pub tight-implies-root : (len : ℕ) (f : Model) (h w : Candidate) (c : Certificate) → rootTest ByLeastRadius len f h w ≡ accepted c
+  pub tight-implies-root : (len : ℕ) (f : Model) (h w : Candidate) (c : Certificate) → rootTest ByLeastRadius len f h w
+      ≡ accepted c
       → (d : Certificate) × (rootTest ByDiscriminant len f h w ≡ accepted d)
   -- 3 is met by neither
   pub root-never-large : (rule : RootRule) (len : ℕ) (f : Model) (h w : Candidate) → ¬ (number (rootTest rule len f h w) ≡ 3)
@@ -138,13 +140,16 @@ pub record SoundTests : Type 0 where
   pub quotient-nonzero : (len : ℕ) (f g : Model) (h w : Candidate) (c : Certificate) → quotientTest len f g h w ≡ accepted c
       → (x v : ℚ) → OnInterval (f .interval) x → Allows g x v → ¬ (v ≡ whole (pos 0))
   -- "no value that the model under the root allows there is negative", nor zero
-  pub root-positive : (rule : RootRule) (len : ℕ) (f : Model) (h w : Candidate) (c : Certificate) → rootTest rule len f h w ≡ accepted c
+  pub root-positive : (rule : RootRule) (len : ℕ) (f : Model) (h w : Candidate) (c : Certificate) → rootTest rule len f h w
+      ≡ accepted c
       → (x v : ℚ) → OnInterval (f .interval) x → Allows f x v → whole (pos 0) <ℚ v
   -- the root of an allowed value is allowed
-  pub root-sound : (rule : RootRule) (len : ℕ) (f : Model) (h w : Candidate) (c : Certificate) → rootTest rule len f h w ≡ accepted c
+  pub root-sound : (rule : RootRule) (len : ℕ) (f : Model) (h w : Candidate) (c : Certificate) → rootTest rule len f h w
+      ≡ accepted c
       → (x v y : ℚ) → OnInterval (f .interval) x → Allows f x v → whole (pos 0) ≤ℚ y → y *ℚ y ≡ v → Allows (c .model) x y
   -- and whether it is a fraction or not, every box of 01's rule around it holds a value that is allowed
-  pub root-overlap : (rule : RootRule) (len : ℕ) (f : Model) (h w : Candidate) (c : Certificate) → rootTest rule len f h w ≡ accepted c
+  pub root-overlap : (rule : RootRule) (len : ℕ) (f : Model) (h w : Candidate) (c : Certificate) → rootTest rule len f h w
+      ≡ accepted c
       → (x v : ℚ) → OnInterval (f .interval) x → Allows f x v
       → (low high l u : ℚ) → (low ≡ whole (pos 0)) ⊎ ((whole (pos 0) <ℚ low) × (low *ℚ low ≤ℚ l))
       → whole (pos 0) ≤ℚ high → u ≤ℚ high *ℚ high → low ≤ℚ high → l ≤ℚ v → v ≤ℚ u
@@ -154,21 +159,22 @@ pub record SoundTests : Type 0 where
       → (c .model .interval ≡ f .interval) × (c .model .interval ≡ g .interval)
   pub root-interval : (rule : RootRule) (len : ℕ) (f : Model) (h w : Candidate) (c : Certificate)
       → rootTest rule len f h w ≡ accepted c → c .model .interval ≡ f .interval
-  -- 02, S-8: "A customer integrates a feed which is itself a certified quotient": the quotient of any values that f and g allow is
-  -- what is summed over strips
+  -- 02, S-8: "A customer integrates a feed which is itself a certified quotient": the quotient of any values that f and g allow
+  -- is what is summed over strips
   pub quotient-integrated : (len : ℕ) (f g : Model) (h w : Candidate) (q : Certificate) → quotientTest len f g h w ≡ accepted q
       → (c : Model) → integration (q .model) ≡ accepted c → (u v : ℚ → ℚ) → Chooses f u → Chooses g v
       → (x : ℚ) → OnInterval (f .interval) x → (k : ℕ) → 0 < k → StripsWithin (q .model) c (λ y. u y /ℚ v y) x k
   -- an accepted result is a good model
   pub quotient-good : (len : ℕ) (f g : Model) (h w : Candidate) (c : Certificate) → quotientTest len f g h w ≡ accepted c
       → good (c .model) ≡ true
-  pub root-good : (rule : RootRule) (len : ℕ) (f : Model) (h w : Candidate) (c : Certificate) → rootTest rule len f h w ≡ accepted c
+  pub root-good : (rule : RootRule) (len : ℕ) (f : Model) (h w : Candidate) (c : Certificate) → rootTest rule len f h w
+      ≡ accepted c
       → good (c .model) ≡ true
 
 -- ---- 02, S-17
 
--- "With 16 or more, answers agree with those that 65 gave on the same other input, which is to be shown for any group length of one
--- or more. Number 1 is now given below 16": whole outcomes, refusals included
+-- "With 16 or more, answers agree with those that 65 gave on the same other input, which is to be shown for any group length of
+-- one or more. Number 1 is now given below 16": whole outcomes, refusals included
 pub record GroupLengths : Type 0 where
   pub quotient-groups-as-65 : (size len former : ℕ) → 0 < size → 16 ≤ len → 65 ≤ former → (f g : Model) (h w : Candidate)
       → quotientInGroups size 16 len f g h w ≡ quotientNeeding 65 former f g h w
@@ -176,7 +182,8 @@ pub record GroupLengths : Type 0 where
       → quotientTest len f g h w ≡ quotientNeeding 65 former f g h w
   pub quotient-below-16 : (len : ℕ) → len < 16 → (f g : Model) (h w : Candidate)
       → quotientTest len f g h w ≡ refused 1 zeroCertificate
-  pub root-groups-as-65 : (rule : RootRule) (size len former : ℕ) → 0 < size → 16 ≤ len → 65 ≤ former → (f : Model) (h w : Candidate)
+  pub root-groups-as-65 : (rule : RootRule) (size len former : ℕ) → 0 < size → 16 ≤ len → 65 ≤ former
+      → (f : Model) (h w : Candidate)
       → rootInGroups rule size 16 len f h w ≡ rootNeeding rule 65 former f h w
   pub root-as-65 : (rule : RootRule) (len former : ℕ) → 16 ≤ len → 65 ≤ former → (f : Model) (h w : Candidate)
       → rootTest rule len f h w ≡ rootNeeding rule 65 former f h w

@@ -7,6 +7,7 @@ use Rattle.chebyshev.specs.laws.ProductSums as sums
 use Rattle.model.specs.definitions.Models.{productSize, terms}
 use Rattle.model.specs.definitions.Multiply.{productList}
 use Rattle.model.specs.definitions.Strips.{stripSum}
+use Rattle.model.specs.laws.CrossMultiplied as crossed
 use Rattle.model.specs.laws.EvaluationSound as evaluations
 use Rattle.model.specs.laws.ExactIntegral as exact
 use Rattle.model.specs.laws.GoodLaws as models
@@ -69,4 +70,6 @@ positions-kept = record {
   position-within = λ i g x on. intervals.within (intervals.ends-are i g) x on;
   position-standard = standard.position-standard;
   standard-on = λ x. (λ on. standard.standard-on on, λ h. standard.on-standard (h .0) (h .1));
+  allows-cross = λ m x v p w q d g fx fv. crossed.allows-cross m g fx fv;
+  term-standard = standard.term-standard;
 }

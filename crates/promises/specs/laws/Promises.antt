@@ -1,5 +1,6 @@
 -- All that is promised is kept: no hypothesis stands here.
 use Rattle.promises.specs.definitions.Promises.{Promises}
+use Rattle.promises.specs.laws.Answers.{answers-kept}
 use Rattle.promises.specs.laws.Rounding.{rounding-kept}
 use Rattle.promises.specs.laws.Operations as operations
 use Rattle.promises.specs.laws.Tests as tests
@@ -15,6 +16,7 @@ use Rattle.promises.specs.laws.Former.{former-numbers}
 
 pub promises-kept : Promises
 promises-kept = record {
+  answers = answers-kept;
   requirement-2 = tests.requirement-2;
   jobs = jobs-kept;
   rounding = rounding-kept;

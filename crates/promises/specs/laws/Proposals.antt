@@ -42,9 +42,11 @@ twelve = record {
   given-up-tells = λ g d e h f.
       let r = ends g e in
       let (same, last) = r .given-up d h in
-      let (all, left) = last f in
-      (same, r .reached ∙ ap (λ (k : ℕ). iterated k g (startOf g)) all,
-      subst (λ (x : Float). le x settledLimit ≡ false) (sym same) (elim left [ inl z ↦ absurd (omega (arith, z)) | inr s ↦ s ]));
+      let (all, left) = last f in (
+        same,
+        r .reached ∙ ap (λ (k : ℕ). iterated k g (startOf g)) all,
+        subst (λ (x : Float). le x settledLimit ≡ false) (sym same) (elim left [ inl z ↦ absurd (omega (arith, z)) | inr s ↦ s ]),
+      );
   made-change = makers.made-change;
   last-finite = λ g e. ends g e .last (some g e);
   first-zero = λ g e. rw e refl;
@@ -55,10 +57,14 @@ twelve = record {
 making : FiniteMaking
 making = record {
   making-finite = λ g l f.
-      let e = finite.making-ends g f in
-      (e .count, finite.making-rounds g e, e .reached, λ i k.
-      let t = finite.making-finite g l f e i k in
-      (t .given, t .from, t .inner .products, t .inner .states, t .inner .result, t .less, t .outer .products, t .outer .states, t .made, t .compared, t .change));
+      let e = finite.making-ends g f in (
+        e .count,
+        finite.making-rounds g e,
+        e .reached,
+        λ i k.
+            let t = finite.making-finite g l f e i k in
+            (t .given, t .from, t .inner .products, t .inner .states, t .inner .result, t .less, t .outer .products, t .outer .states, t .made, t .compared, t .change),
+      );
   quotient-making-finite = λ f g l h. let t = finite.quotient-making-finite f g l h in (t .products, t .states);
   half-pair-finite = walks.half-pair-finite;
 }

@@ -61,16 +61,18 @@ root-either rule len f h w = either _ _
 
 pub requirement-2 : Requirement2
 requirement-2 = record {
-  quotient-accepted = λ len f g h w t c.
-      (λ e. let (holds, same) = quotient.quotient-accepted-only len f g h w (t .enough) (t .good-f) (t .good-g) (t .good-h) (t .good-w) (t .same) e in (holds, same),
-      λ p. quotient.quotient-accepted len f g h w (t .enough) (t .good-f) (t .good-g) (t .good-h) (t .good-w) (t .same) (p .0) ∙ ap accepted (sym (p .1)));
+  quotient-accepted = λ len f g h w t c. (
+    λ e. let (holds, same) = quotient.quotient-accepted-only len f g h w (t .enough) (t .good-f) (t .good-g) (t .good-h) (t .good-w) (t .same) e in (holds, same),
+    λ p. quotient.quotient-accepted len f g h w (t .enough) (t .good-f) (t .good-g) (t .good-h) (t .good-w) (t .same) (p .0) ∙ ap accepted (sym (p .1)),
+  );
   quotient-refused = λ len f g h w t.
       refused-otherwise (quotientTest len f g h w) (QuotientPasses f g h w) (quotient-either len f g h w)
       (λ c e. quotient.quotient-accepted-only len f g h w (t .enough) (t .good-f) (t .good-g) (t .good-h) (t .good-w) (t .same) e .0)
       (λ p. (_, quotient.quotient-accepted len f g h w (t .enough) (t .good-f) (t .good-g) (t .good-h) (t .good-w) (t .same) p));
-  root-accepted = λ len f h w t c.
-      (λ e. let (holds, same) = root.root-accepted-only len f h w (t .enough) (t .good-f) (t .good-h) (t .good-w) e in (holds, same),
-      λ p. root.root-accepted len f h w (t .enough) (t .good-f) (t .good-h) (t .good-w) (p .0) ∙ ap accepted (sym (p .1)));
+  root-accepted = λ len f h w t c. (
+    λ e. let (holds, same) = root.root-accepted-only len f h w (t .enough) (t .good-f) (t .good-h) (t .good-w) e in (holds, same),
+    λ p. root.root-accepted len f h w (t .enough) (t .good-f) (t .good-h) (t .good-w) (p .0) ∙ ap accepted (sym (p .1)),
+  );
   root-refused = λ len f h w t.
       refused-otherwise (rootTest ByDiscriminant len f h w) (RootPasses f h w) (root-either ByDiscriminant len f h w)
       (λ c e. root.root-accepted-only len f h w (t .enough) (t .good-f) (t .good-h) (t .good-w) e .0)
@@ -82,14 +84,16 @@ requirement-2 = record {
 
 pub tighter-roots : TighterRoots
 tighter-roots = record {
-  tight-accepted = λ len f h w t c.
-      (λ e. let (holds, same) = tight.tight-accepted-only len f h w (t .enough) (t .good-f) (t .good-h) (t .good-w) e in
-      (holds .0, c .model .radius, holds .1 .within, holds .1 .satisfies, holds .1 .least, same),
-      λ p. tight.tight-accepted len f h w (t .enough) (t .good-f) (t .good-h) (t .good-w) (p .1)
-      (p .0, record { within = p .2; satisfies = p .3; least = p .4 }) ∙ ap accepted (sym (p .5)));
-  tight-refused = λ len f h w t n.
-      (λ e. tight.tight-refused len f h w (t .enough) (t .good-f) (t .good-h) (t .good-w) n .0 (17, e),
-      λ none. tight.tight-none len f h w (t .enough) (t .good-f) (t .good-h) (t .good-w) n none);
+  tight-accepted = λ len f h w t c. (
+    λ e. let (holds, same) = tight.tight-accepted-only len f h w (t .enough) (t .good-f) (t .good-h) (t .good-w) e in
+        (holds .0, c .model .radius, holds .1 .within, holds .1 .satisfies, holds .1 .least, same),
+    λ p. tight.tight-accepted len f h w (t .enough) (t .good-f) (t .good-h) (t .good-w) (p .1)
+        (p .0, record { within = p .2; satisfies = p .3; least = p .4 }) ∙ ap accepted (sym (p .5)),
+  );
+  tight-refused = λ len f h w t n. (
+    λ e. tight.tight-refused len f h w (t .enough) (t .good-f) (t .good-h) (t .good-w) n .0 (17, e),
+    λ none. tight.tight-none len f h w (t .enough) (t .good-f) (t .good-h) (t .good-w) n none,
+  );
   tight-refused-with-17 = λ len f h w t n k e.
       ap number (sym e ∙ tight.tight-none len f h w (t .enough) (t .good-f) (t .good-h) (t .good-w) n
       (tight.tight-refused len f h w (t .enough) (t .good-f) (t .good-h) (t .good-w) n .0 (k, e)));
