@@ -1,5 +1,5 @@
 -- The exact case in a quotient: its record keeps the exact w, and f·w is each value of f over 2^j, with no rounding either.
-use borrow.Author.Tests.{not-false}
+use borrow.Author.Tests.{not-false, le-ltb}
 use mathlib.Core.Path.{_≡_, refl, sym, _∙_, ap, subst}
 use mathlib.Core.Bool.{Bool, true, false, true≢false}
 use mathlib.Core.List.{List, [], _∷_, map}
@@ -9,16 +9,17 @@ use native.Mathlib.Omega.{arith}
 use lib.IntN.{ℤ, pos, negsuc, natAbs}
 use lib.ListN.{length, length-map}
 use lib.Pow.{pow-add, pow-pos, pow-mono, shl-lt}
-use lib.Ieee.{Float, binary64, round, add, mul}
+use lib.Ieee.{Float, nan, inf, fin, binary64, round, add, mul}
 use lib.Ieee.Exact.{HasValue, round-exact}
 use lib.Ieee.Scale.{round-same}
 use Rattle.chebyshev.specs.definitions.Coefficients.{weight}
+use Rattle.model.specs.definitions.Intervals.{sameInterval}
 use Rattle.model.specs.definitions.Models.{coefficientCount, good, maxWeight}
-use Rattle.model.specs.definitions.Outcomes.{Outcome, accepted}
+use Rattle.model.specs.definitions.Outcomes.{Outcome, accepted, passing}
 use Rattle.model.specs.laws.ModelLaws.{good-is}
 use Rattle.model.specs.laws.PlaceLaws.{outcome-accepted}
 use Rattle.model.specs.declared.types.Model.{Model}
-use Rattle.proposals.specs.definitions.Values.{nought, valueOf, negative}
+use Rattle.proposals.specs.definitions.Values.{nought, valueOf, negative, allFinite}
 use Rattle.proposals.specs.definitions.Product.{half, product}
 use Rattle.proposals.specs.definitions.Rounds.{madeOf}
 use Rattle.proposals.specs.definitions.Units.{unitsOf, candidateIn}
@@ -29,7 +30,7 @@ use Rattle.proposals.specs.laws.ValueExact.{value-exact}
 use Rattle.proposals.specs.laws.SignedOperations.{zeroOf, mul-signed, mul-zero-signed, add-same-signed, half-signed, nought-add-signed, add-zero-signed}
 use Rattle.proposals.specs.laws.ConstantProduct.{doubled}
 use Rattle.proposals.specs.laws.TimesConstant.{Row, Rows, times-constant}
-use Rattle.proposals.specs.laws.ExactCase.{exact-value, exact-rounds, exact-units, exact-proposal}
+use Rattle.proposals.specs.laws.ExactCase.{constant-weight, exact-value, exact-rounds, exact-units, exact-proposal}
 use Rattle.proposals.specs.declared.types.Ending.the-variants.{Settled}
 
 -- n / 2^j is exact, of 53 digits or fewer
@@ -113,14 +114,15 @@ module _ (j : ℕ) (l : j ≤ 28) where
 
 -- ---- the whole answer
 
+rounds-made : (g : Model) (j : ℕ) → ExactCase g j → reciprocalRounds (valuesOf g) ≡ madeOf true (Settled nought) (exactRound j)
+rounds-made g j e = ap (λ c. reciprocalRounds (map valueOf c)) (e .power .constant) ∙ exact-rounds j (e .to)
+
 pub exact-quotient : (f g : Model) → ExactQuotient f g (quotientProposal f g)
 unfolding quotientProposal
 exact-quotient f g j e a h =
-    let made : reciprocalRounds (valuesOf g) ≡ madeOf true (Settled nought) (exactRound j) =
-    ap (λ c. reciprocalRounds (map valueOf c)) (e .power .constant) ∙ exact-rounds j (e .to) in
     let q = product (valuesOf f) (constantList (exactValue j)) in
     let (passed, same) = outcome-accepted _ _ refusedQuotient h in
-    let is : a ≡ makeQuotient (Settled nought) (quotientRecord q (exactRound j)) (candidateIn (map unitsOf q)) (exactHelper j) = same ∙ rw (made, exact-units j (e .to)) in
+    let is : a ≡ makeQuotient (Settled nought) (quotientRecord q (exactRound j)) (candidateIn (map unitsOf q)) (exactHelper j) = same ∙ rw (rounds-made g j e, exact-units j (e .to)) in
     let b : weight (f .coefficients) ≤ maxWeight = good-is f (not-false (good f) (passed .0)) .weight-fits in
     subst (ExactQuotientOf f j) (sym is) (record {
       ending = refl;
@@ -130,6 +132,36 @@ exact-quotient f g j e a h =
       h = refl;
       w = refl;
     })
+
+over-finite : (j : ℕ) (zs : List ℤ) (q : List Float) → Over j zs q → allFinite q ≡ true
+unfolding allFinite
+over-finite j [] [] h = refl
+over-finite j [] (x ∷ q) h = absurd h
+over-finite j (z ∷ zs) [] h = absurd h
+over-finite j (z ∷ zs) (nan ∷ q) h = absurd (h .0)
+over-finite j (z ∷ zs) (inf t ∷ q) h = absurd (h .0)
+over-finite j (z ∷ zs) (fin t m e ∷ q) h = over-finite j zs q (h .1)
+
+-- it is accepted, where f is good, on g's interval, and h is not too heavy
+pub exact-quotient-accepted : (f g : Model) (j : ℕ) → ExactCase g j → good f ≡ true → sameInterval (f .interval) (g .interval) ≡ true
+    → length (f .coefficients) ≡ coefficientCount → let q = product (valuesOf f) (constantList (exactValue j)) in weight (map unitsOf q) ≤ maxWeight
+    → quotientProposal f g ≡ accepted (makeQuotient (Settled nought) (quotientRecord q (exactRound j)) (candidateIn (map unitsOf q)) (exactHelper j))
+unfolding quotientProposal passing
+exact-quotient-accepted f g j e bf same l h =
+    let q = product (valuesOf f) (constantList (exactValue j)) in
+    let finite : allFinite q ≡ true = over-finite j (f .coefficients) q (exact-product j (e .to) (f .coefficients) l (good-is f bf .weight-fits)) in
+    let i : 40 - j ≤ 28 = omega (arith, e .from) in
+    rw (
+      bf,
+      e .power .is-good,
+      same,
+      rounds-made g j e,
+      finite,
+      le-ltb maxWeight (weight (map unitsOf q)) h,
+      exact-units j (e .to),
+      constant-weight (2 ^ (40 - j)),
+      le-ltb maxWeight (2 ^ (40 - j)) (pow-mono i),
+    )
 
 -- ---- as the contracts have it
 
