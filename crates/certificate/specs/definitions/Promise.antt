@@ -1,4 +1,4 @@
--- What is promised of the result of a test that passes: of every value that its models allow, at every fraction of their interval.
+-- What is promised of the result of a test that passes, of every value that its models allow, at fractions of their interval.
 use mathlib.Core.Path.{_≡_}
 use mathlib.Core.Logic.{_⊎_}
 use mathlib.Core.List.{map}
@@ -35,7 +35,8 @@ pub record RootAllowed (f h : Model) : Type 0 where
   -- a fraction that is the root of an allowed value is allowed
   pub root : (x v y : ℚ) → OnInterval (f .interval) x → Allows f x v → whole (pos 0) ≤ℚ y → y *ℚ y ≡ v → Allows h x y
   -- fraction or not, the root lies within h's radius of h's value
-  pub bounds : (x v : ℚ) → OnInterval (f .interval) x → Allows f x v → RootBounds (centre h x) (ofUnits (whole (pos (h .radius)))) v
+  pub bounds : (x v : ℚ) → OnInterval (f .interval) x → Allows f x v
+      → RootBounds (centre h x) (ofUnits (whole (pos (h .radius)))) v
   -- and every box of it "overlaps its model plus or minus its radius"
   pub overlap : (x v low high l u : ℚ) → OnInterval (f .interval) x → Allows f x v → l ≤ℚ v → v ≤ℚ u → RootBox low high l u
       → (r : ℚ) × (low ≤ℚ r) × (r ≤ℚ high) × Allows h x r

@@ -1,5 +1,5 @@
--- Document 02, S-14: what is promised of the chosen proposal. That its quotients are allowed is certificate's `QuotientAllowed`, of
--- the part with its radius.
+-- Document 02, S-14: what is promised of the chosen proposal. That its quotients are allowed is certificate's `QuotientAllowed`,
+-- of the part with its radius.
 use mathlib.Core.Path.{_≡_}
 use mathlib.Core.Logic.{_⊎_}
 use mathlib.Core.List.{List}
