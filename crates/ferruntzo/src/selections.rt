@@ -46,10 +46,10 @@ pub extern "C" fn ferruntzo_quotient_of_two<'a>(
         (partModel (partNumbers (getD (now (answer .exit)) 0 0) (now (first .entry)) (now (second .entry)))
         (getD (now (answer .exit)) 1 0) (areaModel (now (f .entry)) .interval))) ⌝ }
     ensures { λ r. ⌜ (r ≡ 0 → Tightest
-        (proposalRadius (length (now (scratch .entry)))
-        (areaModel (now (f .entry))) (areaModel (now (g .entry))) (now (first .entry)))
-        (proposalRadius (length (now (scratch .entry)))
-        (areaModel (now (f .entry))) (areaModel (now (g .entry))) (now (second .entry)))
+        (proposalRadius (length (now (scratch .entry))) (areaModel (now (f .entry))) (areaModel (now (g .entry)))
+        (now (first .entry)))
+        (proposalRadius (length (now (scratch .entry))) (areaModel (now (f .entry))) (areaModel (now (g .entry)))
+        (now (second .entry)))
         (makeSelected (getD (now (answer .exit)) 0 0) (getD (now (answer .exit)) 1 0))) ⌝ }
 {
     if (MODEL_SIZE <= f.len())

@@ -1,5 +1,4 @@
--- What is promised of the result of a test that passes: of every value that its models allow, at every fraction of their
--- interval.
+-- What is promised of the result of a test that passes, of every value that its models allow, at fractions of their interval.
 use mathlib.Core.Path.{_≡_}
 use mathlib.Core.Logic.{_⊎_}
 use mathlib.Core.List.{map}

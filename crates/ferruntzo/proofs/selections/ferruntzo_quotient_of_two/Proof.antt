@@ -1,5 +1,6 @@
 -- `ferruntzo_quotient_of_two` meets its contract.
 use borrow.Author.Needs.{needs}
+use mathlib.Core.Path.{subst}
 use Prim.Native.Nat.{ℕ, _≤_}
 use native.Mathlib.Omega.{arith}
 use denote.Ref.{now}
@@ -38,7 +39,7 @@ returns c =
           (g .before .model-in .ensures) (g .model-in2 .ensures) (l .0) (l .1 .0) (l .1 .1 .0) (t .store-selected .ensures) (e .0) (e .1 .1 .0),
       (
         promised (λ (f g : Model) (k r : ℕ). QuotientAllowed f g (partModel (partNumbers k first second) r (f .interval)))
-            (λ h. rw (e .1 .0 .1) at (e .1 .1 .1 .0 h)),
+            (λ h. subst (λ cs. QuotientAllowed (g .before .model-in .result) (g .model-in2 .result) (partModel cs (l .1 .1 .0) (g .before .model-in .result .interval))) (e .1 .0 .1) (e .1 .1 .1 .0 h)),
         promised (λ (f g : Model) (k r : ℕ). Tightest (proposalRadius n f g first) (proposalRadius n f g second) (makeSelected k r)) (e .1 .1 .1 .1),
       ),
     )
