@@ -110,8 +110,8 @@ pub tests :
 unfolding testIn areaOut scratchAfter rootNeeding rootPlaces rootContraction rootResidual rootModel leastRadius firstOf displacement coefficientSum productList passing sameInterval goodEnds partsWithinLimits good tooLarge zeroModel weight addLists subtractLists scaleList addAtBy addPairBy addTermBy addTermsBy product upℕ zeros
 tests = (refl, refl, refl, refl, refl, refl)
 
--- f, g, h and w all different, and so the three numbers and the radii: 1/3, f with radius 5 and g with radius 2; the root of 4 by each rule
--- on the same areas, with radius 17 and with the least one, 9
+-- what would show if two areas or numbers were exchanged in definition and code alike: 1/3 with f, g, h, w, m, N, b and the radii all
+-- different; the root of 4 + 40 units by each rule, with radius 17 and with the least one, 9
 pub accepted-tests :
     (quotientAnswer (area 0 (pos 1048576 ∷ []) 34 ++ (pos 5 ∷ standardEnds)) (area 0 (pos 3145728 ∷ []) 34 ++ (pos 2 ∷ standardEnds)) (area 0 (pos 349530 ∷ []) 34) (area 0 (pos 349500 ∷ []) 34)
     (nines 17) (nines 38) (9 ∷ 9 ∷ 9 ∷ 9 ∷ [])
@@ -123,8 +123,8 @@ pub accepted-tests :
 unfolding testIn areaOut scratchAfter quotientNeeding quotientContraction quotientResidual quotientModel rootNeeding rootPlaces rootContraction rootResidual rootModel leastRadius firstOf displacement coefficientSum productList passing sameInterval goodEnds partsWithinLimits good tooLarge zeroModel weight addLists subtractLists scaleList addAtBy addPairBy addTermBy addTermsBy product upℕ zeros
 accepted-tests = (refl, refl, refl)
 
--- two proposals for 1/3 with the helper 1/3: the first has 67 numbers, the second is chosen with radius 2; the second of radii 9 and 5; neither passes; a model area of
--- 36 numbers; a scratch of 15 and short proposals; an answer of 1
+-- two proposals for 1/3 with the helper 1/3: the first has 67 numbers, the second is chosen with radius 2; the second of radii 9 and 5;
+-- neither passes; a model area of 36 numbers; a scratch of 15 and short proposals; an answer of 1
 abbrev third : List ℤ
 third = area 0 (pos 349525 ∷ []) 34
 
