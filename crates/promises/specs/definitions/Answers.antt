@@ -7,7 +7,7 @@ use Prim.Native.Nat.{ℕ}
 use Rattle.model.specs.definitions.Evaluate.{boundsOf}
 use Rattle.model.specs.definitions.Intervals.{goodEnds, sameInterval}
 use Rattle.model.specs.definitions.Models.{withinLimits, badPlace}
-use Rattle.model.specs.definitions.Outcomes.{numberOf, passing, outcomeOf}
+use Rattle.model.specs.definitions.Outcomes.{numberOf, outcome, outcomeOf}
 use Rattle.model.specs.declared.types.BoundsOutcome.{BoundsOutcome}
 use Rattle.model.specs.declared.types.Interval.{Interval}
 use Rattle.model.specs.declared.types.Model.{Model}
@@ -34,10 +34,10 @@ pub record Answers : Type 0 where
   pub quotientOf-injective : (r s : QuotientOutcome) → quotientOf r ≡ quotientOf s → r ≡ s
   pub inUnitsOf-injective : (r s : CandidateOutcome) → inUnitsOf r ≡ inUnitsOf s → r ≡ s
   -- 02, S-24: "Number 18: ends wrong, straight after number 2 for the same model.": one place with either number is the two
-  -- places
-  pub model-places : {A : Type 0} (m : Model) (a : A) (r : ℕ → A) (ps qs : List (Bool × ℕ))
-      → passing (ps ++ (badPlace m ∷ qs)) a r
-      ≡ passing (ps ++ ((not (withinLimits m), 2) ∷ (not (goodEnds (m .interval)), 18) ∷ qs)) a r
+  -- places, in every outcome of models
+  pub model-places : (m a z : Model) (ps qs : List (Bool × ℕ))
+      → outcome (ps ++ (badPlace m ∷ qs)) a z
+      ≡ outcome (ps ++ ((not (withinLimits m), 2) ∷ (not (goodEnds (m .interval)), 18) ∷ qs)) a z
   -- "Number 19: two operands on different intervals": the same exactly if both ends are
   pub same-is : (i j : Interval) → sameInterval i j ≡ true → i ≡ j
   pub same-self : (i : Interval) → sameInterval i i ≡ true

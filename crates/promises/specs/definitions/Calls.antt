@@ -12,9 +12,8 @@ use Rattle.certificate.specs.declared.types.RootRule.{RootRule}
 use Rattle.certificate.specs.declared.types.RootRule.the-variants.{ByDiscriminant, ByLeastRadius}
 use Rattle.job.specs.definitions.Outcomes.{counted, refusalNumber, refusedCommand, resultCount}
 use Rattle.job.specs.definitions.Work.{checkNeeding, workNeeding}
-use Rattle.ferruntzo.specs.definitions.Areas.{answerSize}
 use Rattle.ferruntzo.specs.definitions.Certificates.{quotientCall, rootCall}
-use Rattle.ferruntzo.specs.definitions.Jobs.{checkAnswer}
+use Rattle.ferruntzo.specs.definitions.Jobs.{answerSize, checkAnswer}
 use Rattle.ferruntzo.specs.definitions.Selections.{selectionCall}
 
 pub record Calls : Type 0 where

@@ -63,4 +63,4 @@ pub record FormerNumbers : Type 0 where
   pub work-former : (job : List ℕ) → WithoutLoadOn job → (w s : List ℤ) → 1184 ≤ length w → 16 ≤ length s
       → (i : ℕ) → i < 32
       → take 37 (drop (37 * i) (workAfter job w s))
-      ≡ take 35 (drop (35 * i) (formerWork job w s)) ++ endsAt (resultsIn (jobOutcome job)) i
+      ≡ take 35 (drop (35 * i) (formerWork job w s)) ++ endsAt (resultsIn (formerJobOutcome job)) i

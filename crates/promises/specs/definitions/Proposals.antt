@@ -21,6 +21,7 @@ use Rattle.proposals.specs.definitions.Reciprocal.{constantList, firstValue, re
 use Rattle.proposals.specs.definitions.Reciprocal.{makeReciprocal, refusedReciprocal, reciprocalProposal}
 use Rattle.proposals.specs.definitions.Quotient.{Quotient, quotientProposal}
 use Rattle.proposals.specs.definitions.Units.{signed, unitsOf, candidateIn}
+use Rattle.proposals.specs.definitions.ExactCase.{Over}
 use Rattle.proposals.specs.definitions.Bits.{signBit, bitsSize}
 use Rattle.proposals.specs.definitions.Endings.{changeIn, startOf, iterated}
 use Rattle.proposals.specs.definitions.Finite.{allProductsFinite, StatesFinite, differences}
@@ -107,8 +108,10 @@ pub record NoRounding : Type 0 where
       → (a .ending ≡ Settled nought)
       × (a .recorded .round ≡ roundOf (fin false 1 (pos 20 -ℤ pos j) ∷ replicate 32 nought) nought)
       × (a .recorded .quotient ≡ product (valuesOf f) (fin false 1 (pos 20 -ℤ pos j) ∷ replicate 32 nought))
-      × (a .h ≡ candidateIn (map unitsOf (product (valuesOf f) (fin false 1 (pos 20 -ℤ pos j) ∷ replicate 32 nought))))
+      × (a .h ≡ candidateIn (map unitsOf (a .recorded .quotient)))
       × (a .w ≡ candidateIn (pos (2 ^ (40 - j)) ∷ replicate 32 (pos 0)))
+      -- each value of f·w is f's whole number of units over 2^j
+      × (length (f .coefficients) ≡ 33 → Over j (f .coefficients) (a .recorded .quotient))
   -- 2^(20−j) is S/2^j
   pub exact-value : (j : ℕ) → j ≤ 28 → HasValue (fin false 1 (pos 20 -ℤ pos j)) false (2 ^ 20) (2 ^ j)
   -- below 2^12 the reciprocal is as exact and weighs more than 2^28

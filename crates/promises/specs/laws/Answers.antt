@@ -1,4 +1,5 @@
 -- The promises about answers are kept.
+use Rattle.model.specs.definitions.Outcomes.{accepted, refused}
 use Rattle.model.specs.laws.IntervalLaws as intervals
 use Rattle.model.specs.laws.OutcomeLaws as outcomes
 use Rattle.model.specs.laws.PlaceLaws as places
@@ -17,7 +18,7 @@ answers-kept = record {
   reciprocalOf-injective = makers.reciprocalOf-injective;
   quotientOf-injective = makers.quotientOf-injective;
   inUnitsOf-injective = makers.inUnitsOf-injective;
-  model-places = λ m a r ps qs. places.model-places m a r ps qs;
+  model-places = λ m a z ps qs. places.model-places m (accepted a) (λ n. refused n z) ps qs;
   same-is = intervals.same-is;
   same-self = intervals.same-self;
 }

@@ -1,6 +1,4 @@
 -- What the contracts promise is what is said of it: from the records and definitions that they cite, and nothing else.
-use mathlib.Core.Path.{ap}
-use Rattle.proposals.specs.definitions.Quotient.{Quotient}
 use Rattle.proposals.specs.definitions.Reciprocal.{constantList}
 use Rattle.promises.specs.definitions.Contracts.{ContractClaims}
 
@@ -20,5 +18,5 @@ contracts-say = record {
   exact-reciprocal = λ g o c j b k l u. c j (record { power = record { is-good = b; constant = k }; from = l; to = u });
   exact-record = λ f g o c j b k l u a h.
       let s = c j (record { power = record { is-good = b; constant = k }; from = l; to = u }) a h in
-      (ap (λ (q : Quotient). q .ending) s, ap (λ (q : Quotient). q .recorded .round) s, ap (λ (q : Quotient). q .w) s);
+      (s .ending, s .round, s .quotient, s .h, s .w, s .exact);
 }

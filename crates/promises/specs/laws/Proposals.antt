@@ -10,12 +10,12 @@ use Rattle.model.specs.declared.types.Model.{Model}
 use Rattle.proposals.specs.definitions.Values.{nought, settledLimit}
 use Rattle.proposals.specs.definitions.Rounds.{finiteRound}
 use Rattle.proposals.specs.definitions.Reciprocal.{constantList, firstValue, reciprocalRounds}
-use Rattle.proposals.specs.definitions.Quotient.{Quotient}
 use Rattle.proposals.specs.definitions.Endings.{startOf, iterated, Ends}
 use Rattle.proposals.specs.definitions.ExactCase.{PowerOfTwo, ExactCase}
 use Rattle.proposals.specs.laws.BitsLaws as bits
 use Rattle.proposals.specs.laws.EndingLaws as endings
 use Rattle.proposals.specs.laws.ExactCase as exact
+use Rattle.proposals.specs.laws.ExactQuotient as quotients
 use Rattle.proposals.specs.laws.FiniteMaking as finite
 use Rattle.proposals.specs.laws.FiniteWalk as walks
 use Rattle.proposals.specs.laws.MakerLaws as makers
@@ -88,8 +88,8 @@ unfolding constantList
 no-rounding = record {
   exact-proposal = λ g j b c l u. exact.exact-proposal g j (record { power = record { is-good = b; constant = c }; from = l; to = u });
   exact-quotient = λ f g j a b c l u h.
-      let s = exact.exact-quotient f g j (record { power = record { is-good = b; constant = c }; from = l; to = u }) a h in
-      (ap (λ (q : Quotient). q .ending) s, ap (λ (q : Quotient). q .recorded .round) s, ap (λ (q : Quotient). q .recorded .quotient) s, ap (λ (q : Quotient). q .h) s, ap (λ (q : Quotient). q .w) s);
+      let s = quotients.exact-quotient f g j (record { power = record { is-good = b; constant = c }; from = l; to = u }) a h in
+      (s .ending, s .round, s .quotient, s .h, s .w, s .exact);
   exact-value = exact.exact-value;
   below-the-exact-case = λ g j b c l. exact.below-the-exact-case g j (record { is-good = b; constant = c }) l;
 }
