@@ -48,7 +48,7 @@ pub struct QuotientRecord {
     pub round: Round,
 }
 
-// The same of a quotient.
+// A refused quotient likewise.
 pub struct QuotientOutcome {
     pub verdict: Verdict,
     pub ending: Ending,
