@@ -1,13 +1,12 @@
 -- What the contracts of the tests, of two proposals, of the converter and of the makers promise of an accepted answer, by
 -- records and definitions of these crates: each said in so many words. Requirement 3 in the contract of a check: Jobs.antt.
 use mathlib.Core.Path.{_≡_}
-use mathlib.Core.Bool.{true, false}
+use mathlib.Core.Bool.{true}
 use mathlib.Core.List.{List, _∷_, map}
 use mathlib.Core.Logic.{_⊎_}
-use Prim.Native.Nat.{ℕ, _+_, _-_, _^_, _≤_}
-use lib.IntN.{ℤ, pos, _-ℤ_}
-use lib.ListN.{length, replicate, take, drop}
-use lib.Ieee.{fin}
+use Prim.Native.Nat.{ℕ, _+_, _^_, _≤_}
+use lib.IntN.{ℤ, pos}
+use lib.ListN.{replicate, take, drop}
 use denote.Ref.{RefT, ptr, now}
 use Rattle.integer.specs.definitions.Fraction.{ℚ, whole, _+ℚ_, _-ℚ_, -ℚ_, _*ℚ_, _/ℚ_, _≤ℚ_, _<ℚ_}
 use Rattle.integer.specs.definitions.FractionRing.{ℚ-ring}
@@ -24,13 +23,12 @@ use Rattle.series.specs.declared.types.Series.{Series}
 use Rattle.selection.specs.definitions.Promise.{Tightest}
 use Rattle.selection.specs.definitions.Select.{Selected, IsPart}
 use Rattle.proposals.specs.definitions.Values.{nought}
-use Rattle.proposals.specs.definitions.Product.{product}
 use Rattle.proposals.specs.definitions.Rounds.{roundOf}
-use Rattle.proposals.specs.definitions.Reciprocal.{valuesOf, Reciprocal, makeReciprocal}
+use Rattle.proposals.specs.definitions.Reciprocal.{Reciprocal, makeReciprocal}
 use Rattle.proposals.specs.definitions.Quotient.{Quotient}
-use Rattle.proposals.specs.definitions.Units.{unitsOf, candidateIn}
-use Rattle.proposals.specs.definitions.ExactCase.{Over, ExactReciprocal, ExactQuotient}
+use Rattle.proposals.specs.definitions.ExactCase.{ExactReciprocal, ExactQuotient}
 use Rattle.proposals.specs.declared.types.Ending.the-variants.{Settled}
+use Rattle.promises.specs.definitions.Proposals.{powerList, powerUnits, MadeExactly}
 
 pub record ContractClaims : Type 0 where
   -- 02, S-14: "at every fraction …" of the own interval "no value that g allows is zero, and each allowed value of f over one of
@@ -71,14 +69,7 @@ pub record ContractClaims : Type 0 where
   -- all."
   pub exact-reciprocal : (g : Model) (o : Outcome Reciprocal) → ExactReciprocal g o → (j : ℕ) → good g ≡ true
       → g .coefficients ≡ pos (2 ^ j) ∷ replicate 32 (pos 0) → 12 ≤ j → j ≤ 28
-      → o ≡ accepted (makeReciprocal (Settled nought)
-      (roundOf (fin false 1 (pos 20 -ℤ pos j) ∷ replicate 32 nought) nought)
-      (candidateIn (pos (2 ^ (40 - j)) ∷ replicate 32 (pos 0))))
+      → o ≡ accepted (makeReciprocal (Settled nought) (roundOf (powerList j) nought) (powerUnits j))
   pub exact-record : (f g : Model) (o : Outcome Quotient) → ExactQuotient f g o → (j : ℕ) → good g ≡ true
       → g .coefficients ≡ pos (2 ^ j) ∷ replicate 32 (pos 0) → 12 ≤ j → j ≤ 28 → (a : Quotient) → o ≡ accepted a
-      → (a .ending ≡ Settled nought)
-      × (a .recorded .round ≡ roundOf (fin false 1 (pos 20 -ℤ pos j) ∷ replicate 32 nought) nought)
-      × (a .recorded .quotient ≡ product (valuesOf f) (fin false 1 (pos 20 -ℤ pos j) ∷ replicate 32 nought))
-      × (a .h ≡ candidateIn (map unitsOf (a .recorded .quotient)))
-      × (a .w ≡ candidateIn (pos (2 ^ (40 - j)) ∷ replicate 32 (pos 0)))
-      × (length (f .coefficients) ≡ 33 → Over j (f .coefficients) (a .recorded .quotient))
+      → MadeExactly f j a

@@ -13,6 +13,7 @@ use Rattle.integer.specs.definitions.Rounding.{parity}
 use Rattle.chebyshev.specs.definitions.Product.{addAtBy, addPairBy}
 use Rattle.model.specs.definitions.Models.{scale, good}
 use Rattle.model.specs.definitions.Outcomes.{accepted, refused}
+use Rattle.model.specs.declared.types.Candidate.{Candidate}
 use Rattle.model.specs.declared.types.Model.{Model}
 use Rattle.proposals.specs.definitions.Values.{nought, one, settledLimit, negative, valueOf, allFinite}
 use Rattle.proposals.specs.definitions.Product.{product}
@@ -94,24 +95,34 @@ pub record Units : Type 0 where
 
 -- ---- "A constant model whose coefficient is a power of two from 2^12 to 2^28 gets its reciprocal with no rounding at all."
 
+-- the list 2^(20−j), +0, …, +0
+abbrev pub powerList : ℕ → List Float
+powerList j = fin false 1 (pos 20 -ℤ pos j) ∷ replicate 32 nought
+
+-- w in units: 2^(40−j), 0, …, 0
+abbrev pub powerUnits : ℕ → Candidate
+powerUnits j = candidateIn (pos (2 ^ (40 - j)) ∷ replicate 32 (pos 0))
+
+-- of a quotient: settled with change +0, "its record keeping w", and each value of f·w is f's whole number of units over 2^j
+abbrev pub MadeExactly : Model → ℕ → Quotient → Type 0
+MadeExactly f j a =
+    (a .ending ≡ Settled nought)
+    × (a .recorded .round ≡ roundOf (powerList j) nought)
+    × (a .recorded .quotient ≡ product (valuesOf f) (powerList j))
+    × (a .h ≡ candidateIn (map unitsOf (a .recorded .quotient)))
+    × (a .w ≡ powerUnits j)
+    × (length (f .coefficients) ≡ 33 → Over j (f .coefficients) (a .recorded .quotient))
+
 pub record NoRounding : Type 0 where
   -- settled with change +0; the record's list 2^(20−j), +0, …, +0; w in units 2^(40−j), 0, …, 0
   pub exact-proposal : (g : Model) (j : ℕ) → good g ≡ true → g .coefficients ≡ pos (2 ^ j) ∷ replicate 32 (pos 0) → 12 ≤ j
       → j ≤ 28
       → reciprocalProposal g
-      ≡ accepted (makeReciprocal (Settled nought)
-      (roundOf (fin false 1 (pos 20 -ℤ pos j) ∷ replicate 32 nought) nought)
-      (candidateIn (pos (2 ^ (40 - j)) ∷ replicate 32 (pos 0))))
+      ≡ accepted (makeReciprocal (Settled nought) (roundOf (powerList j) nought) (powerUnits j))
   -- and so keeps the record of a quotient
   pub exact-quotient : (f g : Model) (j : ℕ) (a : Quotient) → good g ≡ true → g .coefficients ≡ pos (2 ^ j) ∷ replicate 32 (pos 0)
       → 12 ≤ j → j ≤ 28 → quotientProposal f g ≡ accepted a
-      → (a .ending ≡ Settled nought)
-      × (a .recorded .round ≡ roundOf (fin false 1 (pos 20 -ℤ pos j) ∷ replicate 32 nought) nought)
-      × (a .recorded .quotient ≡ product (valuesOf f) (fin false 1 (pos 20 -ℤ pos j) ∷ replicate 32 nought))
-      × (a .h ≡ candidateIn (map unitsOf (a .recorded .quotient)))
-      × (a .w ≡ candidateIn (pos (2 ^ (40 - j)) ∷ replicate 32 (pos 0)))
-      -- each value of f·w is f's whole number of units over 2^j
-      × (length (f .coefficients) ≡ 33 → Over j (f .coefficients) (a .recorded .quotient))
+      → MadeExactly f j a
   -- 2^(20−j) is S/2^j
   pub exact-value : (j : ℕ) → j ≤ 28 → HasValue (fin false 1 (pos 20 -ℤ pos j)) false (2 ^ 20) (2 ^ j)
   -- below 2^12 the reciprocal is as exact and weighs more than 2^28
