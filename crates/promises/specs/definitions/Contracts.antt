@@ -65,8 +65,7 @@ pub record ContractClaims : Type 0 where
       → (ptr part ≡ (ptr first .0, 4 + ptr first .1)) × (now part ≡ take 33 (drop 1 (now first)))
   pub part-of-second : (first second part : RefT (List ℤ)) → IsPart 2 first second part
       → (ptr part ≡ (ptr second .0, 4 + ptr second .1)) × (now part ≡ take 33 (drop 1 (now second)))
-  -- 02, S-19: "A constant model whose coefficient is a power of two from 2^12 to 2^28 gets its reciprocal with no rounding at
-  -- all."
+  -- 02, S-19: "A constant model whose coefficient is a power of two … gets its reciprocal with no rounding at all."
   pub exact-reciprocal : (g : Model) (o : Outcome Reciprocal) → ExactReciprocal g o → (j : ℕ) → good g ≡ true
       → g .coefficients ≡ pos (2 ^ j) ∷ replicate 32 (pos 0) → 12 ≤ j → j ≤ 28
       → o ≡ accepted (makeReciprocal (Settled nought) (roundOf (powerList j) nought) (powerUnits j))

@@ -42,8 +42,8 @@ pub record FormerNumbers : Type 0 where
       → (d : ℕ) → multiplication d a b ≡ formerMultiplication d a b
   pub integration-former : (a : Model) → a .interval ≡ standardInterval → integration a ≡ formerIntegration a
   pub evaluation-former : (a : Model) (p : ℤ) → a .interval ≡ standardInterval → evaluation a p ≡ formerEvaluation a p
-  pub quotient-former : (need len : ℕ) (f g : Model) (h w : Candidate) → f .interval ≡ standardInterval → g .interval
-      ≡ standardInterval
+  pub quotient-former : (need len : ℕ) (f g : Model) (h w : Candidate)
+      → f .interval ≡ standardInterval → g .interval ≡ standardInterval
       → quotientNeeding need len f g h w ≡ formerQuotient need len f g h w
   pub root-former : (rule : RootRule) (need len : ℕ) (f : Model) (h w : Candidate) → f .interval ≡ standardInterval
       → rootNeeding rule need len f h w ≡ formerRoot rule need len f h w

@@ -44,8 +44,7 @@ pub record Requirement3Says (areas : List (Bool × ℕ)) (job : List ℕ) (answe
   pub read : (count : ℕ) (e : answer ≡ accepted count) → jobReading job ≡ well (commandsOf claim e)
   pub made : (count : ℕ) (e : answer ≡ accepted count) → Made (commandsOf claim e) (modelsIn work count)
   -- "Of each result the following then holds at every fraction" of its own interval (S-24). "Whichever boxes document 01 permits
-  -- there for it and all it is formed from, … its box overlaps its model plus or minus its radius, both as left in the work
-  -- area."
+  -- there …, its box overlaps its model plus or minus its radius, both as left in the work area."
   pub overlaps : (count : ℕ) (e : answer ≡ accepted count) (i : ℕ) → i < count
       → (x : ℚ) → OnInterval (storedResult work i .interval) x
       → (box : ℕ → Box) → Permitted (commandsOf claim e) x box i
@@ -69,27 +68,25 @@ pub record Requirement3Says (areas : List (Bool × ℕ)) (job : List ℕ) (answe
 
 -- ---- what follows from it, for every job and every answer of which the claim holds
 
-module _ (areas : List (Bool
-    × ℕ)) (job : List ℕ) (answer : JobOutcome ℕ) (work : List ℤ) (claim : Requirement3 areas job answer work)
-    (count : ℕ) (e : answer ≡ accepted count) where
+module _ (areas : List (Bool × ℕ)) (job : List ℕ) (answer : JobOutcome ℕ) (work : List ℤ)
+    (claim : Requirement3 areas job answer work) (count : ℕ) (e : answer ≡ accepted count) where
   pub record Requirement3Gives : Type 0 where
     -- an exact value of a result, formed without boxes and without models but those of the loads, is allowed by its model
     pub exact-allowed : (x : ℚ) (v : ℕ → ℚ) (i : ℕ) → i < count → OnInterval (storedResult work i .interval) x
         → Exact (commandsOf claim e) x v i → Allows (storedResult work i) x (v i)
-    -- for every choice of values that the loads allow, and of fractions whose squares stand under the roots, there are such
-    -- values
+    -- for every choice of values that the loads allow, and of fractions whose squares stand under roots, there are such values
     pub exact-values : (x : ℚ) (choice : ℕ → ℚ) → (v : ℕ → ℚ) × Follows (commandsOf claim e) choice count v
         × ((i : ℕ) → i < count → OnInterval (storedResult work i .interval) x → Chosen (commandsOf claim e) x choice v i
         → Exact (commandsOf claim e) x v i × Allows (storedResult work i) x (v i))
+    -- exact values are such a choice
+    pub exact-chosen : (x : ℚ) (v : ℕ → ℚ) (i : ℕ) → Exact (commandsOf claim e) x v i → Chosen (commandsOf claim e) x v v i
+    pub exact-follows : (x : ℚ) (v : ℕ → ℚ) (i : ℕ) → Exact (commandsOf claim e) x v i → (r : ℕ) (m : Maker)
+        → FormedFrom (commandsOf claim e) i r → commandFor (commandsOf claim e) r ≡ result m → v r ≡ valueBy v v r m
     -- boxes that follow 01's rules at every result overlap the models
     pub formed-overlaps : (x : ℚ) (box : ℕ → Box)
         → ((i : ℕ) → i < count → (m : Maker) → commandFor (commandsOf claim e) i ≡ result m → Formed x box i m)
         → (i : ℕ) → i < count → OnInterval (storedResult work i .interval) x
         → (v : ℚ) × Lies v (box i) × Allows (storedResult work i) x v
-    -- and exact values are such a choice
-    pub exact-chosen : (x : ℚ) (v : ℕ → ℚ) (i : ℕ) → Exact (commandsOf claim e) x v i → Chosen (commandsOf claim e) x v v i
-    pub exact-follows : (x : ℚ) (v : ℕ → ℚ) (i : ℕ) → Exact (commandsOf claim e) x v i → (r : ℕ) (m : Maker)
-        → FormedFrom (commandsOf claim e) i r → commandFor (commandsOf claim e) r ≡ result m → v r ≡ valueBy v v r m
     pub exact-divisor : (x : ℚ) (v : ℕ → ℚ) (i j k : ℕ) (h w : Candidate) → i < count → k < count
         → OnInterval (storedResult work i .interval) x → commandFor (commandsOf claim e) i ≡ result (quotient j k h w)
         → Exact (commandsOf claim e) x v k → ¬ (v k ≡ whole (pos 0))

@@ -122,8 +122,7 @@ pub record Positions : Type 0 where
   -- on −S..S it is x, and the fractions are those from −1 to 1
   pub position-standard : (x : ℚ) → position standardInterval x ≡ x
   pub standard-on : (x : ℚ) → OnInterval standardInterval x ↔ (((-ℚ whole (pos 1)) ≤ℚ x) × (x ≤ℚ whole (pos 1)))
-  -- 01: "At x = p/q with q ≥ 1 and |p| ≤ q everything is cross-multiplied into whole numbers." On any interval, at x = p/q and v
-  -- = w/d
+  -- 01: "At x = p/q with q ≥ 1 and |p| ≤ q everything is cross-multiplied into whole numbers.": of x = p/q and v = w/d
   pub allows-cross : (m : Model) (x v : ℚ) (p w : ℤ) (q d : ℕ) → good m ≡ true → IsFraction x p q → IsFraction v w d
       → Allows m x v
       ↔ allowsWhole scale (m .coefficients) (m .radius) (m .degree)

@@ -39,8 +39,8 @@ pub record TwelveRounds : Type 0 where
   pub start-is : (g : List Float) → startOf g ≡ roundOf (constantList (div binary64 one (firstValue g))) nought
   -- "settled, with the last change, once that is at most 2^-24"
   pub settled-tells : (g : List Float) (d : Float) → eq (firstValue g) nought ≡ false → reciprocalRounds g .ending ≡ Settled d
-      → (d ≡ reciprocalRounds g .round .change) × (reciprocalRounds g .finite ≡ true) × (le d (fin false 1 (pos 0 -ℤ pos 24))
-      ≡ true)
+      → (d ≡ reciprocalRounds g .round .change) × (reciprocalRounds g .finite ≡ true)
+      × (le d (fin false 1 (pos 0 -ℤ pos 24)) ≡ true)
   -- "or given up, with the last change": where every value was finite, after the twelfth, which did not settle
   pub given-up-tells : (g : List Float) (d : Float) → eq (firstValue g) nought ≡ false → reciprocalRounds g .ending ≡ GivenUp d
       → reciprocalRounds g .finite ≡ true
@@ -117,12 +117,10 @@ pub record NoRounding : Type 0 where
   -- settled with change +0; the record's list 2^(20−j), +0, …, +0; w in units 2^(40−j), 0, …, 0
   pub exact-proposal : (g : Model) (j : ℕ) → good g ≡ true → g .coefficients ≡ pos (2 ^ j) ∷ replicate 32 (pos 0) → 12 ≤ j
       → j ≤ 28
-      → reciprocalProposal g
-      ≡ accepted (makeReciprocal (Settled nought) (roundOf (powerList j) nought) (powerUnits j))
+      → reciprocalProposal g ≡ accepted (makeReciprocal (Settled nought) (roundOf (powerList j) nought) (powerUnits j))
   -- and so keeps the record of a quotient
   pub exact-quotient : (f g : Model) (j : ℕ) (a : Quotient) → good g ≡ true → g .coefficients ≡ pos (2 ^ j) ∷ replicate 32 (pos 0)
-      → 12 ≤ j → j ≤ 28 → quotientProposal f g ≡ accepted a
-      → MadeExactly f j a
+      → 12 ≤ j → j ≤ 28 → quotientProposal f g ≡ accepted a → MadeExactly f j a
   -- 2^(20−j) is S/2^j
   pub exact-value : (j : ℕ) → j ≤ 28 → HasValue (fin false 1 (pos 20 -ℤ pos j)) false (2 ^ 20) (2 ^ j)
   -- below 2^12 the reciprocal is as exact and weighs more than 2^28

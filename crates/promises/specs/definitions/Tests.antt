@@ -125,8 +125,8 @@ pub record TighterRoots : Type 0 where
       → (c .model .degree ≡ d .model .degree) × (c .model .coefficients ≡ d .model .coefficients)
       × (c .model .interval ≡ d .model .interval) × (c .m ≡ d .m) × (c .N ≡ d .N) × (c .b ≡ d .b)
   -- where 0x22 accepts, 0x21 does
-  pub tight-implies-root : (len : ℕ) (f : Model) (h w : Candidate) (c : Certificate) → rootTest ByLeastRadius len f h w
-      ≡ accepted c
+  pub tight-implies-root : (len : ℕ) (f : Model) (h w : Candidate) (c : Certificate)
+      → rootTest ByLeastRadius len f h w ≡ accepted c
       → (d : Certificate) × (rootTest ByDiscriminant len f h w ≡ accepted d)
   -- 3 is met by neither
   pub root-never-large : (rule : RootRule) (len : ℕ) (f : Model) (h w : Candidate) → ¬ (number (rootTest rule len f h w) ≡ 3)
@@ -140,16 +140,16 @@ pub record SoundTests : Type 0 where
   pub quotient-nonzero : (len : ℕ) (f g : Model) (h w : Candidate) (c : Certificate) → quotientTest len f g h w ≡ accepted c
       → (x v : ℚ) → OnInterval (f .interval) x → Allows g x v → ¬ (v ≡ whole (pos 0))
   -- "no value that the model under the root allows there is negative", nor zero
-  pub root-positive : (rule : RootRule) (len : ℕ) (f : Model) (h w : Candidate) (c : Certificate) → rootTest rule len f h w
-      ≡ accepted c
+  pub root-positive : (rule : RootRule) (len : ℕ) (f : Model) (h w : Candidate) (c : Certificate)
+      → rootTest rule len f h w ≡ accepted c
       → (x v : ℚ) → OnInterval (f .interval) x → Allows f x v → whole (pos 0) <ℚ v
   -- the root of an allowed value is allowed
-  pub root-sound : (rule : RootRule) (len : ℕ) (f : Model) (h w : Candidate) (c : Certificate) → rootTest rule len f h w
-      ≡ accepted c
+  pub root-sound : (rule : RootRule) (len : ℕ) (f : Model) (h w : Candidate) (c : Certificate)
+      → rootTest rule len f h w ≡ accepted c
       → (x v y : ℚ) → OnInterval (f .interval) x → Allows f x v → whole (pos 0) ≤ℚ y → y *ℚ y ≡ v → Allows (c .model) x y
   -- and whether it is a fraction or not, every box of 01's rule around it holds a value that is allowed
-  pub root-overlap : (rule : RootRule) (len : ℕ) (f : Model) (h w : Candidate) (c : Certificate) → rootTest rule len f h w
-      ≡ accepted c
+  pub root-overlap : (rule : RootRule) (len : ℕ) (f : Model) (h w : Candidate) (c : Certificate)
+      → rootTest rule len f h w ≡ accepted c
       → (x v : ℚ) → OnInterval (f .interval) x → Allows f x v
       → (low high l u : ℚ) → (low ≡ whole (pos 0)) ⊎ ((whole (pos 0) <ℚ low) × (low *ℚ low ≤ℚ l))
       → whole (pos 0) ≤ℚ high → u ≤ℚ high *ℚ high → low ≤ℚ high → l ≤ℚ v → v ≤ℚ u
@@ -167,8 +167,8 @@ pub record SoundTests : Type 0 where
   -- an accepted result is a good model
   pub quotient-good : (len : ℕ) (f g : Model) (h w : Candidate) (c : Certificate) → quotientTest len f g h w ≡ accepted c
       → good (c .model) ≡ true
-  pub root-good : (rule : RootRule) (len : ℕ) (f : Model) (h w : Candidate) (c : Certificate) → rootTest rule len f h w
-      ≡ accepted c
+  pub root-good : (rule : RootRule) (len : ℕ) (f : Model) (h w : Candidate) (c : Certificate)
+      → rootTest rule len f h w ≡ accepted c
       → good (c .model) ≡ true
 
 -- ---- 02, S-17
