@@ -15,9 +15,9 @@
 
    examples/check_job.c, examples/two_proposals.c and examples/make_proposal.c are
    programs to copy, docs/FORMAT.md the format of jobs.  "01" below is the scope
-   document that fixes every number but those of power series, of two proposals, of
-   the scratch, of made proposals, of the tighter root test and of intervals, which
-   change requests S-3, S-14, S-17, S-19, S-22 and S-24 fix.
+   document that fixes every number but those of power series, of ties, of two
+   proposals, of the scratch, of made proposals, of the tighter root test and of
+   intervals, which change requests S-3, S-11, S-14, S-17, S-19, S-22 and S-24 fix.
 
    NUMBERS
 
@@ -125,8 +125,8 @@ extern "C" {
 
 #define FERRUNTZO_VERSION_MAJOR 4
 #define FERRUNTZO_VERSION_MINOR 0
-#define FERRUNTZO_VERSION_PATCH 0
-#define FERRUNTZO_VERSION "4.0.0"
+#define FERRUNTZO_VERSION_PATCH 1
+#define FERRUNTZO_VERSION "4.0.1"
 
 /* ---- Limits ---- */
 
@@ -282,7 +282,7 @@ uint32_t ferruntzo_evaluate(const int32_t *a, size_t a_len,
    rounding only; docs/FORMAT.md says how the model becomes a load of a job.
    About 11.5 kB of stack.
    Sizes: series 34, out 37.  Refused: out is zero, if it has its 37 numbers.
-   Refusals: 1 (series or out), 14, 3 (a weight near 2^28 can pass it by rounding). */
+   Refusals: 1 (series or out), 14, 3 (rounding can take a weight near 2^28 above it). */
 uint32_t ferruntzo_from_series(const int32_t *series, size_t series_len,
                                int32_t *out, size_t out_len);
 

@@ -1,7 +1,7 @@
 #!/usr/bin/env python3
 """The papers name files and edits that are there: every path in backquotes that begins with a folder of the repository, and every
 must-fail edit that docs/ENTRIES.md names; and ENTRIES names every edit. A definitions file bears the name of a src file of its crate
-or is in the list of docs/DECISIONS.md, "Names of files". ENTRIES prints what examples/integrate_quotient.c prints."""
+or is in the list of docs/DECISIONS.md, "Names of files". PROMISES names every field of crates/promises. ENTRIES prints what examples/integrate_quotient.c prints."""
 import pathlib
 import re
 import sys
@@ -49,6 +49,13 @@ for path in sorted(ROOT.glob('crates/*/specs/definitions/*.antt')):
 for crate, found in listed.items():
     wrong += [f'docs/DECISIONS.md, "Names of files": {crate} has no {name}' for name in sorted(found - {crate})
               if not (ROOT / 'crates' / crate / 'specs' / 'definitions' / f'{name}.antt').exists()]
+promises = (ROOT / 'docs' / 'PROMISES.md').read_text()
+fields = {n for p in ROOT.glob('crates/promises/specs/definitions/*.antt') for n in re.findall(r'^\s+pub ([^\s:{]+) :', p.read_text(), re.M)}
+inner = set(re.findall(r'^  pub ([^\s:]+) :', (ROOT / 'crates/promises/specs/definitions/Promises.antt').read_text(), re.M))
+hypotheses = {'enough', 'good-f', 'good-g', 'good-h', 'good-w', 'same', 'twelve-rounds', 'finite-making', 'in-units', 'no-rounding'}
+for name in sorted(fields - inner - hypotheses):
+    if f'`{name}`' not in promises:
+        wrong.append(f'docs/PROMISES.md does not name the field {name} of crates/promises')
 print(f'papers: {seen} paths, {len(edits)} edits, {len(wrong)} wrong')
 print('\n'.join(wrong))
 sys.exit(1 if wrong else 0)

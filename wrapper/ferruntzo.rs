@@ -269,7 +269,7 @@ impl Model {
     /// The model of a power series, of the same degree, on the standard interval; it allows the exact
     /// value of the series at every x from −1 to 1.
     ///
-    /// Refusals, in order: `BadSeries`, `LargeResult` (a weight near 2^28 can pass it by rounding).
+    /// Refusals, in order: `BadSeries`, `LargeResult` (rounding can take a weight near 2^28 above it).
     pub fn from_series(series: &Series) -> Result<Model, Refusal> {
         let mut out = Model::BLANK;
         areas::from_series(&series.0, &mut out.0).map(|()| out)

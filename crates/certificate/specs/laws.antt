@@ -11,12 +11,15 @@ pub mod QuotientConditions
 pub mod QuotientSound
 pub mod QuotientTheorem
 pub mod QuotientIntegral
+pub mod MirroredQuotient
 pub mod LeastAlgebra
 pub mod RootAlgebra
 pub mod RootConditions
 pub mod RootRadius
 pub mod RootSound
+pub mod PromiseLaws
 pub mod RootTheorem
+pub mod MirroredRoot
 pub mod NumbersStages
 pub mod RootStages
 pub mod Discriminant
@@ -24,6 +27,7 @@ pub mod RootEnd
 pub mod TightTheorem
 pub mod Examples
 pub mod TightExamples
+pub mod OrderExamples
 pub mod GroupExamples
 pub mod IntervalExamples
 pub mod FormerTests

@@ -3,8 +3,10 @@ ghost use mathlib.Core.Path.{_≡_};
 ghost use Prim.Native.Nat.{_<_};
 ghost use lib.ListN.{length};
 ghost use Rattle.chebyshev.specs.definitions.Coefficients.{weight};
+ghost use Rattle.model.specs.declared.types.Verdict.the-variants.{Accepted};
 ghost use Rattle.certificate.specs.definitions.Tests.{scratchSize, scratchAfter, testOf};
 ghost use Rattle.certificate.specs.definitions.Quotient.{quotientTest};
+ghost use Rattle.certificate.specs.definitions.Promise.{QuotientAllowed};
 ghost use Rattle.certificate.specs.definitions.InnerContracts.{QuotientReady};
 use crate::numbers::SCALE;
 use crate::numbers::displacement;
@@ -76,9 +78,11 @@ fn test_in(part: &mut [i64], f: Model, g: Model, h: Candidate, w: Candidate) -> 
     test_good(part, f, g, h, of_h.weight, w, of_w.weight)
 }
 
+// The last clause is what is promised of an accepted quotient.
 pub fn quotient(f: Model, g: Model, h: Candidate, w: Candidate, scratch: &mut [i64]) -> TestOutcome
     ensures { λ (r : TestOutcome). ⌜ testOf r ≡ quotientTest (length (now (scratch .entry))) f g h w ⌝ }
     ensures { λ _. ⌜ now (scratch .exit) ≡ scratchAfter (now (scratch .entry)) ⌝ }
+    ensures { λ (r : TestOutcome). ⌜ (r .verdict ≡ Accepted → QuotientAllowed f g (r .model)) ⌝ }
 {
     if scratch.len() < SCRATCH_SIZE {
         return TestOutcome::refused(Refusal::ShortArea);

@@ -4,8 +4,10 @@ ghost use Prim.Native.Nat.{_<_};
 ghost use lib.ListN.{length};
 ghost use Rattle.chebyshev.specs.definitions.Coefficients.{weight as weightOf, coefficientSum};
 ghost use Rattle.model.specs.definitions.Models.{coefficientCount, candidateModel};
+ghost use Rattle.model.specs.declared.types.Verdict.the-variants.{Accepted};
 ghost use Rattle.certificate.specs.definitions.Tests.{scratchSize, scratchAfter, testOf};
 ghost use Rattle.certificate.specs.definitions.Root.{rootTest};
+ghost use Rattle.certificate.specs.definitions.Promise.{RootAllowed};
 ghost use Rattle.certificate.specs.definitions.InnerContracts.{RootReady, RootLast, reachOf, rootReach, rootEnd};
 use crate::numbers::SCALE;
 use crate::numbers::displacement;
@@ -165,6 +167,7 @@ fn root_result(
     }
 }
 
+// The last clause is what is promised of an accepted root, by either rule.
 pub fn root(
     rule: RootRule,
     f: Model,
@@ -174,6 +177,7 @@ pub fn root(
 ) -> TestOutcome
     ensures { λ (r : TestOutcome). ⌜ testOf r ≡ rootTest rule (length (now (scratch .entry))) f h w ⌝ }
     ensures { λ _. ⌜ now (scratch .exit) ≡ scratchAfter (now (scratch .entry)) ⌝ }
+    ensures { λ (r : TestOutcome). ⌜ (r .verdict ≡ Accepted → RootAllowed f (r .model)) ⌝ }
 {
     let numbers = root_numbers(f, h, w, scratch);
     match numbers {

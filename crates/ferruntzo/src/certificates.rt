@@ -2,8 +2,9 @@
 ghost use mathlib.Core.Path.{_≡_};
 ghost use mathlib.Core.List.{List};
 ghost use lib.IntN.{ℤ};
-ghost use Rattle.model.specs.definitions.Area.{Storable};
+ghost use Rattle.model.specs.definitions.Area.{areaModel, Storable};
 ghost use Rattle.certificate.specs.definitions.Tests.{scratchAfter, testOf};
+ghost use Rattle.certificate.specs.definitions.Promise.{QuotientAllowed, RootAllowed};
 ghost use Rattle.ferruntzo.specs.definitions.Certificates.{shortTest, testIn, testAnswer, quotientAnswer, rootAnswer};
 use crate::areas::NUMBERS_SIZE;
 use crate::areas::candidate_in;
@@ -51,7 +52,7 @@ fn refuse_test(scratch: &mut [i64], out: &mut [i32], numbers: &mut [u64]) -> u32
     answer_test(test, out, numbers)
 }
 
-// Is h a quotient f/g, with w as a helper?
+// Is h a quotient f/g, with w as a helper? The last clause is what is promised of the result, here and below.
 #[no_mangle]
 pub extern "C" fn ferruntzo_quotient(
     f: &[i32],
@@ -65,6 +66,8 @@ pub extern "C" fn ferruntzo_quotient(
     ensures { λ r. ⌜ testAnswer r (now (scratch .exit)) (now (out .exit)) (now (numbers .exit))
         ≡ quotientAnswer (now (f .entry)) (now (g .entry)) (now (h .entry)) (now (w .entry))
         (now (scratch .entry)) (now (out .entry)) (now (numbers .entry)) ⌝ }
+    ensures { λ r. ⌜ (r ≡ 0 → QuotientAllowed (areaModel (now (f .entry))) (areaModel (now (g .entry)))
+        (areaModel (now (out .exit)))) ⌝ }
 {
     if (MODEL_SIZE <= f.len())
         & (MODEL_SIZE <= g.len())
@@ -100,6 +103,7 @@ fn root_in(
     ensures { λ r. ⌜ testAnswer r (now (scratch .exit)) (now (out .exit)) (now (numbers .exit))
         ≡ rootAnswer rule (now (f .entry)) (now (h .entry)) (now (w .entry))
         (now (scratch .entry)) (now (out .entry)) (now (numbers .entry)) ⌝ }
+    ensures { λ r. ⌜ (r ≡ 0 → RootAllowed (areaModel (now (f .entry))) (areaModel (now (out .exit)))) ⌝ }
 {
     if (MODEL_SIZE <= f.len())
         & (CANDIDATE_SIZE <= h.len())
@@ -128,6 +132,7 @@ pub extern "C" fn ferruntzo_root(
     ensures { λ r. ⌜ testAnswer r (now (scratch .exit)) (now (out .exit)) (now (numbers .exit))
         ≡ rootAnswer RootRule.ByDiscriminant (now (f .entry)) (now (h .entry)) (now (w .entry))
         (now (scratch .entry)) (now (out .entry)) (now (numbers .entry)) ⌝ }
+    ensures { λ r. ⌜ (r ≡ 0 → RootAllowed (areaModel (now (f .entry))) (areaModel (now (out .exit)))) ⌝ }
 {
     root_in(RootRule::ByDiscriminant, f, h, w, scratch, out, numbers)
 }
@@ -145,6 +150,7 @@ pub extern "C" fn ferruntzo_tight_root(
     ensures { λ r. ⌜ testAnswer r (now (scratch .exit)) (now (out .exit)) (now (numbers .exit))
         ≡ rootAnswer RootRule.ByLeastRadius (now (f .entry)) (now (h .entry)) (now (w .entry))
         (now (scratch .entry)) (now (out .entry)) (now (numbers .entry)) ⌝ }
+    ensures { λ r. ⌜ (r ≡ 0 → RootAllowed (areaModel (now (f .entry))) (areaModel (now (out .exit)))) ⌝ }
 {
     root_in(RootRule::ByLeastRadius, f, h, w, scratch, out, numbers)
 }

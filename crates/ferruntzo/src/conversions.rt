@@ -2,6 +2,8 @@
 ghost use mathlib.Core.Path.{_≡_};
 ghost use Prim.Native.Nat.{_≤_};
 ghost use lib.ListN.{length};
+ghost use Rattle.model.specs.definitions.Area.{areaModel};
+ghost use Rattle.series.specs.definitions.Promise.{SeriesAllowed};
 ghost use Rattle.ferruntzo.specs.definitions.Operations.{operationAnswer};
 ghost use Rattle.ferruntzo.specs.definitions.Conversions.{seriesSize, areaSeries, seriesAnswer};
 use crate::areas::candidate_in;
@@ -28,10 +30,11 @@ fn series_in(area: &[i32]) -> Series
     }
 }
 
-// The model of a power series.
+// The model of a power series. The last clause is what is promised of it.
 #[no_mangle]
 pub extern "C" fn ferruntzo_from_series(series: &[i32], out: &mut [i32]) -> u32
     ensures { λ r. ⌜ operationAnswer r (now (out .exit)) ≡ seriesAnswer (now (series .entry)) (now (out .entry)) ⌝ }
+    ensures { λ r. ⌜ (r ≡ 0 → SeriesAllowed (areaSeries (now (series .entry))) (areaModel (now (out .exit)))) ⌝ }
 {
     if (SERIES_SIZE <= series.len()) & (MODEL_SIZE <= out.len()) {
         answer_operation(from_series(series_in(series)), out)

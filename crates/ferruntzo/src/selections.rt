@@ -1,10 +1,12 @@
 // The tighter of two proposals for a quotient over lent areas. A proposal that is too short is refused by itself; if another area
 // is too short, refusal 1 and zeros.
 ghost use mathlib.Core.Path.{_≡_};
-ghost use lib.ListN.{getD};
+ghost use lib.ListN.{length, getD};
 ghost use Rattle.model.specs.definitions.Area.{areaModel};
-ghost use Rattle.selection.specs.definitions.Select.{partNumbers};
-ghost use Rattle.selection.specs.definitions.Promise.{QuotientAllowed};
+ghost use Rattle.certificate.specs.definitions.Promise.{QuotientAllowed};
+ghost use Rattle.selection.specs.definitions.Proposal.{proposalRadius};
+ghost use Rattle.selection.specs.definitions.Select.{makeSelected, partNumbers};
+ghost use Rattle.selection.specs.definitions.Promise.{partModel, Tightest};
 ghost use Rattle.ferruntzo.specs.definitions.Selections.{selectionAnswer, shortSelection, selectionIn, quotientOfTwoAnswer};
 use crate::areas::SELECTION_SIZE;
 use crate::areas::store_selected;
@@ -27,7 +29,7 @@ fn refuse_selection(scratch: &mut [i64], answer: &mut [u32]) -> u32
 }
 
 // Which of two proposals for f/g is accepted with the smaller radius? Both have one lifetime, as quotient_of_two asks. The last
-// clause is what is promised of the chosen one.
+// two clauses are what is promised of the chosen one.
 #[no_mangle]
 pub extern "C" fn ferruntzo_quotient_of_two<'a>(
     f: &[i32],
@@ -41,8 +43,14 @@ pub extern "C" fn ferruntzo_quotient_of_two<'a>(
         ≡ quotientOfTwoAnswer (now (f .entry)) (now (g .entry)) (now (first .entry)) (now (second .entry))
         (now (scratch .entry)) (now (answer .entry)) ⌝ }
     ensures { λ r. ⌜ (r ≡ 0 → QuotientAllowed (areaModel (now (f .entry))) (areaModel (now (g .entry)))
-        (partNumbers (getD (now (answer .exit)) 0 0) (now (first .entry)) (now (second .entry)))
-        (getD (now (answer .exit)) 1 0)) ⌝ }
+        (partModel (partNumbers (getD (now (answer .exit)) 0 0) (now (first .entry)) (now (second .entry)))
+        (getD (now (answer .exit)) 1 0) (areaModel (now (f .entry)) .interval))) ⌝ }
+    ensures { λ r. ⌜ (r ≡ 0 → Tightest
+        (proposalRadius (length (now (scratch .entry))) (areaModel (now (f .entry))) (areaModel (now (g .entry)))
+        (now (first .entry)))
+        (proposalRadius (length (now (scratch .entry))) (areaModel (now (f .entry))) (areaModel (now (g .entry)))
+        (now (second .entry)))
+        (makeSelected (getD (now (answer .exit)) 0 0) (getD (now (answer .exit)) 1 0))) ⌝ }
 {
     if (MODEL_SIZE <= f.len())
         & (MODEL_SIZE <= g.len())

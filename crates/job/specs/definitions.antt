@@ -11,3 +11,5 @@ pub mod InnerContracts
 pub mod Order
 pub mod Requirement
 pub mod ExactValues
+pub mod FormedBoxes
+pub mod Mirror

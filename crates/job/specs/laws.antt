@@ -13,9 +13,12 @@ pub mod Accepted
 pub mod Hull
 pub mod Claim
 pub mod MeetsNone
+pub mod MirroredJob
+pub mod EveryJob
 pub mod ExactAllowed
 pub mod ChosenValues
 pub mod ExactExists
+pub mod ExactChosen
 pub mod FormedBoxes
 pub mod Examples
 pub mod ExampleBytes

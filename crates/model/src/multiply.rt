@@ -3,11 +3,11 @@ ghost use mathlib.Core.Path.{_≡_};
 ghost use Prim.Native.Nat.{_+_, _*_, _^_, _<_, _≤_};
 ghost use lib.ListN.{length};
 ghost use Rattle.integer.specs.definitions.Integer.{ℤ-ring};
-ghost use Rattle.chebyshev.specs.definitions.Product.{product};
-ghost use Rattle.model.specs.definitions.InnerContracts.{Factors, Limited, Multipliable, RoundedFrom, unlessLarge};
+ghost use Rattle.chebyshev.specs.definitions.Product.{productWalk};
+ghost use Rattle.model.specs.definitions.InnerContracts.{Factors, Limited, Multipliable, RoundedWalk, unlessLarge};
 ghost use Rattle.model.specs.definitions.Models.{scale, coefficientCount, productSize};
 ghost use Rattle.model.specs.definitions.Outcomes.{outcomeOf};
-ghost use Rattle.model.specs.definitions.Multiply.{productModel, multiplication};
+ghost use Rattle.model.specs.definitions.Multiply.{productModel, productVisits, multiplication};
 use crate::measure::fault_of;
 use crate::measure::measure;
 use crate::products::add_products;
@@ -26,6 +26,18 @@ const UNIT: i64 = 2 * Model::SCALE;
 // A kept degree that means MAX_DEGREE.
 const KEEP_ALL: u32 = 255;
 
+// A list C, rounded, and how many pairs the walk that formed it visited.
+pub struct RoundedProduct {
+    pub rounded: Rounded,
+    pub visits: usize,
+}
+
+// A product, and how many pairs were visited for it.
+pub struct Multiplied {
+    pub outcome: ModelOutcome,
+    pub visits: usize,
+}
+
 // What the radii lose: 2(A·e_b + B·e_a + e_a·e_b) of weights A, B and radii e_a, e_b.
 fn radius_loss(a: u64, ea: u64, b: u64, eb: u64) -> u64
     requires { ⌜ Limited a ea b eb ⌝ }
@@ -35,21 +47,24 @@ fn radius_loss(a: u64, ea: u64, b: u64, eb: u64) -> u64
 }
 
 // The list C of two lists of coefficients, rounded. It ends at the sum of the degrees.
-fn round_product(a: &[i32], b: &[i32], kept: usize) -> Rounded
+fn round_product(a: &[i32], b: &[i32], kept: usize) -> RoundedProduct
     requires { ⌜ Factors (now a) (now b) ⌝ }
     requires { ⌜ (kept ≤ coefficientCount) × (kept < length (now a) + length (now b)) ⌝ }
-    ensures { λ (r : Rounded). ⌜ RoundedFrom (2 * scale) (product ℤ-ring productSize (now (a .entry)) (now (b .entry))) kept r ⌝ }
+    ensures { λ (r : RoundedProduct).
+        ⌜ RoundedWalk (2 * scale) (productWalk ℤ-ring productSize (now (a .entry)) (now (b .entry))) kept r ⌝ }
 {
     let mut c = [0i64; PRODUCT_SIZE];
-    add_products(&mut c, a, b);
+    let visits = add_products(&mut c, a, b);
     let end = a.len() + b.len() - 1;
-    round(&c[..end], kept, UNIT)
+    let rounded = round(&c[..end], kept, UNIT);
+    RoundedProduct { rounded, visits }
 }
 
 // Of two good models, with their weights, to a kept degree within its limit.
-fn multiply_good(a: Model, b: Model, weight_a: u64, weight_b: u64, kept: u32) -> ModelOutcome
+fn multiply_good(a: Model, b: Model, weight_a: u64, weight_b: u64, kept: u32) -> Multiplied
     requires { ⌜ Multipliable a b «weight_a» «weight_b» kept ⌝ }
-    ensures { λ (r : ModelOutcome). ⌜ outcomeOf r ≡ unlessLarge (productModel kept a b) ⌝ }
+    ensures { λ (r : Multiplied). ⌜ outcomeOf (r .outcome) ≡ unlessLarge (productModel kept a b) ⌝ }
+    ensures { λ (r : Multiplied). ⌜ r .visits ≡ productVisits a b ⌝ }
 {
     let top = a.degree + b.degree;
     let degree = if kept < top { kept } else { top };
@@ -60,15 +75,20 @@ fn multiply_good(a: Model, b: Model, weight_a: u64, weight_b: u64, kept: u32) ->
         &second[..b.degree as usize + 1],
         degree as usize + 1,
     );
-    let coefficients = product.coefficients;
-    let loss = product.loss + radius_loss(weight_a, a.radius as u64, weight_b, b.radius as u64);
-    ModelOutcome::formed(
+    let rounded = product.rounded;
+    let coefficients = rounded.coefficients;
+    let loss = rounded.loss + radius_loss(weight_a, a.radius as u64, weight_b, b.radius as u64);
+    let outcome = ModelOutcome::formed(
         degree,
         coefficients,
-        product.weight,
+        rounded.weight,
         up_unsigned(loss, UNIT as u64),
         a.interval,
-    )
+    );
+    Multiplied {
+        outcome,
+        visits: product.visits,
+    }
 }
 
 pub fn multiply(a: Model, b: Model, kept: u32) -> ModelOutcome
@@ -93,5 +113,6 @@ pub fn multiply(a: Model, b: Model, kept: u32) -> ModelOutcome
     if Model::MAX_DEGREE < degree {
         return ModelOutcome::refused(Refusal::BadValue);
     }
-    multiply_good(a, b, first.weight, second.weight, degree)
+    let product = multiply_good(a, b, first.weight, second.weight, degree);
+    product.outcome
 }

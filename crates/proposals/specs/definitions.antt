@@ -4,5 +4,9 @@ pub mod Rounds
 pub mod Units
 pub mod Reciprocal
 pub mod Quotient
+pub mod Endings
+pub mod Finite
+pub mod Bits
+pub mod ExactCase
 pub mod InnerContracts
 pub mod Areas

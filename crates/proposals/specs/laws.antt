@@ -17,3 +17,7 @@ pub mod FiniteMaking
 pub mod Examples
 pub mod FormerProposals
 pub mod IntervalExamples
+pub mod OrderExamples
+pub mod SignedOperations
+pub mod TimesConstant
+pub mod ExactQuotient

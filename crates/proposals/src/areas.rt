@@ -1,13 +1,13 @@
 // The makers over lent areas: numbers behind those in use play no part and stay; an area that is itself too short is not written
 // to. If any area is too short, refusal 1 before all else.
 ghost use mathlib.Core.Path.{_≡_};
-ghost use mathlib.Core.List.{[], _∷_, _++_};
+ghost use mathlib.Core.List.{[], _∷_};
 ghost use Prim.Native.Nat.{_≤_};
 ghost use lib.ListN.{length};
 ghost use Rattle.model.specs.definitions.Area.{candidateSize, areaOut};
 ghost use Rattle.model.specs.definitions.Models.{maxDegree};
 ghost use Rattle.proposals.specs.definitions.Areas.{valueCount, roundSize, quotientSize, outcomeSize};
-ghost use Rattle.proposals.specs.definitions.Areas.{roundNumbers, candidateNumbers};
+ghost use Rattle.proposals.specs.definitions.Areas.{roundNumbers, quotientNumbers, candidateNumbers};
 ghost use Rattle.proposals.specs.definitions.Areas.{endingNumber, reciprocalIn, reciprocalAnswer, makeReciprocalAnswer};
 ghost use Rattle.proposals.specs.definitions.Areas.{quotientIn, quotientAnswer, makeQuotientAnswer};
 ghost use Rattle.proposals.specs.definitions.Areas.{unitsIn, unitsAnswer, toUnitsAnswer, areaValues};
@@ -19,6 +19,7 @@ use crate::reciprocal::make_reciprocal;
 use crate::types::CandidateOutcome;
 use crate::types::Ending;
 use crate::types::QuotientOutcome;
+use crate::types::QuotientRecord;
 use crate::types::ReciprocalOutcome;
 use crate::types::Round;
 use crate::units::to_units;
@@ -74,14 +75,15 @@ fn store_round(recorded: &mut [f64], round: Round)
 }
 
 // Stores the record of a quotient: f·w, then the round with w.
-fn store_quotient(recorded: &mut [f64], quotient: [f64; COEFFICIENTS], round: Round)
-    ensures { λ _. ⌜ now (recorded .exit) ≡ areaOut quotientSize (quotient ++ roundNumbers round) (now (recorded .entry)) ⌝ }
+fn store_quotient(recorded: &mut [f64], made: QuotientRecord)
+    ensures { λ _. ⌜ now (recorded .exit) ≡ areaOut quotientSize (quotientNumbers made) (now (recorded .entry)) ⌝ }
 {
     if recorded.len() < QUOTIENT_SIZE {
         return;
     }
+    let quotient = made.quotient;
     copy_values(&quotient, &mut recorded[..COEFFICIENTS]);
-    store_round(&mut recorded[COEFFICIENTS..], round);
+    store_round(&mut recorded[COEFFICIENTS..], made.round);
 }
 
 // Stores a candidate.
@@ -175,8 +177,7 @@ fn answer_quotient(
 {
     let verdict = made.verdict;
     let ending = made.ending;
-    let quotient = made.quotient;
-    store_quotient(recorded, quotient, made.round);
+    store_quotient(recorded, made.recorded);
     store_candidate(h, made.h);
     store_candidate(w, made.w);
     store_ending(outcome, ending);

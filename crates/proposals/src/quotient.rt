@@ -1,9 +1,11 @@
 // The maker of quotients: f times the reciprocal of g.
 ghost use mathlib.Core.Path.{_≡_};
 ghost use Rattle.proposals.specs.definitions.Quotient.{quotientProposal, quotientOf};
+ghost use Rattle.proposals.specs.definitions.ExactCase.{ExactQuotient};
 use crate::product::multiply;
 use crate::reciprocal::make;
 use crate::types::QuotientOutcome;
+use crate::types::QuotientRecord;
 use crate::units::to_units;
 use crate::values::values_of;
 use model::measure::fault_of;
@@ -17,6 +19,7 @@ use model::types::Verdict;
 // either.
 pub fn make_quotient(f: Model, g: Model) -> QuotientOutcome
     ensures { λ (r : QuotientOutcome). ⌜ quotientOf r ≡ quotientProposal f g ⌝ }
+    ensures { λ (r : QuotientOutcome). ⌜ ExactQuotient f g (quotientOf r) ⌝ }
 {
     if !is_good(f) {
         return QuotientOutcome::refused(fault_of(f));
@@ -51,8 +54,7 @@ pub fn make_quotient(f: Model, g: Model) -> QuotientOutcome
                 Verdict::Accepted => QuotientOutcome {
                     verdict: Verdict::Accepted,
                     ending,
-                    quotient,
-                    round,
+                    recorded: QuotientRecord { quotient, round },
                     h,
                     w,
                 },

@@ -3,6 +3,7 @@ ghost use mathlib.Core.Path.{_≡_};
 ghost use mathlib.Core.List.{map};
 ghost use Rattle.proposals.specs.definitions.Values.{valueOf};
 ghost use Rattle.proposals.specs.definitions.Reciprocal.{constantList, reciprocalRounds, reciprocalProposal, reciprocalOf};
+ghost use Rattle.proposals.specs.definitions.ExactCase.{ExactReciprocal};
 use crate::rounds::run_rounds;
 use crate::types::Ending;
 use crate::types::Made;
@@ -44,6 +45,7 @@ pub(crate) fn make(g: [i32; COEFFICIENTS]) -> Made
 // A proposal for 1/g.
 pub fn make_reciprocal(g: Model) -> ReciprocalOutcome
     ensures { λ (r : ReciprocalOutcome). ⌜ reciprocalOf r ≡ reciprocalProposal g ⌝ }
+    ensures { λ (r : ReciprocalOutcome). ⌜ ExactReciprocal g (reciprocalOf r) ⌝ }
 {
     if !is_good(g) {
         return ReciprocalOutcome::refused(fault_of(g));

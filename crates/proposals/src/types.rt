@@ -42,12 +42,17 @@ pub struct ReciprocalOutcome {
     pub w: Candidate,
 }
 
-// The same of a quotient: its record keeps f·w, and w in the round.
+// The record of a quotient: the f64 coefficients of f·w, and the round that keeps w.
+pub struct QuotientRecord {
+    pub quotient: [f64; COEFFICIENTS],
+    pub round: Round,
+}
+
+// A refused quotient likewise.
 pub struct QuotientOutcome {
     pub verdict: Verdict,
     pub ending: Ending,
-    pub quotient: [f64; COEFFICIENTS],
-    pub round: Round,
+    pub recorded: QuotientRecord,
     pub h: Candidate,
     pub w: Candidate,
 }
@@ -101,8 +106,10 @@ impl QuotientOutcome {
         QuotientOutcome {
             verdict: Verdict::Refused(refusal),
             ending: Ending::GivenUp(0.0),
-            quotient: [0.0; COEFFICIENTS],
-            round: zero_round(),
+            recorded: QuotientRecord {
+                quotient: [0.0; COEFFICIENTS],
+                round: zero_round(),
+            },
             h: zero_candidate(),
             w: zero_candidate(),
         }

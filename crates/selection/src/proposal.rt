@@ -1,8 +1,11 @@
 // The test of one proposal: degree and coefficients of h, then of w.
 ghost use mathlib.Core.Path.{_≡_};
 ghost use lib.ListN.{length};
+ghost use Rattle.model.specs.declared.types.Verdict.the-variants.{Accepted};
 ghost use Rattle.certificate.specs.definitions.Tests.{scratchAfter};
-ghost use Rattle.selection.specs.definitions.Proposal.{proposalRadius, proposalOf};
+ghost use Rattle.certificate.specs.definitions.Promise.{QuotientAllowed};
+ghost use Rattle.selection.specs.definitions.Proposal.{proposedAnswer, proposalRadius, proposalOf};
+ghost use Rattle.selection.specs.definitions.Promise.{partModel};
 use crate::types::ProposalOutcome;
 use certificate::quotient::quotient;
 use certificate::scratch::clear_scratch;
@@ -14,7 +17,7 @@ use model::types::Verdict;
 
 pub const PROPOSAL_SIZE: usize = 68;
 
-// One that is too short is refused before the models are looked at.
+// One that is too short is refused before the models are looked at. The last clause is what is promised of one that passes.
 pub(crate) fn test_proposal(
     f: Model,
     g: Model,
@@ -24,6 +27,8 @@ pub(crate) fn test_proposal(
     ensures { λ (r : ProposalOutcome).
         ⌜ proposalOf r ≡ proposalRadius (length (now (scratch .entry))) f g (now (proposal .entry)) ⌝ }
     ensures { λ _. ⌜ now (scratch .exit) ≡ scratchAfter (now (scratch .entry)) ⌝ }
+    ensures { λ (r : ProposalOutcome). ⌜ (r .verdict ≡ Accepted
+        → QuotientAllowed f g (partModel (proposedAnswer (now (proposal .entry)) .coefficients) (r .radius) (f .interval))) ⌝ }
 {
     if proposal.len() < PROPOSAL_SIZE {
         clear_scratch(scratch);

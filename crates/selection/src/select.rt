@@ -2,9 +2,10 @@
 ghost use mathlib.Core.Path.{_≡_};
 ghost use lib.ListN.{length};
 ghost use Rattle.certificate.specs.definitions.Tests.{scratchAfter};
-ghost use Rattle.selection.specs.definitions.Proposal.{proposalOf};
-ghost use Rattle.selection.specs.definitions.Select.{tighter, selection, selectionOf, selectedOf, IsPart};
-ghost use Rattle.selection.specs.definitions.Promise.{QuotientAllowed};
+ghost use Rattle.certificate.specs.definitions.Promise.{QuotientAllowed};
+ghost use Rattle.selection.specs.definitions.Proposal.{proposalRadius, proposalOf};
+ghost use Rattle.selection.specs.definitions.Select.{makeSelected, tighter, selection, selectionOf, selectedOf, IsPart};
+ghost use Rattle.selection.specs.definitions.Promise.{partModel, Tightest};
 use crate::proposal::test_proposal;
 use crate::types::ProposalOutcome;
 use crate::types::Selection;
@@ -38,7 +39,7 @@ fn select(a: ProposalOutcome, b: ProposalOutcome) -> Selection
 }
 
 // Tests two proposals for f/g and gives the coefficients of the tighter one, a part of its own slice; where neither passes, an
-// empty part of the first. The last clause is what is promised of the part.
+// empty part of the first. The last two clauses are what is promised of the part with its radius.
 pub fn quotient_of_two<'a>(
     f: Model,
     g: Model,
@@ -53,7 +54,11 @@ pub fn quotient_of_two<'a>(
         ≡ selection (length (now (scratch .entry))) f g (now (first .entry)) (now (second .entry)) ⌝ }
     ensures { λ r. ⌜ IsPart (now (chosen .exit)) (first .entry) (second .entry) r ⌝ }
     ensures { λ _. ⌜ now (scratch .exit) ≡ scratchAfter (now (scratch .entry)) ⌝ }
-    ensures { λ r. ⌜ (now (number .exit) ≡ 0 → QuotientAllowed f g (now r) (now (radius .exit))) ⌝ }
+    ensures { λ r. ⌜ (now (number .exit) ≡ 0 → QuotientAllowed f g (partModel (now r) (now (radius .exit)) (f .interval))) ⌝ }
+    ensures { λ _. ⌜ (now (number .exit) ≡ 0 → Tightest
+        (proposalRadius (length (now (scratch .entry))) f g (now (first .entry)))
+        (proposalRadius (length (now (scratch .entry))) f g (now (second .entry)))
+        (makeSelected (now (chosen .exit)) (now (radius .exit)))) ⌝ }
 {
     let a = test_proposal(f, g, first, scratch);
     let b = test_proposal(f, g, second, scratch);

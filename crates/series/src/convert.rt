@@ -5,7 +5,9 @@ ghost use Rattle.integer.specs.definitions.Integer.{ℤ-ring};
 ghost use Rattle.chebyshev.specs.definitions.Coefficients.{addLists, scaleList};
 ghost use Rattle.model.specs.definitions.InnerContracts.{unlessLarge};
 ghost use Rattle.model.specs.definitions.Outcomes.{outcomeOf};
+ghost use Rattle.model.specs.declared.types.Verdict.the-variants.{Accepted};
 ghost use Rattle.series.specs.definitions.Convert.{goodSeries, expandedFrom, seriesModel, conversion};
+ghost use Rattle.series.specs.definitions.Promise.{SeriesAllowed};
 ghost use Rattle.series.specs.definitions.InnerContracts.{Addable, Expandable};
 use crate::table::expansion_table;
 use crate::types::Series;
@@ -68,8 +70,10 @@ fn convert_good(s: Series) -> ModelOutcome
     )
 }
 
+// The last clause is what is promised of a converted model.
 pub fn from_series(s: Series) -> ModelOutcome
     ensures { λ (r : ModelOutcome). ⌜ outcomeOf r ≡ conversion s ⌝ }
+    ensures { λ (r : ModelOutcome). ⌜ (r .verdict ≡ Accepted → SeriesAllowed s (r .model)) ⌝ }
 {
     let coefficients = s.coefficients;
     let parts = measure_candidate(Candidate {

@@ -85,10 +85,6 @@ groupResidual n start c f = weight (residualList (group n start c) (group n star
 abbrev pub tested : List (Bool × ℕ) → Model → ℕ → ℕ → ℕ → Outcome Certificate
 tested ps r m n b = outcome ps (makeCertificate r m n b) zeroCertificate
 
--- refused with number k
-abbrev pub refusedTest : ℕ → Outcome Certificate
-refusedTest k = refused k zeroCertificate
-
 -- passed
 abbrev pub passedTest : Model → ℕ → ℕ → ℕ → Outcome Certificate
 passedTest r m n b = accepted (makeCertificate r m n b)

@@ -9,7 +9,7 @@ use lib.ListN.{replicate, drop, length}
 use Rattle.integer.specs.definitions.Rounding.{upℕ}
 use Rattle.chebyshev.specs.definitions.Coefficients.{weight}
 use Rattle.model.specs.definitions.Models.{scale, maxRadius, makeModel, zeroModel, candidateModel}
-use Rattle.model.specs.definitions.Outcomes.{Outcome, judged}
+use Rattle.model.specs.definitions.Outcomes.{Outcome, refused, judged}
 use Rattle.model.specs.declared.types.Candidate.{Candidate}
 use Rattle.model.specs.declared.types.Model.{Model}
 use Rattle.certificate.specs.declared.types.TestOutcome.{TestOutcome}
@@ -60,6 +60,10 @@ makeCertificate r m n b = record { model = r; m = m; N = n; b = b }
 -- "Any other number an entry answers, or a record holds, is zero on refusal too."
 abbrev pub zeroCertificate : Certificate
 zeroCertificate = makeCertificate zeroModel 0 0 0
+
+-- a test refused with number k
+abbrev pub refusedTest : ℕ → Outcome Certificate
+refusedTest k = refused k zeroCertificate
 
 -- what the code's answer means
 abbrev pub testOf : TestOutcome → Outcome Certificate

@@ -46,6 +46,19 @@ quotient-b f g h w = upℕ (weight (w .coefficients) * quotient-N f g h) scale
 unfoldable pub quotientRadius : Model → Model → Model → Model → ℕ
 quotientRadius f g h w = upℕ (quotient-b f g h w * scale) (scale - quotient-m g w)
 
+-- "The test: m < S and N ≤ 2^28.", and the result's radius is within 2^28
+abbrev pub QuotientHolds : Model → Model → Model → Model → Type 0
+QuotientHolds f g h w = (quotient-m g w < scale) × (quotient-N f g h ≤ 2 ^ 28) × (quotientRadius f g h w ≤ 2 ^ 28)
+
+-- "Result h with radius up(b·S/(S−m))", and m, N and b
+abbrev pub quotientGiven : Model → Model → Model → Model → Certificate
+quotientGiven f g h w =
+    makeCertificate
+    (makeModel (h .degree) (h .coefficients) (quotientRadius f g h w) (h .interval))
+    (quotient-m g w)
+    (quotient-N f g h)
+    (quotient-b f g h w)
+
 -- ---- the root test
 
 -- "m = up(weight(S² − C(w,h))/S)"

@@ -12,12 +12,11 @@ use Rattle.model.specs.definitions.Outcomes.{passing}
 use Rattle.model.specs.definitions.Multiply.{productList}
 use Rattle.model.specs.declared.types.Candidate.{Candidate}
 use Rattle.model.specs.declared.types.Model.{Model}
-use Rattle.certificate.specs.definitions.Tests.{scratchSize, placed}
+use Rattle.certificate.specs.definitions.Tests.{scratchSize, placed, refusedTest}
 use Rattle.certificate.specs.definitions.Quotient.{quotientContraction, quotientResidual, quotientNeeding, quotientTest}
 use Rattle.certificate.specs.definitions.Root.{rootContraction, rootResidual, rootNeeding, rootTest}
 use Rattle.certificate.specs.declared.types.RootRule.{RootRule}
 use Rattle.certificate.specs.definitions.Groups.{quotientFor, quotientInGroups, rootFor, rootInGroups}
-use Rattle.certificate.specs.definitions.InnerContracts.{refusedTest}
 use Rattle.certificate.specs.laws.Stages.{quotient-needs, root-needs}
 use Rattle.certificate.specs.laws.QuotientStages.{quotient-short}
 use Rattle.certificate.specs.laws.GroupLaws.{constant-groups, difference-groups}

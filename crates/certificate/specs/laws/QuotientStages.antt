@@ -12,9 +12,9 @@ use Rattle.model.specs.definitions.Intervals.{sameInterval}
 use Rattle.model.specs.definitions.Outcomes.{passing}
 use Rattle.model.specs.declared.types.Candidate.{Candidate}
 use Rattle.model.specs.declared.types.Model.{Model}
-use Rattle.certificate.specs.definitions.Tests.{scratchSize, displacement, placed}
+use Rattle.certificate.specs.definitions.Tests.{scratchSize, displacement, placed, refusedTest}
 use Rattle.certificate.specs.definitions.Quotient.{quotientTest, quotientNeeding, quotientContraction, quotientResidual, quotientModel}
-use Rattle.certificate.specs.definitions.InnerContracts.{QuotientReady, refusedTest, formedTest}
+use Rattle.certificate.specs.definitions.InnerContracts.{QuotientReady, formedTest}
 
 pub quotient-short : (len : ℕ) (f g : Model) (h w : Candidate) → len < scratchSize → quotientTest len f g h w ≡ refusedTest 1
 unfolding quotientNeeding passing

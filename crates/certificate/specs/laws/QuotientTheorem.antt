@@ -12,7 +12,7 @@ use Rattle.model.specs.declared.types.Candidate.{Candidate}
 use Rattle.model.specs.declared.types.Model.{Model}
 use Rattle.certificate.specs.definitions.Tests.{scratchSize, displacement, Certificate, makeCertificate, placed}
 use Rattle.certificate.specs.definitions.Quotient.{quotientTest, quotientContraction, quotientResidual, quotientModel, quotientCertificate}
-use Rattle.certificate.specs.definitions.TwoSums.{quotient-m, quotient-N, quotient-b, quotientRadius}
+use Rattle.certificate.specs.definitions.TwoSums.{quotient-m, quotient-N, quotient-b, quotientRadius, QuotientHolds, quotientGiven}
 use Rattle.certificate.specs.laws.TwoSumsLaws.{productList-good}
 use Rattle.certificate.specs.laws.Stages.{large-radius}
 use Rattle.certificate.specs.laws.QuotientConditions.{QuotientConditions, quotientResult, quotient-passes, quotient-result}
@@ -35,20 +35,11 @@ module _ (len : ℕ) (f g : Model) (h w : Candidate) (enough : scratchSize ≤ l
   abbrev w′ : Model
   w′ = placed f w
 
-  -- "The test: m < S and N ≤ 2^28.", and the result's radius is within 2^28
-  abbrev pub QuotientHolds : Type 0
-  QuotientHolds = (quotient-m g w′ < scale) × (quotient-N f g h′ ≤ 2 ^ 28) × (quotientRadius f g h′ w′ ≤ 2 ^ 28)
-
-  -- "Result h with radius up(b·S/(S−m))", and 01's m, N and b
-  abbrev pub quotientGiven : Certificate
-  quotientGiven =
-      makeCertificate (makeModel (h .degree) (h .coefficients) (quotientRadius f g h′ w′) (f .interval)) (quotient-m g w′) (quotient-N f g h′) (quotient-b f g h′ w′)
-
-  given-is : quotientCertificate f g h w ≡ quotientGiven
+  given-is : quotientCertificate f g h w ≡ quotientGiven f g h′ w′
   unfolding quotientRadius quotient-b displacement quotientModel
   given-is = rw (← contraction-is g w′ gg gw, ← residual-is f g h′ gg gh)
 
-  conditions-holds : QuotientConditions len f g h w ↔ QuotientHolds
+  conditions-holds : QuotientConditions len f g h w ↔ QuotientHolds f g h′ w′
   unfolding quotientRadius quotient-b displacement quotientModel
   conditions-holds =
       let radius = (quotientResult f g h w) .radius in
@@ -69,10 +60,10 @@ module _ (len : ℕ) (f g : Model) (h w : Candidate) (enough : scratchSize ≤ l
       )
 
   -- accepted where the test holds
-  pub quotient-accepted : QuotientHolds → quotientTest len f g h w ≡ accepted quotientGiven
+  pub quotient-accepted : QuotientHolds f g h′ w′ → quotientTest len f g h w ≡ accepted (quotientGiven f g h′ w′)
   quotient-accepted t = quotient-result len f g h w (conditions-holds .1 t) ∙ ap accepted given-is
 
   -- and only there
-  pub quotient-accepted-only : {c : Certificate} → quotientTest len f g h w ≡ accepted c → QuotientHolds × (c ≡ quotientGiven)
+  pub quotient-accepted-only : {c : Certificate} → quotientTest len f g h w ≡ accepted c → QuotientHolds f g h′ w′ × (c ≡ quotientGiven f g h′ w′)
   quotient-accepted-only e =
       let (conditions, same) = quotient-passes len f g h w e in (conditions-holds .0 conditions, same ∙ given-is)

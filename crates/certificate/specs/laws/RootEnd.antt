@@ -13,9 +13,9 @@ use Rattle.radius.specs.definitions.LeastRadius.{leastRadius}
 use Rattle.radius.specs.laws.LeastLaws.{least-found}
 use Rattle.radius.specs.declared.types.FoundRadius.the-variants.{Found, Missing}
 use Rattle.model.specs.declared.types.Model.{Model}
-use Rattle.certificate.specs.definitions.Tests.{withRadius}
+use Rattle.certificate.specs.definitions.Tests.{withRadius, refusedTest}
 use Rattle.certificate.specs.definitions.Root.{rootModel}
-use Rattle.certificate.specs.definitions.InnerContracts.{RootLast, refusedTest, passedTest, rootEnd}
+use Rattle.certificate.specs.definitions.InnerContracts.{RootLast, passedTest, rootEnd}
 use Rattle.certificate.specs.declared.types.RootRule.the-variants.{ByDiscriminant, ByLeastRadius}
 use Rattle.certificate.specs.laws.Stages.{large-radius}
 use Rattle.certificate.specs.laws.RootRadius.{numerator-bound}

@@ -89,7 +89,7 @@ module _ (len : ℕ) (f : Model) (h w : Candidate) (c : NumbersConditions len f 
       (rw (value-constant ℚ-ring x (whole (pos (scale * scale)))) at (valueAt-difference x on (pos (scale * scale) ∷ []) (productList w′ h′)))
 
   -- w(x) > 0
-  helper-value : (x : ℚ) → ∣ x ∣ℚ ≤ℚ whole (pos 1) → whole (pos 0) <ℚ valueAt x (w .coefficients)
+  pub helper-value : (x : ℚ) → ∣ x ∣ℚ ≤ℚ whole (pos 1) → whole (pos 0) <ℚ valueAt x (w .coefficients)
   unfolding rootContraction
   helper-value x on =
       helper-positive (whole (pos scale) *ℚ whole (pos scale)) (whole (pos contractionWeight)) (w .coefficients) (h .coefficients)
@@ -180,9 +180,10 @@ module _ (rule : RootRule) (len : ℕ) (f : Model) (h w : Candidate) {c : Certif
   unfolding rootModel
   root-interval = ap (λ (t : Certificate). t .model .interval) result-is
 
-  same-coefficients : c .model .coefficients ≡ h .coefficients
+  -- and has h's coefficients
+  pub root-coefficients : c .model .coefficients ≡ h .coefficients
   unfolding rootModel
-  same-coefficients = ap (λ (t : Certificate). t .model .coefficients) result-is
+  root-coefficients = ap (λ (t : Certificate). t .model .coefficients) result-is
 
   module _ (x v : ℚ) (on : OnInterval (f .interval) x) (allowed : Allows f x v) where
     -- the bounds of the root, around h's value
@@ -200,7 +201,7 @@ module _ (rule : RootRule) (len : ℕ) (f : Model) (h w : Candidate) {c : Certif
         let (r, low-r, r-high, r-above, r-below) =
         root-choice ℚ-ordered _ _ v low high (units-nonneg (c .model .radius)) (root-sound .reaches) (root-sound .above) (root-sound .below)
         (square low-fits) high-nonneg (_⟨≼⟩_ ℚ-ordered below high-fits) ordered in
-        (r, low-r, r-high, subst (λ i. AllowsAt (c .model) (position i x) r) (sym root-interval) (between-allows (c .model) (h .coefficients) (position (f .interval) x) r same-coefficients r-above r-below))
+        (r, low-r, r-high, subst (λ i. AllowsAt (c .model) (position i x) r) (sym root-interval) (between-allows (c .model) (h .coefficients) (position (f .interval) x) r root-coefficients r-above r-below))
       where
         square : (low ≡ whole (pos 0)) ⊎ ((whole (pos 0) <ℚ low) × (low *ℚ low ≤ℚ l)) → (low ≡ whole (pos 0)) ⊎ (low *ℚ low ≤ℚ v)
         square (inl e) = inl e

@@ -10,8 +10,8 @@ use Rattle.model.specs.declared.types.Candidate.{Candidate}
 use Rattle.model.specs.declared.types.Model.{Model}
 use Rattle.certificate.specs.definitions.Root.{rootPlaces, rootContraction, rootResidual, rootTest, rootNeeding}
 use Rattle.certificate.specs.declared.types.RootRule.{RootRule}
-use Rattle.certificate.specs.definitions.Tests.{displacement, zeroCertificate, placed}
-use Rattle.certificate.specs.definitions.InnerContracts.{RootLast, Reach, makeReach, zeroReach, rootReach, refusedTest, rootEnd}
+use Rattle.certificate.specs.definitions.Tests.{displacement, zeroCertificate, placed, refusedTest}
+use Rattle.certificate.specs.definitions.InnerContracts.{RootLast, Reach, makeReach, zeroReach, rootReach, rootEnd}
 use Rattle.certificate.specs.laws.Stages.{displacement-bound}
 use Rattle.certificate.specs.laws.RootConditions.{NumbersConditions, numbers-conditions}
 use Rattle.certificate.specs.laws.RootRadius.{gap-bound}

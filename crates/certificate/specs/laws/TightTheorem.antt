@@ -19,9 +19,8 @@ use Rattle.radius.specs.declared.types.FoundRadius.{FoundRadius}
 use Rattle.radius.specs.declared.types.FoundRadius.the-variants.{Found, Missing}
 use Rattle.model.specs.declared.types.Candidate.{Candidate}
 use Rattle.model.specs.declared.types.Model.{Model}
-use Rattle.certificate.specs.definitions.Tests.{scratchSize, withRadius, Certificate, makeCertificate, placed}
+use Rattle.certificate.specs.definitions.Tests.{scratchSize, withRadius, Certificate, makeCertificate, placed, refusedTest}
 use Rattle.certificate.specs.definitions.Root.{rootModel, rootContraction, rootResidual, rootCertificate, rootTest}
-use Rattle.certificate.specs.definitions.InnerContracts.{refusedTest}
 use Rattle.certificate.specs.definitions.TwoSums.{root-m, root-b, RootNumbersHold, rootGiven, TightSatisfies, TightHolds}
 use Rattle.certificate.specs.declared.types.RootRule.the-variants.{ByDiscriminant, ByLeastRadius}
 use Rattle.certificate.specs.laws.LeastAlgebra.{smaller-fits, discriminant-by}

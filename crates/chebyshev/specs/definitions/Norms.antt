@@ -2,8 +2,14 @@
 use mathlib.Core.List.{List, [], _∷_}
 use Prim.Native.Nat.{ℕ, suc}
 use lib.IntN.{pos}
+use Rattle.integer.specs.definitions.Fraction.{ℚ, whole, _+ℚ_, ∣_∣ℚ}
 use Rattle.integer.specs.definitions.Ring.{CommutativeRing}
 use Rattle.integer.specs.definitions.OrderedRing.{OrderedRing}
+
+-- Σ |c_k| of a list of fractions
+unfoldable pub totalAbsolute : List ℚ → ℚ
+totalAbsolute [] = whole (pos 0)
+totalAbsolute (c ∷ cs) = ∣ c ∣ℚ +ℚ totalAbsolute cs
 
 module _ (O : OrderedRing) where
   open OrderedRing O using (ring, abs)

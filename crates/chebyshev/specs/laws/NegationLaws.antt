@@ -9,7 +9,7 @@ use lib.ListN.{length, take, drop, replicate}
 use Rattle.integer.specs.laws.Parts.{abs-neg}
 use Rattle.integer.specs.laws.Difference.{all1, all2, differences}
 use Rattle.integer.specs.definitions.Integer.{ℤ-ring}
-use Rattle.chebyshev.specs.definitions.Coefficients.{weight, addLists, subtractLists}
+use Rattle.chebyshev.specs.definitions.Coefficients.{weight, addLists, scaleList, subtractLists}
 use Rattle.chebyshev.specs.definitions.Negation.{none, every, odd, negatedIf, negatedFrom}
 use Rattle.chebyshev.specs.definitions.Product.{distance, addAt, addPair, Walk, visit, addTerm, addTerms, product, addAtBy, addPairBy, addTermBy, addTermsBy}
 
@@ -92,6 +92,24 @@ module _ (chosen : ℕ → Bool) where
       opposites k [] = refl
       opposites k (c ∷ b) = ap₂ _∷_ (swap (chosen k) c) (opposites (suc k) b)
 
+  -- so the weight of a difference stays
+  pub difference-weight : (a b : List ℤ) {a′ b′ : List ℤ} → a′ ≡ negatedFrom chosen 0 a → b′ ≡ negatedFrom chosen 0 b
+      → weight (subtractLists ℤ-ring a′ b′) ≡ weight (subtractLists ℤ-ring a b)
+  difference-weight a b e e′ =
+      ap₂ (λ c c′. weight (subtractLists ℤ-ring c c′)) e e′
+      ∙ ap weight (negated-difference 0 a b)
+      ∙ weight-negated 0 (subtractLists ℤ-ring a b)
+
+  pub scale-negated : (k : ℕ) (c : ℤ) (a : List ℤ) → scaleList ℤ-ring c (negatedFrom chosen k a) ≡ negatedFrom chosen k (scaleList ℤ-ring c a)
+  unfolding scaleList negatedFrom
+  scale-negated k c [] = refl
+  scale-negated k c (x ∷ a) = ap₂ _∷_ (negated-right (chosen k) c x) (scale-negated (suc k) c a)
+
+  -- a bare number, where place 0 is not chosen
+  pub constant-negated : chosen 0 ≡ false → (c : ℤ) → c ∷ [] ≡ negatedFrom chosen 0 (c ∷ [])
+  unfolding negatedFrom
+  constant-negated e c = ap (λ b. negatedIf b c ∷ []) (sym e)
+
   addAt-negated : (m : ℕ) (c : List ℤ) (k : ℕ) (v : ℤ) → negatedFrom chosen m (addAt ℤ-ring c k v) ≡ addAt ℤ-ring (negatedFrom chosen m c) k (negatedIf (chosen (m + k)) v)
   unfolding negatedFrom addAtBy
   addAt-negated m [] k v = refl
@@ -124,6 +142,15 @@ signs-left = record { at-sum = λ i j x y. negated-left true x y; at-distance = 
 
 pub signs-right : Signs none every every
 signs-right = record { at-sum = λ i j x y. negated-right true x y; at-distance = λ i j x y. negated-right true x y }
+
+pub signs-none : Signs none none none
+signs-none = record { at-sum = λ i j x y. refl; at-distance = λ i j x y. refl }
+
+pub signs-both : Signs every every none
+signs-both = record { at-sum = λ i j x y. both x y; at-distance = λ i j x y. both x y }
+  where
+    both : (x y : ℤ) → negℤ x *ℤ negℤ y ≡ x *ℤ y
+    both = all2 _ (simp differences (omega arith))
 
 not-not : (b : Bool) → not (not b) ≡ b
 not-not true = refl

@@ -7,6 +7,8 @@ use native.Mathlib.Omega.{arith}
 use lib.IntN.{ℤ, pos, natAbs}
 use lib.ListN.{getD, take, drop, replicate, take-append-drop}
 use Rattle.integer.specs.laws.Embedding.{ι-suc, ι-nonneg, ι-abs}
+use Rattle.integer.specs.definitions.Fraction.{ℚ, _+ℚ_, ∣_∣ℚ}
+use Rattle.integer.specs.laws.FractionOrder.{ℚ-ordered}
 use Rattle.integer.specs.definitions.Ring.{CommutativeRing}
 use Rattle.integer.specs.laws.Solver.{reify, solve}
 use Rattle.integer.specs.definitions.OrderedRing.{OrderedRing}
@@ -14,7 +16,7 @@ use Rattle.integer.specs.laws.OrderedRingLaws.{by-certificate, le-refl, le-of-e
 use Rattle.chebyshev.specs.definitions.Recurrences.{firstKind}
 use Rattle.chebyshev.specs.laws.RecurrenceLaws.{first-bound}
 use Rattle.chebyshev.specs.definitions.Coefficients.{weight, valueFrom, value, addLists, scaleList, subtractLists}
-use Rattle.chebyshev.specs.definitions.Norms.{norm}
+use Rattle.chebyshev.specs.definitions.Norms.{norm, totalAbsolute}
 use Rattle.chebyshev.specs.laws.CoefficientLaws.{add-zero, value-subtract, getD-add, getD-subtract}
 
 module _ (O : OrderedRing) where
@@ -181,3 +183,9 @@ module _ (O : OrderedRing) where
 
   pub value-weight : (x : A) (a : List ℤ) → abs x ≼ ι (pos 1) → abs (value ring x (map ι a)) ≼ ι (pos (weight a))
   value-weight x a h = rw norm-whole at (value-bound x (map ι a) h)
+
+-- over the fractions it is their total absolute value
+pub norm-total : (a : List ℚ) → norm ℚ-ordered a ≡ totalAbsolute a
+unfolding norm totalAbsolute
+norm-total [] = refl
+norm-total (c ∷ a) = ap (λ n. ∣ c ∣ℚ +ℚ n) (norm-total a)

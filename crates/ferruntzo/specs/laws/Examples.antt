@@ -36,7 +36,7 @@ use Rattle.job.specs.definitions.Step.{command}
 use Rattle.job.specs.definitions.Run.{run, jobOutcome}
 use Rattle.job.specs.definitions.Work.{checkNeeding, workNeeding, workWith, resultWords, scratchAfterJob}
 use Rattle.ferruntzo.specs.definitions.Operations.{operationAnswer, outcomeIn, binaryAnswer, evaluationAnswer, boundsIn, evaluateAnswer}
-use Rattle.ferruntzo.specs.definitions.Certificates.{testAnswer, testIn, rootAnswer, testFits}
+use Rattle.ferruntzo.specs.definitions.Certificates.{testAnswer, testIn, quotientAnswer, rootAnswer, testFits}
 use Rattle.ferruntzo.specs.definitions.Jobs.{jobAnswer, checkAnswer}
 use Rattle.ferruntzo.specs.definitions.Conversions.{seriesAnswer}
 use Rattle.ferruntzo.specs.definitions.Selections.{selectionAnswer, selectionIn, quotientOfTwoAnswer}
@@ -110,14 +110,29 @@ pub tests :
 unfolding testIn areaOut scratchAfter rootNeeding rootPlaces rootContraction rootResidual rootModel leastRadius firstOf displacement coefficientSum productList passing sameInterval goodEnds partsWithinLimits good tooLarge zeroModel weight addLists subtractLists scaleList addAtBy addPairBy addTermBy addTermsBy product upℕ zeros
 tests = (refl, refl, refl, refl, refl, refl)
 
--- two proposals for 1/3 with the helper 1/3: the first has 67 numbers, the second is chosen with radius 2; neither passes; a model area of
--- 36 numbers; a scratch of 15 and short proposals; an answer of 1
+-- what would show if two areas or numbers were exchanged in definition and code alike: 1/3 with f, g, h, w, m, N, b and the radii all
+-- different; the root of 4 + 40 units by each rule, with radius 17 and with the least one, 9
+pub accepted-tests :
+    (quotientAnswer (area 0 (pos 1048576 ∷ []) 34 ++ (pos 5 ∷ standardEnds)) (area 0 (pos 3145728 ∷ []) 34 ++ (pos 2 ∷ standardEnds)) (area 0 (pos 349530 ∷ []) 34) (area 0 (pos 349500 ∷ []) 34)
+    (nines 17) (nines 38) (9 ∷ 9 ∷ 9 ∷ 9 ∷ [])
+    ≡ testAnswer 0 (zeros 16 ++ nines 1) (pos 0 ∷ pos 349530 ∷ (zeros 32 ++ (pos 8 ∷ (standardEnds ++ nines 1)))) (77 ∷ 20 ∷ 7 ∷ 9 ∷ []))
+    × (rootAnswer ByDiscriminant (area 0 (pos 4194344 ∷ []) 34 ++ (pos 4 ∷ standardEnds)) (area 0 (pos 2097155 ∷ []) 34) (area 0 (pos 262137 ∷ []) 34) (nines 17) (nines 38) (9 ∷ 9 ∷ 9 ∷ 9 ∷ [])
+    ≡ testAnswer 0 (zeros 16 ++ nines 1) (pos 0 ∷ pos 2097155 ∷ (zeros 32 ++ (pos 17 ∷ (standardEnds ++ nines 1)))) (27 ∷ 32 ∷ 8 ∷ 9 ∷ []))
+    × (rootAnswer ByLeastRadius (area 0 (pos 4194344 ∷ []) 34 ++ (pos 4 ∷ standardEnds)) (area 0 (pos 2097155 ∷ []) 34) (area 0 (pos 262137 ∷ []) 34) (nines 17) (nines 38) (9 ∷ 9 ∷ 9 ∷ 9 ∷ [])
+    ≡ testAnswer 0 (zeros 16 ++ nines 1) (pos 0 ∷ pos 2097155 ∷ (zeros 32 ++ (pos 9 ∷ (standardEnds ++ nines 1)))) (27 ∷ 32 ∷ 8 ∷ 9 ∷ []))
+unfolding testIn areaOut scratchAfter quotientNeeding quotientContraction quotientResidual quotientModel rootNeeding rootPlaces rootContraction rootResidual rootModel leastRadius firstOf displacement coefficientSum productList passing sameInterval goodEnds partsWithinLimits good tooLarge zeroModel weight addLists subtractLists scaleList addAtBy addPairBy addTermBy addTermsBy product upℕ zeros
+accepted-tests = (refl, refl, refl)
+
+-- two proposals for 1/3 with the helper 1/3: the first has 67 numbers, the second is chosen with radius 2; the second of radii 9 and 5;
+-- neither passes; a model area of 36 numbers; a scratch of 15 and short proposals; an answer of 1
 abbrev third : List ℤ
 third = area 0 (pos 349525 ∷ []) 34
 
 pub selections :
     (quotientOfTwoAnswer one (modelArea 0 (pos 3145728 ∷ []) ++ nines 1) (third ++ drop 1 third) (third ++ (third ++ nines 1)) (nines 66) (9 ∷ 9 ∷ 9 ∷ [])
     ≡ selectionAnswer 0 (zeros 16 ++ nines 50) (2 ∷ 2 ∷ 9 ∷ []))
+    × (quotientOfTwoAnswer one (modelArea 0 (pos 3145728 ∷ [])) (area 0 (pos 349533 ∷ []) 34 ++ third) (area 0 (pos 349529 ∷ []) 34 ++ third) (nines 17) (9 ∷ 9 ∷ 9 ∷ [])
+    ≡ selectionAnswer 0 (zeros 16 ++ nines 1) (2 ∷ 5 ∷ 9 ∷ []))
     × (quotientOfTwoAnswer one (modelArea 0 (pos 3145728 ∷ [])) (third ++ zeros 34) third (nines 17) (9 ∷ 9 ∷ 9 ∷ [])
     ≡ selectionAnswer 5 (zeros 16 ++ nines 1) (0 ∷ 0 ∷ 9 ∷ []))
     × (quotientOfTwoAnswer (drop 1 one) one (third ++ third) (third ++ third) (nines 17) (9 ∷ 9 ∷ 9 ∷ [])
@@ -125,7 +140,7 @@ pub selections :
     × (quotientOfTwoAnswer one one [] third (nines 15) (9 ∷ 9 ∷ 9 ∷ []) ≡ selectionAnswer 1 (nines 15) (0 ∷ 0 ∷ 9 ∷ []))
     × (quotientOfTwoAnswer one one (third ++ third) (third ++ third) (nines 16) (9 ∷ []) ≡ selectionAnswer 1 (zeros 16) (9 ∷ []))
 unfolding selectionIn areaOut scratchAfter tighter proposalNeeding quotientNeeding quotientContraction quotientResidual quotientModel displacement productList passing sameInterval goodEnds partsWithinLimits good tooLarge zeroModel weight addLists subtractLists scaleList addAtBy addPairBy addTermBy addTermsBy product upℕ zeros
-selections = (refl, refl, refl, refl, refl)
+selections = (refl, refl, refl, refl, refl, refl)
 
 -- a job refused at command 1, the count before the command; a job accepted with one result; and areas that are too short
 pub checks :

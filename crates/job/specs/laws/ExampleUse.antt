@@ -1,28 +1,23 @@
 -- Requirement 3 put to use on the job of ExampleJob.antt, from its definition alone and over areas that are long enough: the job is
 -- accepted with its thirteen results, each is the model that 01 gives for it, and allows its exact value at 1/3.
-use mathlib.Core.Path.{_≡_, refl, ap, sym, _∙_, subst, subst⁻¹}
+use mathlib.Core.Path.{_≡_, refl, ap, sym, _∙_, subst⁻¹}
 use mathlib.Core.Bool.{Bool}
 use mathlib.Core.List.{List}
-use mathlib.Core.Logic.{inl, inr}
 use Prim.Native.Nat.{ℕ, _<_}
-use native.Mathlib.Omega.{arith}
 use lib.IntN.{ℤ}
-use lib.ListN.{length}
 use lib.Signed.{leZ-yes}
 use Rattle.integer.specs.laws.FractionLaws.{whole-is}
 use Rattle.integer.specs.laws.PairLaws.{den-is}
 use Rattle.integer.specs.laws.FractionOrder.{fraction-le, fraction-neg}
 use Rattle.model.specs.definitions.Outcomes.{Passed}
-use Rattle.model.specs.laws.PlaceLaws.{none-first}
 use Rattle.model.specs.definitions.Allowed.{Allows, OnInterval}
 use Rattle.job.specs.definitions.Outcomes.{JobOutcome, accepted}
-use Rattle.job.specs.definitions.Order.{Meets}
-use Rattle.job.specs.laws.OrderLaws.{accepted-unless-refused}
-use Rattle.job.specs.laws.Accepted.{accepted-read}
+use Rattle.job.specs.definitions.Order.{EndsWith}
+use Rattle.job.specs.laws.OrderLaws.{accepted-exactly}
+use Rattle.job.specs.laws.EveryJob.{ends-accepted, ends-models}
 use Rattle.job.specs.definitions.Work.{storedResult, modelsIn}
-use Rattle.job.specs.definitions.Requirement.{Permitted, Overlaps, Made, Results, Requirement3}
-use Rattle.job.specs.laws.MadeUnique.{made-unique}
-use Rattle.job.specs.laws.WorkLaws.{length-modelsIn, modelsIn-at}
+use Rattle.job.specs.definitions.Requirement.{Permitted, Overlaps, Results, Requirement3}
+use Rattle.job.specs.laws.WorkLaws.{modelsIn-at}
 use Rattle.job.specs.definitions.Operations.{resultAt}
 use Rattle.model.specs.definitions.Intervals.{standardInterval}
 use Rattle.model.specs.laws.StandardInterval.{on-standard}
@@ -40,44 +35,25 @@ inside = on-standard (simp (whole-is, fraction-neg, fraction-le, den-is) (leZ-ye
 all-standard : (i : ℕ) → i < 13 → resultAt exampleResults i .interval ≡ standardInterval
 all-standard = upto-at (λ i. resultAt exampleResults i .interval ≡ standardInterval) 13 (((((((((((((tt, refl), refl), refl), refl), refl), refl), refl), refl), refl), refl), refl), refl), refl)
 
--- ---- the job meets no numbered refusal
-
-meets-none : {areas : List (Bool × ℕ)} → Passed areas → (n k : ℕ) → ¬ Meets areas exampleJob n k
-meets-none f n k (inl m) = none-first f (m .0)
-meets-none f n k (inr m) = accepted-unless-refused exampleJob .0 (exampleResults, example-run) n k (m .1)
-
--- the commands give its results
-made : Made exampleCommands exampleResults
-made =
-    let r = accepted-read exampleJob exampleResults example-run in
-    let e : r .0 ≡ exampleCommands = cc (r .1, example-read) in
-    subst (λ l. Made l exampleResults) e (r .2)
-
 -- ---- what the definition says of it
 
 module _ {areas : List (Bool × ℕ)} {answer : JobOutcome ℕ} {work : List ℤ} (claim : Requirement3 areas exampleJob answer work)
     (fit : Passed areas) where
-  answered : (count : ℕ) × (answer ≡ accepted count)
-  answered = claim .accepts (meets-none fit)
-
-  abbrev results : Results exampleJob (answered .0) work
-  results = claim .results (answered .0) (answered .1)
-
-  commands-are : results .commands ≡ exampleCommands
-  commands-are = cc (results .read, example-read)
-
-  models-are : modelsIn work (answered .0) ≡ exampleResults
-  models-are = made-unique (subst (λ l. Made l (modelsIn work (answered .0))) commands-are (results .made)) made
-
-  count-is : answered .0 ≡ 13
-  count-is = sym (length-modelsIn work (answered .0)) ∙ ap length models-are
+  ends : EndsWith exampleJob exampleResults
+  ends = accepted-exactly exampleJob exampleResults .0 example-run
 
   -- it is accepted with thirteen results, and these are its models
   pub example-answer : answer ≡ accepted 13
-  example-answer = answered .1 ∙ ap accepted count-is
+  example-answer = ends-accepted claim fit ends
 
   pub example-models : modelsIn work 13 ≡ exampleResults
-  example-models = ap (modelsIn work) (sym count-is) ∙ models-are
+  example-models = ends-models claim fit ends
+
+  abbrev results : Results exampleJob 13 work
+  results = claim .results 13 example-answer
+
+  commands-are : results .commands ≡ exampleCommands
+  commands-are = cc (results .read, example-read)
 
   inside-at : (i : ℕ) → i < 13 → OnInterval (storedResult work i .interval) third
   inside-at i h =
@@ -87,11 +63,11 @@ module _ {areas : List (Bool × ℕ)} {answer : JobOutcome ℕ} {work : List ℤ
   -- its exact values at 1/3 are allowed by the models in the work area
   pub example-allowed : (i : ℕ) → i < 13 → Allows (storedResult work i) third (exampleValue i)
   example-allowed i h =
-      exact-allowed claim (answered .1) third (omega (arith, count-is)) (inside-at i h)
+      exact-allowed claim example-answer third h (inside-at i h)
       (subst⁻¹ (λ l. Exact l third exampleValue i) commands-are (example-exact i h))
 
   -- and its boxes overlap them
   pub example-overlaps : (i : ℕ) → i < 13 → Overlaps (exampleBox i) (storedResult work i) third
   example-overlaps i h =
-      results .vouched i (omega (arith, count-is)) third (inside-at i h) .overlaps exampleBox
+      results .vouched i h third (inside-at i h) .overlaps exampleBox
       (subst⁻¹ (λ l. Permitted l third exampleBox i) commands-are (example-permitted i h))

@@ -1,35 +1,23 @@
 -- Requirement 3 put to use, continued: boxes formed by 01's rules, result after result, overlap the models of an accepted job.
--- The rules are said here once more, by maker and of any boxes, so that a rule that `Permitted` narrows is noticed.
+-- The rules (`Formed`) are those of any boxes, by maker, so that a rule that `Permitted` narrows is noticed.
 use mathlib.Core.Path.{_≡_, refl}
 use mathlib.Core.Bool.{Bool}
 use mathlib.Core.List.{List}
-use mathlib.Core.Logic.{_⊎_}
 use Prim.Native.Nat.{ℕ, zero, suc, _<_}
 use native.Mathlib.Omega.{arith}
 use borrow.Author.Tests.{leb-false}
-use lib.IntN.{ℤ, pos}
-use Rattle.integer.specs.definitions.Fraction.{ℚ, whole, _+ℚ_, _-ℚ_, _*ℚ_, _≤ℚ_, _<ℚ_, _/ℚ_}
-use Rattle.model.specs.definitions.Allowed.{Allows}
+use lib.IntN.{ℤ}
+use Rattle.integer.specs.definitions.Fraction.{ℚ}
 use Rattle.job.specs.definitions.Operations.{Maker, load, add, subtract, multiply, quotient, root}
 use Rattle.job.specs.definitions.Decode.{Command, result}
 use Rattle.job.specs.definitions.Reader.{commandFor}
 use Rattle.job.specs.definitions.Outcomes.{JobOutcome, accepted}
 use Rattle.job.specs.definitions.Work.{storedResult}
 use Rattle.job.specs.laws.CommandLaws.{both-below}
-use Rattle.job.specs.definitions.Requirement.{Box, Lies, ContainsFour, Permitted, load-box, add-box, subtract-box, multiply-box, quotient-box, root-box, Overlaps, Requirement3}
+use Rattle.job.specs.definitions.Requirement.{Box, Permitted, load-box, add-box, subtract-box, multiply-box, quotient-box, root-box, Overlaps, Requirement3}
+use Rattle.job.specs.definitions.FormedBoxes.{Formed}
 use Rattle.job.specs.laws.ExactAllowed.{OnResult, vouchedFor, cs}
 use Rattle.job.specs.laws.ExactExists.{named, maker}
-
--- the box of result i by its command
-abbrev pub Formed : ℚ → (ℕ → Box) → ℕ → Maker → Type 0
-Formed x box i (load m) = Allows m x (box i .low) × (box i .high ≡ box i .low)
-Formed x box i (add j k) = (box i .low ≡ box j .low +ℚ box k .low) × (box i .high ≡ box j .high +ℚ box k .high)
-Formed x box i (subtract j k) = (box i .low ≡ box j .low -ℚ box k .high) × (box i .high ≡ box j .high -ℚ box k .low)
-Formed x box i (multiply j k d) = ContainsFour _*ℚ_ (box j) (box k) (box i)
-Formed x box i (quotient j k h w) = (¬ Lies (whole (pos 0)) (box k)) × ContainsFour _/ℚ_ (box j) (box k) (box i)
-Formed x box i (root rule j h w) =
-    ((box i .low ≡ whole (pos 0)) ⊎ ((whole (pos 0) <ℚ box i .low) × ((box i .low *ℚ box i .low) ≤ℚ box j .low)))
-    × (whole (pos 0) ≤ℚ box i .high) × (box j .high ≤ℚ (box i .high *ℚ box i .high))
 
 -- ---- an accepted job
 

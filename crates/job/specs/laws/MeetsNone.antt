@@ -1,5 +1,6 @@
--- Requirement 3 put to use, continued: a job is accepted only if its commands meet no numbered refusal.
-use mathlib.Core.Path.{_≡_, ap, sym, _∙_}
+-- Requirement 3 put to use, continued: a job is accepted only if its commands meet no numbered refusal; and a job whose commands make
+-- results is accepted with them.
+use mathlib.Core.Path.{_≡_, ap, sym, subst, _∙_}
 use mathlib.Core.Bool.{Bool}
 use mathlib.Core.List.{List, [], _∷_, _++_, append-assoc, append-nil}
 use mathlib.Core.Logic.{_⊎_, inl, inr}
@@ -16,12 +17,14 @@ use Rattle.job.specs.definitions.Decode.{Command, edition, result, finis
 use Rattle.job.specs.definitions.Reading.{commandRead, nextAt, readingPlaces}
 use Rattle.job.specs.definitions.Reader.{JobReading, well, ill, readOn, readFrom, jobReading, commandFor}
 use Rattle.job.specs.definitions.Outcomes.{JobOutcome, accepted}
+use Rattle.job.specs.definitions.Run.{jobOutcome}
 use Rattle.job.specs.definitions.Order.{operationPlaces, commandPlaces, RefusesAt}
 use Rattle.job.specs.laws.CommandLaws.{operation-refuses}
 use Rattle.job.specs.definitions.Requirement.{Made, Requirement3}
 use Rattle.job.specs.laws.MadeLaws.{made-length, made-at, MadeBy}
-use Rattle.job.specs.laws.MadeUnique.{same-first}
-use Rattle.job.specs.laws.Accepted.{Reached, reached, onward, reads-there}
+use Rattle.job.specs.laws.MadeUnique.{same-first, made-unique}
+use Rattle.job.specs.laws.Accepted.{Reached, reached, onward, reads-there, accepted-read}
+use Rattle.job.specs.laws.OrderLaws.{accepted-unless-refused}
 
 -- ---- reading only adds commands
 
@@ -95,6 +98,14 @@ module _ {cs : List Command} {rs : List Model} (made : Made cs rs) where
           by-operation k (onward (m .2) h) (h .cs) n (commandRead job k (length (m .0)) (m .1)) (h .made)
           (sym (passing-passed (readingPlaces job k (length (m .0)) (m .1)) _ _ (g .0)) ∙ reads-there (m .2) h ∙ read)
           (λ l e. reads-more (length job + 1 - (k + 1)) job (k + 1) l (nextAt job k (length (m .0)) (m .1)) e) (g .1)
+
+-- a job whose commands make the results rs is accepted with them
+pub made-accepted : {cs : List Command} {rs : List Model} → Made cs rs → (job : List ℕ) → jobReading job ≡ well cs → jobOutcome job ≡ accepted rs
+made-accepted {cs} made job read =
+    let (rs′, e) = accepted-unless-refused job .1 (refuses-nowhere made job read) in
+    let (cs′, read′, made′) = accepted-read job rs′ e in
+    let same : cs′ ≡ cs = cc (read, read′) in
+    e ∙ ap accepted (made-unique (subst (λ (l : List Command). Made l rs′) same made′) made)
 
 -- an accepted job meets no refusal in its commands
 pub accepted-meets-none : {areas : List (Bool × ℕ)} {job : List ℕ} {answer : JobOutcome ℕ} {work : List ℤ} → Requirement3 areas job answer work

@@ -80,9 +80,10 @@ operations =
     -- roots of 1: w = 0; P10's h = 2 with w = 1/4
     ∷ (job (one ++ ((0x21 ∷ 0 ∷ block 0 (1048576 ∷ [])) ++ block 0 [])), refused 7 2)
     ∷ (job (one ++ ((0x21 ∷ 0 ∷ block 0 (2097152 ∷ [])) ++ block 0 (262144 ∷ []))), refused 8 2)
-    -- 32 results, and a 33rd
+    -- 32 results, and a 33rd; one that names result 32 meets 12 before 13
     ∷ (job (loadBytes 0 [] 0 ++ repeated 31 (0x12 ∷ 0 ∷ 0 ∷ [])), accepted 32)
     ∷ (job (loadBytes 0 [] 0 ++ repeated 32 (0x12 ∷ 0 ∷ 0 ∷ [])), refused 13 33)
+    ∷ (job (loadBytes 0 [] 0 ++ (repeated 31 (0x12 ∷ 0 ∷ 0 ∷ []) ++ (0x12 ∷ 0 ∷ 32 ∷ []))), refused 12 33)
     ∷ []
 
 pub operations-are : map (λ c. counted (jobOutcome (c .0))) operations ≡ map (λ c. c .1) operations

@@ -9,6 +9,7 @@ use lib.Signed.{_<ℤ_}
 use lib.ListN.{length, take, drop, replicate}
 use Rattle.integer.specs.definitions.Integer.{ℤ-ring}
 use Rattle.chebyshev.specs.definitions.Coefficients.{weight, addLists, scaleList, subtractLists}
+use Rattle.chebyshev.specs.definitions.Product.{Walk}
 use Rattle.model.specs.definitions.Models.{scale, coefficientCount, maxDegree, maxWeight, maxRadius, good}
 use Rattle.model.specs.definitions.Models.{makeModel, zeroModel, badPlace, differentPlace, largePlace}
 use Rattle.model.specs.definitions.Outcomes.{Outcome, outcome}
@@ -17,6 +18,7 @@ use Rattle.model.specs.definitions.Integrate.{halved, alternating}
 use Rattle.model.specs.declared.types.Interval.{Interval}
 use Rattle.model.specs.declared.types.Model.{Model}
 use Rattle.model.specs.declared.round.Rounded.{Rounded}
+use Rattle.model.specs.declared.multiply.RoundedProduct.{RoundedProduct}
 
 -- ---- what is asked
 
@@ -112,6 +114,12 @@ pub record RoundedFrom (d : ℕ) (c : List ℤ) (n : ℕ) (r : Rounded) : Type 0
   pub loss-is : r .loss ≡ roundingLoss d (take n c) + weight (drop n c)
   pub coefficients-are : r .weight ≤ maxWeight
       → r .coefficients ≡ rounded d (take n c) ++ replicate (coefficientCount - n) (pos 0)
+
+-- the walk w: the list that it formed is rounded, and its visits are answered
+pub record RoundedWalk (d : ℕ) (w : Walk ℤ) (n : ℕ) (r : RoundedProduct) : Type 0 where
+  pub list : List ℤ
+  pub walk-is : (list, r .visits) ≡ w
+  pub rounded-from : RoundedFrom d list n (r .rounded)
 
 -- ---- W in one sum, whether the point was mapped exactly or not
 

@@ -1,14 +1,15 @@
 -- Document 01, "Plain operations": integrate; with document 02, S-24, from the lower end l/S.
 use mathlib.Core.Bool.{Bool}
-use mathlib.Core.List.{List, [], _∷_, _++_}
+use mathlib.Core.List.{List, [], _∷_, _++_, map}
 use Prim.Native.Nat.{ℕ, suc, _+_, _*_, _-_}
 use lib.IntN.{ℤ, pos, _-ℤ_, _*ℤ_}
 use lib.ListN.{replicate, drop, length}
-use Rattle.integer.specs.definitions.Fraction.{ℚ, whole, _*ℚ_, _/ℚ_}
+use Rattle.integer.specs.definitions.Fraction.{ℚ, whole, _*ℚ_, _/ℚ_, _≤ℚ_}
 use Rattle.integer.specs.definitions.FractionRing.{ℚ-ring}
 use Rattle.integer.specs.definitions.Integer.{ℤ-ring}
 use Rattle.integer.specs.definitions.Rounding.{near, upℕ}
 use Rattle.chebyshev.specs.definitions.Coefficients.{subtractLists, scaleList}
+use Rattle.chebyshev.specs.definitions.Norms.{totalAbsolute}
 use Rattle.chebyshev.specs.definitions.Primitive.{primitive}
 use Rattle.model.specs.definitions.Intervals.{extent}
 use Rattle.model.specs.definitions.Models.{scale, coefficientCount, terms, makeModel, zeroModel, badPlace, largePlace}
@@ -64,3 +65,7 @@ ratio i = whole (pos (extent i)) /ℚ (whole (pos 2) *ℚ whole (pos scale))
 -- "the exact primitive" from l/S, in x, of a list of fractions: (u−l)/(2S) times that from −1 in y = (2·S·x−l−u)/(u−l)
 abbrev pub exactIntegral : Interval → List ℚ → List ℚ
 exactIntegral i α = scaleList ℚ-ring (ratio i) (primitive α)
+
+-- α is a "list of fractions whose coefficients differ from the model's by at most e units in total absolute difference"
+abbrev pub Describes : Model → List ℚ → Type 0
+Describes a α = totalAbsolute (subtractLists ℚ-ring α (map whole (a .coefficients))) ≤ℚ whole (pos (a .radius))

@@ -5,6 +5,7 @@ use lib.IntN.{ℤ, pos, _+ℤ_, _-ℤ_}
 use Rattle.integer.specs.definitions.Fraction.{ℚ, whole, _+ℚ_, _-ℚ_, _/ℚ_}
 use Rattle.chebyshev.specs.definitions.Negation.{every, odd, negatedFrom}
 use Rattle.model.specs.definitions.Models.{scale, makeModel}
+use Rattle.model.specs.declared.types.Candidate.{Candidate}
 use Rattle.model.specs.declared.types.Interval.{Interval}
 use Rattle.model.specs.declared.types.Model.{Model}
 
@@ -19,6 +20,16 @@ negated m = negatedWhere every m
 -- "Negating … the odd coefficients": the model read from the other end of its stretch
 abbrev pub mirrored : Model → Model
 mirrored m = negatedWhere odd m
+
+-- a candidate, as the model that it is
+abbrev pub negatedCandidateWhere : (ℕ → Bool) → Candidate → Candidate
+negatedCandidateWhere chosen c = record { degree = c .degree; coefficients = negatedFrom chosen 0 (c .coefficients) }
+
+abbrev pub negatedCandidate : Candidate → Candidate
+negatedCandidate c = negatedCandidateWhere every c
+
+abbrev pub mirroredCandidate : Candidate → Candidate
+mirroredCandidate c = negatedCandidateWhere odd c
 
 -- S-24: "S-11 mirrors p to l+u−p"
 abbrev pub mirroredPoint : Interval → ℤ → ℤ

@@ -1,7 +1,7 @@
 -- Numbers behind a model or a candidate in an area play no part, and a model written is the model read. What the length of an area
 -- tells, and what one that has its numbers, or is too short, holds afterwards.
 use borrow.Author.Tests.{leb-true, le-leb, lt-leb}
-use mathlib.Core.Path.{_≡_, refl, ap}
+use mathlib.Core.Path.{_≡_, refl, sym, _∙_, ap}
 use mathlib.Core.Bool.{Bool, true, false, false≢true, _&&_}
 use mathlib.Core.List.{List, [], _∷_, _++_}
 use Prim.Native.Nat.{ℕ, zero, suc, _+_, _≤_, _<_}
@@ -58,3 +58,13 @@ module _ {A : Type 0} (n : ℕ) (new old : List A) where
   pub untouched : length old < n → old ≡ areaOut n new old
   unfolding areaOut
   untouched h = rw (lt-leb n (length old) h)
+
+-- a model stored in an area that has its numbers is the model read from it, whatever stands behind
+pub model-stored : (m : Model) (out : List ℤ) → length (m .coefficients) ≡ coefficientCount → modelSize ≤ length out
+    → areaModel (areaOut modelSize (words m) out) ≡ m
+model-stored m out h long =
+    let s = words m ++ drop modelSize out in
+    ap areaModel (sym (filled modelSize (words m) out long))
+    ∙ sym (model-front modelSize s (omega arith))
+    ∙ ap areaModel (take-at (words m) (drop modelSize out) modelSize (length-words m h))
+    ∙ model-words m h

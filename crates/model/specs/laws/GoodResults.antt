@@ -64,7 +64,7 @@ weight-drop-opposite (suc k) [] = omega arith
 weight-drop-opposite (suc k) (c ∷ b) = weight-drop-opposite k b
 
 -- behind a list there are zeros alone
-weight-behind : (k : ℕ) (a : List ℤ) (n : ℕ) → length a ≤ k → weight (drop k (a ++ replicate n (pos 0))) ≡ 0
+pub weight-behind : (k : ℕ) (a : List ℤ) (n : ℕ) → length a ≤ k → weight (drop k (a ++ replicate n (pos 0))) ≡ 0
 weight-behind k [] n h = omega (arith, weight-drop k (replicate n (pos 0)), weight-zeros n)
 weight-behind zero (c ∷ a) n h = absurd (omega arith)
 weight-behind (suc k) (c ∷ a) n h = weight-behind k a n (omega arith)

@@ -25,7 +25,7 @@ use Rattle.chebyshev.specs.laws.RecurrenceLaws.{first-minus-one}
 use Rattle.chebyshev.specs.definitions.Coefficients.{valueFrom, value, addLists, scaleList, subtractLists}
 use Rattle.chebyshev.specs.laws.CoefficientLaws.{getD-scale, scale-add, value-scale}
 use Rattle.chebyshev.specs.definitions.Norms.{norm}
-use Rattle.chebyshev.specs.laws.NormLaws.{norm-self, norm-scale, value-distance}
+use Rattle.chebyshev.specs.laws.NormLaws.{norm-self, norm-scale, norm-total, value-distance}
 use Rattle.chebyshev.specs.definitions.Primitive.{numerator, primitive}
 use Rattle.chebyshev.specs.laws.PrimitiveLaws.{numerator-first, numerator-next, primitive-scale}
 use Rattle.chebyshev.specs.laws.PrimitiveNorm.{Rounded, primitive-rounded}
@@ -41,7 +41,7 @@ use Rattle.model.specs.laws.ModelLaws.{good-is}
 use Rattle.model.specs.definitions.Intervals.{extent}
 use Rattle.model.specs.laws.PlaceLaws.{outcome-accepted}
 use Rattle.model.specs.laws.GoodLaws.{getD-append-zeros, getD-terms}
-use Rattle.model.specs.definitions.Integrate.{doubleFirst, alternating, integralModel, integrationPlaces, integration, ratio, exactIntegral}
+use Rattle.model.specs.definitions.Integrate.{doubleFirst, alternating, integralModel, integrationPlaces, integration, ratio, exactIntegral, Describes}
 use Rattle.model.specs.laws.IntegralLaws.{integral-is, length-doubled, length-rounded, getD-rounded}
 use Rattle.model.specs.declared.types.Interval.{Interval}
 use Rattle.model.specs.declared.types.Model.{Model}
@@ -298,10 +298,6 @@ integral-rounding a y g h =
 
 -- ---- the same of the answer
 
--- a list of fractions α "whose coefficients differ from the model's by at most e units in total absolute difference"
-abbrev pub Near : Model → List ℚ → Type 0
-Near a α = norm ℚ-ordered (subtractLists ℚ-ring α (map whole (a .coefficients))) ≤ℚ whole (pos (a .radius))
-
 module _ (a : Model) {c : Model} (e : integration a ≡ accepted c) where
   pub integration-accepted : (good a ≡ true) × (c ≡ integralModel a)
   unfolding integration
@@ -315,16 +311,16 @@ module _ (a : Model) {c : Model} (e : integration a ≡ accepted c) where
   integration-interval = ap (λ m. m .interval) (integration-accepted .1)
 
   -- "It bounds the exact primitive …, again summed over coefficients."
-  pub integration-lists : (α : List ℚ) → Near a α → Near c (exactIntegral (a .interval) α)
-  integration-lists α h = rw (integration-accepted .1) (integral-sound a α (integration-accepted .0) h)
+  pub integration-lists : (α : List ℚ) → Describes a α → Describes c (exactIntegral (a .interval) α)
+  integration-lists α h = rw (← norm-total, integration-accepted .1) (integral-sound a α (integration-accepted .0) (rw norm-total h))
 
   -- so the integral's model allows the exact primitive's value, in units of 1/S, at every fraction of the interval
-  pub integration-sound : (α : List ℚ) → Near a α → (x : ℚ) → OnInterval (a .interval) x
+  pub integration-sound : (α : List ℚ) → Describes a α → (x : ℚ) → OnInterval (a .interval) x
       → Allows c x (value ℚ-ring (position (a .interval) x) (exactIntegral (a .interval) α) /ℚ whole (pos scale))
   unfolding AllowsAt allows
   integration-sound α h x on =
       rw (integration-interval, quotient-mul (value ℚ-ring (position (a .interval) x) (exactIntegral (a .interval) α)) (whole (pos scale)) scale-nonzero)
-      (_⟨≼⟩_ ℚ-ordered (value-distance ℚ-ordered (position (a .interval) x) (exactIntegral (a .interval) α) (map whole (c .coefficients)) (within (good-is a (integration-accepted .0) .ends) x on)) (integration-lists α h))
+      (_⟨≼⟩_ ℚ-ordered (value-distance ℚ-ordered (position (a .interval) x) (exactIntegral (a .interval) α) (map whole (c .coefficients)) (within (good-is a (integration-accepted .0) .ends) x on)) (rw norm-total (integration-lists α h)))
 
   -- "c_0 makes the value at −1", where T_k is taken at the start l/S, "exactly 0."
   pub integration-start : valueAt (position (c .interval) (start (a .interval))) (c .coefficients) ≡ whole (pos 0)

@@ -14,9 +14,10 @@ use Rattle.chebyshev.specs.definitions.Negation.{none, negatedIf, negatedFrom}
 use Rattle.chebyshev.specs.laws.NegationLaws.{abs-negated, take-negated, drop-negated, weight-negated, negated-zeros, negated-none}
 use Rattle.model.specs.definitions.Models.{coefficientCount, terms, beyond, partsWithinLimits, withinLimits, good, tooLarge, makeModel, zeroModel}
 use Rattle.model.specs.definitions.Intervals.{zeroInterval}
-use Rattle.model.specs.definitions.Mirror.{negatedWhere}
+use Rattle.model.specs.definitions.Mirror.{negatedWhere, negatedCandidateWhere}
 use Rattle.model.specs.definitions.Outcomes.{refused, outcome, passing, mapOutcome}
 use Rattle.model.specs.definitions.Round.{rounded, roundingLoss}
+use Rattle.model.specs.declared.types.Candidate.{Candidate}
 use Rattle.model.specs.declared.types.Model.{Model}
 
 -- ---- rounding
@@ -73,6 +74,9 @@ module _ (chosen : ℕ → Bool) where
 
 pub negated-nowhere : (m : Model) → negatedWhere none m ≡ m
 negated-nowhere m = ap (λ cs. makeModel (m .degree) cs (m .radius) (m .interval)) (negated-none 0 (m .coefficients))
+
+pub candidate-nowhere : (c : Candidate) → negatedCandidateWhere none c ≡ c
+candidate-nowhere c = ap (λ cs. record { degree = c .degree; coefficients = cs }) (negated-none 0 (c .coefficients))
 
 -- ---- outcomes
 

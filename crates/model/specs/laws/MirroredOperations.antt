@@ -20,12 +20,21 @@ use Rattle.model.specs.definitions.Models.{scale, coefficientCount, prod
 use Rattle.model.specs.definitions.Mirror.{negatedWhere, negated, mirrored}
 use Rattle.model.specs.definitions.Intervals.{extent}
 use Rattle.model.specs.definitions.Outcomes.{mapOutcome}
+use Rattle.model.specs.definitions.Load.{loadingPlaces, loading}
 use Rattle.model.specs.definitions.Add.{sumModel, differenceModel, additionPlaces, subtractionPlaces, addition, subtraction}
 use Rattle.model.specs.definitions.Multiply.{productList, productDegree, productLoss, productModel, multiplicationPlaces, multiplication}
 use Rattle.model.specs.definitions.Integrate.{doubleFirst, numerators, halved, alternating, integralList, integralModel, integrationPlaces, integration}
 use Rattle.model.specs.definitions.Round.{rounded}
 use Rattle.model.specs.laws.MirrorLaws.{rounded-negated, roundingLoss-negated, terms-negated, weight-of-negated, negated-nowhere, withinLimits-negated, good-negated, tooLarge-negated, zero-negated, outcome-mapped}
 use Rattle.model.specs.declared.types.Model.{Model}
+
+-- ---- a load
+
+pub loading-negated : (chosen : ℕ → Bool) (m : Model) → loading (negatedWhere chosen m) ≡ mapOutcome (negatedWhere chosen) (loading m)
+unfolding loading
+loading-negated chosen m =
+    rw (good-negated chosen m, withinLimits-negated chosen m)
+    (outcome-mapped (negatedWhere chosen) (loadingPlaces m) m zeroModel (zero-negated chosen))
 
 -- ---- add and subtract, both operands negated at the same places
 
@@ -56,7 +65,7 @@ module _ (chosen : ℕ → Bool) (a b : Model) where
 -- ---- multiply
 
 module _ {s t u : ℕ → Bool} (signs : Signs s t u) (a b : Model) where
-  productList-negated : productList (negatedWhere s a) (negatedWhere t b) ≡ negatedFrom u 0 (productList a b)
+  pub productList-negated : productList (negatedWhere s a) (negatedWhere t b) ≡ negatedFrom u 0 (productList a b)
   unfolding productList
   productList-negated = ap₂ (product ℤ-ring productSize) (terms-negated s a) (terms-negated t b) ∙ product-negated signs productSize (terms a) (terms b)
 

@@ -1,22 +1,25 @@
 -- Laws of multiplication (Multiply.antt) for code that forms the product.
-use mathlib.Core.Path.{_≡_, sym, _∙_, ap}
+use mathlib.Core.Path.{_≡_, sym, _∙_, ap, subst}
 use mathlib.Core.Bool.{true}
 use Prim.Native.Nat.{ℕ, suc, _+_, _-_, _*_, _≤_}
 use native.Mathlib.Omega.{arith}
 use lib.ListN.{take}
 use borrow.Author.Tests.{le-leb, ne-eqb}
+use Rattle.integer.specs.definitions.Integer.{ℤ-ring}
 use Rattle.integer.specs.definitions.Rounding.{upℕ}
 use Rattle.chebyshev.specs.definitions.Coefficients.{weight}
+use Rattle.chebyshev.specs.definitions.Product.{product, productWalk}
 use Rattle.chebyshev.specs.laws.Weight.{weight-append-zeros}
-use Rattle.model.specs.definitions.InnerContracts.{RoundedFrom, formedOutcome, unlessLarge}
+use Rattle.model.specs.definitions.InnerContracts.{RoundedFrom, RoundedWalk, formedOutcome, unlessLarge}
 use Rattle.model.specs.definitions.Intervals.{sameInterval}
-use Rattle.model.specs.definitions.Models.{scale, coefficientCount, maxDegree, good}
+use Rattle.model.specs.definitions.Models.{scale, coefficientCount, productSize, maxDegree, good, terms}
 use Rattle.model.specs.definitions.Outcomes.{passing}
-use Rattle.model.specs.definitions.Multiply.{keptDegree, productDegree, productList, productLoss, productModel, multiplication}
+use Rattle.model.specs.definitions.Multiply.{keptDegree, productDegree, productList, productVisits, productLoss, productModel, multiplication}
 use Rattle.model.specs.definitions.Round.{rounded}
 use Rattle.model.specs.laws.FormedLaws.{formed-is}
 use Rattle.model.specs.declared.types.Model.{Model}
 use Rattle.model.specs.declared.round.Rounded.{Rounded}
+use Rattle.model.specs.declared.multiply.RoundedProduct.{RoundedProduct}
 
 -- a kept degree within the limit stands for itself
 pub kept-is : (d : ℕ) → d ≤ maxDegree → keptDegree d ≡ d
@@ -25,6 +28,13 @@ kept-is d h = rw (ne-eqb d 255 (λ e. omega arith))
 -- what the radii lose: 2(A·e_b + B·e_a + e_a·e_b)
 abbrev pub radiusLoss : Model → Model → ℕ
 radiusLoss a b = 2 * (weight (a .coefficients) * b .radius + weight (b .coefficients) * a .radius + a .radius * b .radius)
+
+-- the walk of two models: the list C, rounded, and its visits
+pub walk-rounded : {n : ℕ} (a b : Model) (r : RoundedProduct) → RoundedWalk (2 * scale) (productWalk ℤ-ring productSize (terms a) (terms b)) n r
+    → RoundedFrom (2 * scale) (productList a b) n (r .rounded) × (r .visits ≡ productVisits a b)
+unfolding productList product productVisits
+walk-rounded {n} a b r w =
+    (subst (λ c. RoundedFrom (2 * scale) c n (r .rounded)) (ap (λ v. v .0) (w .walk-is)) (w .rounded-from), ap (λ v. v .1) (w .walk-is))
 
 -- the result from the rounded list C
 pub product-formed : (d : ℕ) (a b : Model) (r : Rounded) → RoundedFrom (2 * scale) (productList a b) (suc (productDegree d a b)) r

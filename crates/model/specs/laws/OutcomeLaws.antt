@@ -78,6 +78,11 @@ numberOf-positive NoRadius = omega arith
 numberOf-positive BadEnds = omega arith
 numberOf-positive DifferentIntervals = omega arith
 
+-- only an acceptance has the number 0
+pub zero-accepted : (v : Verdict) → verdictNumber v ≡ 0 → v ≡ Accepted
+zero-accepted Accepted e = refl
+zero-accepted (Refused r) e = absurd (omega (arith, e, numberOf-positive r))
+
 pub numberOf-injective : (r s : Refusal) → numberOf r ≡ numberOf s → r ≡ s
 numberOf-injective r s e = sym (named-number r) ∙ ap named e ∙ named-number s
 
@@ -97,6 +102,13 @@ module _ {A : Type 0} where
   -- what holds of an outcome's values holds of the values that it was made of
   pub held-judged : (P : A → Type 0) (v : Verdict) (a : A) {o : Outcome A} → judged v a ≡ o → P (payload o) → P a
   held-judged P v a e h = subst P (ap payload (sym e) ∙ payload-judged v a) h
+
+  -- an outcome made of an acceptance has its values, and nothing else makes an accepted outcome
+  pub accepted-judged : (v : Verdict) (a : A) {o : Outcome A} → judged v a ≡ o → v ≡ Accepted → o ≡ accepted a
+  accepted-judged v a e h = sym e ∙ ap (λ (u : Verdict). judged u a) h
+
+  pub judged-accepted : (v : Verdict) (a : A) {b : A} → judged v a ≡ accepted b → (v ≡ Accepted) × (a ≡ b)
+  judged-accepted v a e = (sym (verdict-judged v a) ∙ ap verdictIn e, sym (payload-judged v a) ∙ ap payload e)
 
   pub number-judged : (v : Verdict) (a : A) → number (judged v a) ≡ verdictNumber v
   number-judged Accepted a = refl

@@ -14,6 +14,7 @@ use Rattle.proposals.specs.definitions.Units.{inUnits, zeroCandidate}
 use Rattle.proposals.specs.definitions.Reciprocal.{Reciprocal, refusedReciprocal, reciprocalProposal}
 use Rattle.proposals.specs.definitions.Quotient.{Quotient, refusedQuotient, quotientProposal}
 use Rattle.proposals.specs.declared.types.Round.{Round}
+use Rattle.proposals.specs.declared.types.QuotientRecord.{QuotientRecord}
 use Rattle.proposals.specs.declared.types.Ending.{Ending}
 use Rattle.proposals.specs.declared.types.Ending.the-variants.{Settled, GivenUp}
 
@@ -33,6 +34,10 @@ outcomeSize = 1
 -- "the f64 coefficients and the largest change"
 abbrev pub roundNumbers : Round → List Float
 roundNumbers r = r .coefficients ++ (r .change ∷ [])
+
+-- "its record keeping w": f·w, then the round with w
+abbrev pub quotientNumbers : QuotientRecord → List Float
+quotientNumbers r = r .quotient ++ roundNumbers (r .round)
 
 abbrev pub candidateNumbers : Candidate → List ℤ
 candidateNumbers c = pos (c .degree) ∷ c .coefficients
@@ -90,12 +95,12 @@ pub record QuotientAnswer : Type 0 where
 abbrev pub quotientAnswer : ℕ → List Float → List ℤ → List ℤ → List ℕ → QuotientAnswer
 quotientAnswer n r h w o = record { number = n; recorded = r; h = h; w = w; outcome = o }
 
--- a quotient, answered over its areas; its record is f·w, then the round with w
+-- a quotient, answered over its areas
 unfoldable pub quotientIn : Outcome Quotient → List Float → List ℤ → List ℤ → List ℕ → QuotientAnswer
 quotientIn p recorded h w outcome =
     quotientAnswer
     (number p)
-    (areaOut quotientSize (payload p .quotient ++ roundNumbers (payload p .round)) recorded)
+    (areaOut quotientSize (quotientNumbers (payload p .recorded)) recorded)
     (areaOut candidateSize (candidateNumbers (payload p .h)) h)
     (areaOut candidateSize (candidateNumbers (payload p .w)) w)
     (areaOut outcomeSize (endingNumber (payload p .ending) ∷ []) outcome)

@@ -14,21 +14,26 @@ use Rattle.proposals.specs.definitions.Reciprocal.{valuesOf, reciprocalR
 use Rattle.proposals.specs.declared.types.Round.{Round}
 use Rattle.proposals.specs.declared.types.Ending.{Ending}
 use Rattle.proposals.specs.declared.types.Ending.the-variants.{GivenUp}
+use Rattle.proposals.specs.declared.types.QuotientRecord.{QuotientRecord}
 use Rattle.proposals.specs.declared.types.QuotientOutcome.{QuotientOutcome}
 
--- what a maker of quotients makes: the outcome beside the record, which has f·w and the round with w, and both lists in units
+-- "its record keeping w": f·w, and the round with w
+abbrev pub quotientRecord : List Float → Round → QuotientRecord
+quotientRecord q r = record { quotient = q; round = r }
+
+-- what a maker of quotients makes: the outcome beside the record, and both lists in units
 pub record Quotient : Type 0 where
   pub ending : Ending
-  pub quotient : List Float
-  pub round : Round
+  pub recorded : QuotientRecord
   pub h : Candidate
   pub w : Candidate
 
-abbrev pub makeQuotient : Ending → List Float → Round → Candidate → Candidate → Quotient
-makeQuotient e q r h w = record { ending = e; quotient = q; round = r; h = h; w = w }
+abbrev pub makeQuotient : Ending → QuotientRecord → Candidate → Candidate → Quotient
+makeQuotient e r h w = record { ending = e; recorded = r; h = h; w = w }
 
 unfoldable pub refusedQuotient : Quotient
-refusedQuotient = makeQuotient (GivenUp nought) (replicate coefficientCount nought) zeroRound zeroCandidate zeroCandidate
+refusedQuotient =
+    makeQuotient (GivenUp nought) (quotientRecord (replicate coefficientCount nought) zeroRound) zeroCandidate zeroCandidate
 
 -- w and f·w are made, then both are turned into units: 15 of either comes before 16 of either, and each list has its own weight.
 unfoldable pub quotientProposal : Model → Model → Outcome Quotient
@@ -40,10 +45,10 @@ quotientProposal f g =
     outcome
     (badPlace f ∷ badPlace g ∷ differentPlace f g
     ∷ notFinitePlace (m .finite && allFinite q) ∷ weightPlace h ∷ weightPlace w ∷ [])
-    (makeQuotient (m .ending) q (m .round) (candidateIn h) (candidateIn w))
+    (makeQuotient (m .ending) (quotientRecord q (m .round)) (candidateIn h) (candidateIn w))
     refusedQuotient
 
 -- ---- what the code's answers mean
 
 abbrev pub quotientOf : QuotientOutcome → Outcome Quotient
-quotientOf r = judged (r .verdict) (makeQuotient (r .ending) (r .quotient) (r .round) (r .h) (r .w))
+quotientOf r = judged (r .verdict) (makeQuotient (r .ending) (r .recorded) (r .h) (r .w))

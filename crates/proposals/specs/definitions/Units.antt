@@ -19,6 +19,12 @@ abbrev pub signed : Bool → ℕ → ℤ
 signed true n = negℤ (pos n)
 signed false n = pos n
 
+-- the sign of an f64
+abbrev pub signOf : Float → Bool
+signOf nan = false
+signOf (inf s) = s
+signOf (fin s m e) = s
+
 -- A finite f64 is ±m·2^e, and 2^e is the fraction up e / down e. A list with a NaN or an infinity is refused.
 unfoldable pub unitsOf : Float → ℤ
 unitsOf nan = pos 0

@@ -23,6 +23,11 @@ scaleValue = fin false 1 (pos 20)
 abbrev pub settledLimit : Float
 settledLimit = fin false 1 (negsuc 23)
 
+-- whether a whole number is below zero
+abbrev pub negative : ℤ → Bool
+negative (pos n) = false
+negative (negsuc n) = true
+
 -- n units: n / S
 unfoldable pub valueOf : ℤ → Float
 valueOf n = div binary64 (ofInt binary64 n) scaleValue

@@ -4,7 +4,7 @@ use mathlib.Core.Bool.{Bool, true, false, cond}
 use Prim.Native.Nat.{ℕ, zero, suc, _+_, _-_, _*_, _/_, _%_, _^_, _≤_, _<_}
 use native.Mathlib.Nat.{le-trans, le-of-eq, lt-of-lt-of-le, mul-comm, mul-assoc, mul-le-mul-right, mul-le-mul-left, mod-lt, one-mul}
 use native.Mathlib.Omega.{arith}
-use lib.Dec.{T, leb, eqb}
+use lib.Dec.{T, eqb}
 use lib.IntN.{pos, natAbs}
 use lib.Pow.{pow-add, pow-pos, pow-mono, shl-lt, shl-exact}
 use lib.Ieee.{Float, nan, inf, binary64, odd, ofFields, ofBits, fits, toBits}
@@ -14,6 +14,7 @@ use lib.Ieee.Scale.{finite}
 use Rattle.integer.specs.definitions.Rounding.{near}
 use Rattle.integer.specs.laws.NearLaws.{near-same, near-small, near-large, near-within}
 use Rattle.proposals.specs.definitions.Units.{signed, unitsOf}
+use Rattle.proposals.specs.definitions.Bits.{signBit, exponentField, lastDigits, allDigits, bitsSize}
 use Rattle.proposals.specs.definitions.InnerContracts.{limitedUnits}
 use Rattle.proposals.specs.laws.UnitsLaws.{signed-scaled, signed-size, near-signed, units-value, limited-same, limited-large}
 
@@ -23,13 +24,8 @@ shifted-one s h =
     let l : 1 + s ≤ 64 = omega arith in
     shl-exact 1 s 64 (omega arith) l ∙ one-mul (2 ^ s)
 
--- the digits with the leading one, which a field of 0 lacks
-abbrev digits : ℕ → ℕ → ℕ
-digits zero t = t
-digits (suc k) t = 2 ^ 52 + t
-
 -- what the fields stand for, in multiples of 2^-1074
-fields-value : (s : Bool) (k t : ℕ) → T (finite (ofFields binary64 s k t)) → HasValue (ofFields binary64 s k t) s (digits k t * 2 ^ (k - 1)) (2 ^ 1074)
+fields-value : (s : Bool) (k t : ℕ) → T (finite (ofFields binary64 s k t)) → HasValue (ofFields binary64 s k t) s (allDigits k t * 2 ^ (k - 1)) (2 ^ 1074)
 unfolding ofFields
 fields-value s zero t h = odd-sign 53 s t 0 1074
 fields-value s (suc k) t h =
@@ -42,26 +38,26 @@ fields-value s (suc k) t h =
     go true false h = absurd h
     go false b h = odd-sign 53 s (2 ^ 52 + t) k 1074
 
-digits-lt : (k t : ℕ) → t < 2 ^ 52 → digits k t < 2 ^ 53
+digits-lt : (k t : ℕ) → t < 2 ^ 52 → allDigits k t < 2 ^ 53
 digits-lt zero t h = omega arith
 digits-lt (suc k) t h = omega arith
 
-digits-normal : (k t : ℕ) → 0 < k → digits k t ≡ 2 ^ 52 + t
+digits-normal : (k t : ℕ) → 0 < k → allDigits k t ≡ 2 ^ 52 + t
 digits-normal zero t h = absurd (omega arith)
 digits-normal (suc k) t h = refl
 
 -- ---- from 512 on, below half a unit, and between
 
-over : (k t : ℕ) → 1032 ≤ k → 2 ^ 29 * 2 ^ 1074 ≤ digits k t * 2 ^ (k - 1) * 2 ^ 20
+over : (k t : ℕ) → 1032 ≤ k → 2 ^ 29 * 2 ^ 1074 ≤ allDigits k t * 2 ^ (k - 1) * 2 ^ 20
 over k t h =
     let j : 1031 ≤ k - 1 = omega arith in
-    let d : 2 ^ 52 ≤ digits k t = rw (digits-normal k t (omega arith)) (omega arith) in
-    mul-le-mul-right (2 ^ 20) (le-trans (mul-le-mul-right (2 ^ 1031) d) (mul-le-mul-left (digits k t) (pow-mono j)))
+    let d : 2 ^ 52 ≤ allDigits k t = rw (digits-normal k t (omega arith)) (omega arith) in
+    mul-le-mul-right (2 ^ 20) (le-trans (mul-le-mul-right (2 ^ 1031) d) (mul-le-mul-left (allDigits k t) (pow-mono j)))
 
-under : (k t : ℕ) → t < 2 ^ 52 → k < 1002 → 2 * (digits k t * 2 ^ (k - 1) * 2 ^ 20) < 2 ^ 1074
+under : (k t : ℕ) → t < 2 ^ 52 → k < 1002 → 2 * (allDigits k t * 2 ^ (k - 1) * 2 ^ 20) < 2 ^ 1074
 under k t h l =
     let e : 53 + (k - 1) + 20 + 1 ≤ 1074 = omega arith in
-    let a = digits k t * 2 ^ (k - 1) * 2 ^ 20 in
+    let a = allDigits k t * 2 ^ (k - 1) * 2 ^ 20 in
     let c : a * 2 ^ 1 < 2 ^ (53 + (k - 1) + 20 + 1) = shl-lt (53 + (k - 1) + 20) 1 (shl-lt (53 + (k - 1)) 20 (shl-lt 53 (k - 1) (digits-lt k t h))) in
     subst (λ (n : ℕ). n < 2 ^ 1074) (mul-comm a 2) (lt-of-lt-of-le c (pow-mono e))
 
@@ -73,7 +69,7 @@ powers k h l =
 gathered : (d p q r l : ℕ) → p * q * r ≡ l → d * p * q * r ≡ d * l
 gathered d p q r l h = ap (λ (n : ℕ). n * r) (mul-assoc d p q) ∙ mul-assoc d (p * q) r ∙ ap (λ (n : ℕ). d * n) h
 
-between : (s : Bool) (k t : ℕ) → 1002 ≤ k → k < 1032 → near (signed s (digits k t * 2 ^ (k - 1) * 2 ^ 20)) (2 ^ 1074) ≡ near (signed s (2 ^ 52 + t)) (2 ^ (1055 - k))
+between : (s : Bool) (k t : ℕ) → 1002 ≤ k → k < 1032 → near (signed s (allDigits k t * 2 ^ (k - 1) * 2 ^ 20)) (2 ^ 1074) ≡ near (signed s (2 ^ 52 + t)) (2 ^ (1055 - k))
 between s k t h l =
     let a = (2 ^ 52 + t) * 2 ^ (k - 1) * 2 ^ 20 in
     rw (digits-normal k t (omega arith))
@@ -95,17 +91,17 @@ module _ (x : Float) (held : T (fits binary64 x)) (whole : T (finite x)) where
   abbrev b : ℕ
   b = toBits binary64 x
 
-  abbrev pub sign : Bool
-  sign = leb (2 ^ 63) b
+  abbrev sign : Bool
+  sign = signBit x
 
   abbrev field : ℕ
-  field = b / 2 ^ 52 % 2048
+  field = exponentField x
 
   abbrev rest : ℕ
-  rest = b % 2 ^ 52
+  rest = lastDigits x
 
   abbrev size : ℕ
-  size = digits field rest * 2 ^ (field - 1)
+  size = bitsSize x
 
   read-back : x ≡ ofFields binary64 sign field rest
   unfolding ofBits
@@ -114,7 +110,7 @@ module _ (x : Float) (held : T (fits binary64 x)) (whole : T (finite x)) where
       sym (ofBits-toBits binary64 x held) ∙ ap (λ (k : ℕ). ofFields binary64 sign k rest) e
 
   -- the exact value that the bits stand for
-  pub bits-value : HasValue x sign size (2 ^ 1074)
+  pub bits-value : HasValue x (signBit x) (bitsSize x) (2 ^ 1074)
   bits-value =
       subst (λ (y : Float). HasValue y sign size (2 ^ 1074)) (sym read-back)
       (fields-value sign field rest (subst (λ (y : Float). T (finite y)) read-back whole))

@@ -11,6 +11,7 @@ use Rattle.proposals.specs.definitions.Values.{nought, two, difference, 
 use Rattle.proposals.specs.definitions.Product.{half, product, productWide}
 use Rattle.proposals.specs.definitions.Rounds.{twoLess, improved, changeFrom}
 use Rattle.proposals.specs.definitions.Reciprocal.{constantList}
+use Rattle.proposals.specs.definitions.Finite.{walkTerm, walkTerms}
 
 -- ---- +0
 
@@ -63,13 +64,6 @@ still-at (y ∷ c) (suc k) s = ap (λ (l : List Float). y ∷ l) (still-at c k (
 still-pair : (c : List Float) (i j : ℕ) (v : Float) → Still c → v ≡ nought → addPairBy (add binary64) c i j v ≡ c
 unfolding addPairBy
 still-pair c i j v s e = rw (e, still-at c (i + j) s) (still-at c (distance i j) s)
-
--- the walk of pairs, in f64
-abbrev pub walkTerm : Walk Float → Float → ℕ → ℕ → List Float → Walk Float
-walkTerm = addTermBy (add binary64) (mul binary64)
-
-abbrev pub walkTerms : Walk Float → ℕ → List Float → List Float → Walk Float
-walkTerms = addTermsBy (add binary64) (mul binary64)
 
 -- the pairs of x with zeros
 term-of-zeros : (w : Walk Float) (x : Float) (i j n : ℕ) → Still (w .0) → mul binary64 x nought ≡ nought → walkTerm w x i j (replicate n nought) .0 ≡ w .0

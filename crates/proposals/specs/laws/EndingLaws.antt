@@ -6,39 +6,14 @@ use mathlib.Core.Logic.{_⊎_, inl, inr}
 use Prim.Native.Nat.{ℕ, zero, suc, _≤_, _<_}
 use native.Mathlib.Nat.{eq-or-lt-of-le}
 use native.Mathlib.Omega.{arith}
-use lib.Ieee.{Float, binary64, div, eq, le}
-use Rattle.proposals.specs.definitions.Values.{nought, one, settledLimit}
-use Rattle.proposals.specs.definitions.Rounds.{roundOf, nextRound, finiteRound, madeOf, rounds}
-use Rattle.proposals.specs.definitions.Reciprocal.{constantList, firstValue, reciprocalRounds}
-use Rattle.proposals.specs.laws.RoundsLaws.{changeIn}
+use lib.Ieee.{Float, eq}
+use Rattle.proposals.specs.definitions.Values.{nought}
+use Rattle.proposals.specs.definitions.Rounds.{nextRound, finiteRound, madeOf, maxRounds, rounds}
+use Rattle.proposals.specs.definitions.Reciprocal.{firstValue, reciprocalRounds}
+use Rattle.proposals.specs.definitions.Endings.{changeIn, startOf, iterated, settles, Ends}
 use Rattle.proposals.specs.declared.types.Round.{Round}
 use Rattle.proposals.specs.declared.types.Made.{Made}
 use Rattle.proposals.specs.declared.types.Ending.the-variants.{Settled, GivenUp}
-
--- k rounds from r on
-unfoldable pub iterated : ℕ → List Float → Round → Round
-iterated zero g r = r
-iterated (suc k) g r = iterated k g (nextRound g r)
-
--- a change of at most 2^-24
-abbrev pub settles : Round → Bool
-settles r = le (r .change) settledLimit
-
--- m comes of at most n rounds from r on
-pub record Ends (n : ℕ) (g : List Float) (r : Round) (m : Made) : Type 0 where
-  -- how many rounds were made, and that the last one is the record's
-  pub count : ℕ
-  pub within : count ≤ n
-  pub reached : m .round ≡ iterated count g r
-  -- every round before the last was finite and did not settle
-  pub before : (i : ℕ) → 0 < i → i < count → (finiteRound (iterated i g r) ≡ true) × (settles (iterated i g r) ≡ false)
-  -- whether the last one was finite is what m says
-  pub last : 0 < count → finiteRound (m .round) ≡ m .finite
-  pub not-finite : m .finite ≡ false → 0 < count
-  -- and either outcome carries the last change
-  pub settled : (d : Float) → m .ending ≡ Settled d → (d ≡ m .round .change) × (0 < count) × (m .finite ≡ true) × (settles (m .round) ≡ true)
-  pub given-up : (d : Float) → m .ending ≡ GivenUp d
-      → (d ≡ m .round .change) × (m .finite ≡ true → (count ≡ n) × ((n ≡ 0) ⊎ (settles (m .round) ≡ false)))
 
 apart : (x y : Float) → GivenUp x ≡ Settled y → ⊥
 apart x y e = let z : _≡_ {A = ℕ} 0 1 = cc in omega arith
@@ -144,6 +119,6 @@ every-round-finite n g r m e f i p q =
     ]
 
 -- "for at most 12 rounds"
-pub reciprocal-ends : (g : List Float) → eq (firstValue g) nought ≡ false → Ends 12 g (roundOf (constantList (div binary64 one (firstValue g))) nought) (reciprocalRounds g)
+pub reciprocal-ends : (g : List Float) → eq (firstValue g) nought ≡ false → Ends maxRounds g (startOf g) (reciprocalRounds g)
 unfolding reciprocalRounds
-reciprocal-ends g e = rw e (rounds-end-within 12 g (roundOf (constantList (div binary64 one (firstValue g))) nought))
+reciprocal-ends g e = rw e (rounds-end-within maxRounds g (startOf g))

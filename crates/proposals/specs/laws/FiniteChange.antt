@@ -7,6 +7,7 @@ use lib.Ieee.{Float, nan, inf, fin, Format, binary64, prec, emax, low, up, down,
 use lib.Ieee.Scale.{finite}
 use Rattle.proposals.specs.definitions.Values.{nought, magnitude, difference, greater, allFinite}
 use Rattle.proposals.specs.definitions.Rounds.{changeFrom}
+use Rattle.proposals.specs.definitions.Finite.{differences}
 use Rattle.proposals.specs.laws.FiniteOperations.{head-finite, tail-finite, cons-finite, none-finite}
 
 -- ---- a difference of finite numbers is no NaN
@@ -92,12 +93,6 @@ greater-finite (fin s m e) (inf false) h k t = absurd t
 greater-finite (fin s m e) (fin r n d) h k t = (tt, tt)
 
 -- ---- the change
-
--- the differences of which the change is the largest
-unfoldable pub differences : List Float → List Float → List Float
-differences [] b = []
-differences (x ∷ a) [] = []
-differences (x ∷ a) (y ∷ b) = difference x y ∷ differences a b
 
 -- of finite lists: where the change is finite, every difference is
 pub change-finite : (d : Float) (a b : List Float) → T (notBelow d) → T (allFinite a) → T (allFinite b) → T (finite (changeFrom d a b))

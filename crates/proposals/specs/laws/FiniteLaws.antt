@@ -16,10 +16,10 @@ use Rattle.model.specs.definitions.Models.{coefficientCount}
 use Rattle.proposals.specs.definitions.Values.{nought, two, allFinite}
 use Rattle.proposals.specs.definitions.Product.{half, product, productWide}
 use Rattle.proposals.specs.definitions.Rounds.{twoLess, improved, changeFrom, roundOf, nextRound, finiteRound}
-use Rattle.proposals.specs.laws.ConstantProduct.{walkTerms}
+use Rattle.proposals.specs.definitions.Finite.{walkTerms, productsFinite, allProductsFinite, differences}
 use Rattle.proposals.specs.laws.FiniteOperations.{mul-finite, sub-finite, half-finite, head-finite, tail-finite, cons-finite, none-finite, map-finite}
-use Rattle.proposals.specs.laws.FiniteChange.{differences, change-finite}
-use Rattle.proposals.specs.laws.FiniteWalk.{productsFinite, allProductsFinite, terms-products-finite}
+use Rattle.proposals.specs.laws.FiniteChange.{change-finite}
+use Rattle.proposals.specs.laws.FiniteWalk.{terms-products-finite}
 
 -- a test that is passed, as a fact
 pub passes : {b : Bool} → b ≡ true → T b

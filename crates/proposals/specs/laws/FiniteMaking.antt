@@ -6,43 +6,28 @@ use mathlib.Core.List.{List, _∷_, _++_}
 use Prim.Native.Nat.{ℕ, zero, suc, _+_, _<_}
 use native.Mathlib.Omega.{arith}
 use lib.Dec.{T}
-use lib.ListN.{length, replicate, length-map}
-use lib.Ieee.{Float, binary64, div, eq}
+use lib.ListN.{length, length-map}
+use lib.Ieee.{Float, eq}
 use lib.Ieee.Bits.{is-true}
 use lib.Ieee.Fits.{and-l, and-r}
 use lib.Ieee.Scale.{finite}
-use Rattle.chebyshev.specs.definitions.Product.{Walk}
 use Rattle.model.specs.definitions.Models.{coefficientCount}
 use Rattle.model.specs.declared.types.Model.{Model}
-use Rattle.proposals.specs.definitions.Values.{nought, one, valueOf, allFinite}
+use Rattle.proposals.specs.definitions.Values.{nought, valueOf, allFinite}
 use Rattle.proposals.specs.definitions.Product.{product}
-use Rattle.proposals.specs.definitions.Rounds.{twoLess, improved, changeFrom, roundOf, nextRound, finiteRound}
+use Rattle.proposals.specs.definitions.Rounds.{twoLess, improved, changeFrom, nextRound, finiteRound, maxRounds}
 use Rattle.proposals.specs.definitions.Reciprocal.{constantList, firstValue, zeroRound, reciprocalRounds, valuesOf}
-use Rattle.proposals.specs.laws.ConstantProduct.{walkTerm, walkTerms}
-use Rattle.proposals.specs.laws.FiniteChange.{differences}
-use Rattle.proposals.specs.laws.FiniteWalk.{allProductsFinite, state-finite}
+use Rattle.proposals.specs.definitions.Endings.{startOf, iterated, Ends}
+use Rattle.proposals.specs.definitions.Finite.{walkTerm, walkTerms, fromZero, StatesFinite, FiniteProduct, FiniteThroughout}
+use Rattle.proposals.specs.laws.FiniteWalk.{state-finite}
 use Rattle.proposals.specs.laws.FiniteLaws.{passes, walk-finite, product-finite, length-two-less, length-product, round-finite, round-differences-finite}
-use Rattle.proposals.specs.laws.EndingLaws.{iterated, Ends, every-round-finite, reciprocal-ends}
+use Rattle.proposals.specs.laws.EndingLaws.{every-round-finite, reciprocal-ends}
 use Rattle.proposals.specs.declared.types.Round.{Round}
 use Rattle.proposals.specs.declared.types.Made.{Made}
 use Rattle.proposals.specs.declared.types.Ending.{Ending}
 use Rattle.proposals.specs.declared.types.Ending.the-variants.{Settled, GivenUp}
 
--- ---- a product: every product of two elements, the sums after every pair, and the halves
-
--- the walk adds "to zero"
-abbrev pub fromZero : Walk Float
-fromZero = (replicate coefficientCount nought, 0)
-
--- the list after any pair: those of a₀ are added, and of x those with b₀ (between a pair's two sums: half-pair-finite, FiniteWalk.antt)
-abbrev pub StatesFinite : List Float → List Float → Type 0
-StatesFinite a b = (a₀ : List Float) (x : Float) (a₁ b₀ b₁ : List Float) → a ≡ a₀ ++ (x ∷ a₁) → b ≡ b₀ ++ b₁
-    → allFinite (walkTerm (walkTerms fromZero 0 a₀ b) x (length a₀) 0 b₀ .0) ≡ true
-
-pub record FiniteProduct (a b : List Float) : Type 0 where
-  pub products : allProductsFinite a b ≡ true
-  pub states : StatesFinite a b
-  pub result : allFinite (product a b) ≡ true
+-- ---- a product
 
 product-states : (a b : List Float) → allFinite (product a b) ≡ true → StatesFinite a b
 product-states a b h a₀ x a₁ b₀ b₁ ea eb =
@@ -58,20 +43,6 @@ finite-product a b la lb h = record {
 }
 
 -- ---- a round, from w
-
-pub record FiniteThroughout (g w : List Float) : Type 0 where
-  pub given : allFinite g ≡ true
-  pub from : allFinite w ≡ true
-  -- g·w
-  pub inner : FiniteProduct g w
-  -- 2 − g·w
-  pub less : allFinite (twoLess (product g w)) ≡ true
-  -- w·(2 − g·w), the round's list
-  pub outer : FiniteProduct w (twoLess (product g w))
-  pub made : allFinite (improved g w) ≡ true
-  -- and what its change is the largest of
-  pub compared : allFinite (differences (improved g w) w) ≡ true
-  pub change : finite (changeFrom nought (improved g w) w) ≡ true
 
 pub round-throughout : (g : List Float) (r : Round) → length g ≡ coefficientCount → length (r .coefficients) ≡ coefficientCount
     → finiteRound (nextRound g r) ≡ true → FiniteThroughout g (r .coefficients)
@@ -128,17 +99,13 @@ some-rounds n g r m e = go (m .ending) (m .finite) refl refl
 
 -- ---- the maker of reciprocals
 
--- "w starts at the constant 1/g_0"
-abbrev pub startOf : List Float → Round
-startOf g = roundOf (constantList (div binary64 one (firstValue g))) nought
-
 length-start : (g : List Float) → length (startOf g .coefficients) ≡ coefficientCount
 unfolding constantList
 length-start g = refl
 
-pub finite-throughout : (g : List Float) (e : Ends 12 g (startOf g) (reciprocalRounds g)) → length g ≡ coefficientCount → reciprocalRounds g .finite ≡ true
+pub finite-throughout : (g : List Float) (e : Ends maxRounds g (startOf g) (reciprocalRounds g)) → length g ≡ coefficientCount → reciprocalRounds g .finite ≡ true
     → (i : ℕ) → i < e .count → FiniteThroughout g (iterated i g (startOf g) .coefficients)
-finite-throughout g e lg f i l = rounds-throughout 12 g (startOf g) (reciprocalRounds g) e lg (length-start g) f i l
+finite-throughout g e lg f i l = rounds-throughout maxRounds g (startOf g) (reciprocalRounds g) e lg (length-start g) f i l
 
 -- where it found no value that is not finite, g_0 is not zero (and so there were rounds: reciprocal-ends, some-rounds)
 pub finite-first : (g : List Float) → reciprocalRounds g .finite ≡ true → eq (firstValue g) nought ≡ false
@@ -174,9 +141,18 @@ quotient-throughout f g lf h = finite-product f (reciprocalRounds g .round .coef
 pub length-values : (g : Model) → length (g .coefficients) ≡ coefficientCount → length (valuesOf g) ≡ coefficientCount
 length-values g l = length-map (g .coefficients) valueOf ∙ l
 
-pub making-finite : (g : Model) → length (g .coefficients) ≡ coefficientCount → (f : reciprocalRounds (valuesOf g) .finite ≡ true)
-    → (i : ℕ) → i < reciprocal-ends (valuesOf g) (finite-first (valuesOf g) f) .count → FiniteThroughout (valuesOf g) (iterated i (valuesOf g) (startOf (valuesOf g)) .coefficients)
-making-finite g l f i k = finite-throughout (valuesOf g) (reciprocal-ends (valuesOf g) (finite-first (valuesOf g) f)) (length-values g l) f i k
+-- every value of every round of which w comes (and there is one: making-ends)
+pub making-finite : (g : Model) → length (g .coefficients) ≡ coefficientCount → reciprocalRounds (valuesOf g) .finite ≡ true
+    → (e : Ends maxRounds (valuesOf g) (startOf (valuesOf g)) (reciprocalRounds (valuesOf g))) → (i : ℕ) → i < e .count
+    → FiniteThroughout (valuesOf g) (iterated i (valuesOf g) (startOf (valuesOf g)) .coefficients)
+making-finite g l f e i k = finite-throughout (valuesOf g) e (length-values g l) f i k
+
+-- where the rounds were found finite, how they ended, and that one was made
+pub making-ends : (g : Model) → reciprocalRounds (valuesOf g) .finite ≡ true → Ends maxRounds (valuesOf g) (startOf (valuesOf g)) (reciprocalRounds (valuesOf g))
+making-ends g f = reciprocal-ends (valuesOf g) (finite-first (valuesOf g) f)
+
+pub making-rounds : (g : Model) (e : Ends maxRounds (valuesOf g) (startOf (valuesOf g)) (reciprocalRounds (valuesOf g))) → 0 < e .count
+making-rounds g e = some-rounds 11 (valuesOf g) (startOf (valuesOf g)) (reciprocalRounds (valuesOf g)) e
 
 pub quotient-making-finite : (f g : Model) → length (f .coefficients) ≡ coefficientCount
     → allFinite (product (valuesOf f) (reciprocalRounds (valuesOf g) .round .coefficients)) ≡ true

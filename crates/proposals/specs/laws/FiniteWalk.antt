@@ -12,7 +12,7 @@ use lib.Ieee.Scale.{finite}
 use Rattle.chebyshev.specs.definitions.Product.{distance, Walk, addAtBy, addPairBy, addTermBy, addTermsBy}
 use Rattle.chebyshev.specs.laws.ProductLaws.{length-addAtBy, length-addPairBy, length-addTermBy}
 use Rattle.proposals.specs.definitions.Values.{allFinite}
-use Rattle.proposals.specs.laws.ConstantProduct.{walkTerm, walkTerms}
+use Rattle.proposals.specs.definitions.Finite.{walkTerm, walkTerms, productsFinite, allProductsFinite}
 use Rattle.proposals.specs.laws.FiniteOperations.{add-finite, head-finite, tail-finite, cons-finite, none-finite}
 
 -- ---- one place, one pair
@@ -50,14 +50,6 @@ module _ (c : List Float) (i j : ℕ) (v : Float) (h : T (allFinite (addPairBy (
       added-finite d (distance i j) v p h
 
 -- ---- the walk
-
--- every product of x with an element of b, and every product of an element of a with one of b, is finite
-abbrev pub productsFinite : Float → List Float → Bool
-productsFinite x b = allFinite (map (mul binary64 x) b)
-
-unfoldable pub allProductsFinite : List Float → List Float → Bool
-allProductsFinite [] b = true
-allProductsFinite (x ∷ a) b = productsFinite x b && allProductsFinite a b
 
 pub term-finite : (w : Walk Float) (x : Float) (i j : ℕ) (b : List Float) → T (allFinite (walkTerm w x i j b .0)) → T (allFinite (w .0))
 unfolding addTermBy

@@ -42,8 +42,7 @@ formerQuotientProposal f g =
     ∷ [])
     (record {
       ending = m .ending;
-      quotient = q;
-      round = m .round;
+      recorded = record { quotient = q; round = m .round };
       h = record { degree = 32; coefficients = h };
       w = record { degree = 32; coefficients = w };
     })

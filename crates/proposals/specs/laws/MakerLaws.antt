@@ -1,7 +1,7 @@
 -- What the makers answer, by what code finds: a list in units (Units.antt) is refused or goes on.
 use borrow.Author.Tests.{lt-ltb, le-ltb}
 use mathlib.Core.Path.{_≡_, refl, sym, _∙_, ap, subst}
-use mathlib.Core.Bool.{Bool, true, false, cond}
+use mathlib.Core.Bool.{Bool, true, false, _&&_, cond}
 use mathlib.Core.List.{List, map}
 use Prim.Native.Nat.{ℕ, _≤_, _<_, _^_}
 use lib.Dec.{T, ltb}
@@ -22,10 +22,11 @@ use Rattle.proposals.specs.definitions.Product.{product}
 use Rattle.proposals.specs.definitions.Rounds.{rounds, roundOf, madeOf}
 use Rattle.proposals.specs.definitions.Units.{unitsOf, candidateIn, zeroCandidate, inUnits, inUnitsOf}
 use Rattle.proposals.specs.definitions.Reciprocal.{valuesOf, firstValue, constantList, zeroRound, reciprocalRounds, makeReciprocal, refusedReciprocal, reciprocalProposal, reciprocalOf}
-use Rattle.proposals.specs.definitions.Quotient.{Quotient, makeQuotient, refusedQuotient, quotientProposal, quotientOf}
+use Rattle.proposals.specs.definitions.Quotient.{Quotient, quotientRecord, makeQuotient, refusedQuotient, quotientProposal, quotientOf}
+use Rattle.proposals.specs.definitions.Endings.{changeIn}
 use Rattle.proposals.specs.definitions.InnerContracts.{limitedUnits}
 use Rattle.proposals.specs.laws.UnitsLaws.{limited-list, weight-over, weight-within}
-use Rattle.proposals.specs.laws.RoundsLaws.{FiniteIn, rounds-finite, changeIn, rounds-change}
+use Rattle.proposals.specs.laws.RoundsLaws.{FiniteIn, rounds-finite, rounds-change}
 use Rattle.proposals.specs.declared.types.Made.{Made}
 use Rattle.proposals.specs.declared.types.CandidateOutcome.{CandidateOutcome}
 use Rattle.proposals.specs.declared.types.ReciprocalOutcome.{ReciprocalOutcome}
@@ -134,7 +135,7 @@ module _ (f g : Model) where
       quotient-not-finite e = rw (bf, bg, same, ← em, e)
 
       pub quotient-in-units : (q : List Float) → q ≡ product (valuesOf f) (m .round .coefficients) → m .finite ≡ true
-          → thenUnits (λ h. thenUnits (λ w. accepted (makeQuotient (m .ending) q (m .round) h w)) refusedQuotient (inUnits (m .round .coefficients))) refusedQuotient (inUnits q)
+          → thenUnits (λ h. thenUnits (λ w. accepted (makeQuotient (m .ending) (quotientRecord q (m .round)) h w)) refusedQuotient (inUnits (m .round .coefficients))) refusedQuotient (inUnits q)
           ≡ quotientProposal f g
       unfolding quotientProposal passing
       quotient-in-units q eq e = go (allFinite q) refl
@@ -143,7 +144,7 @@ module _ (f g : Model) where
           v = m .round .coefficients
 
           second : Candidate → Candidate → Outcome Quotient
-          second h w = accepted (makeQuotient (m .ending) q (m .round) h w)
+          second h w = accepted (makeQuotient (m .ending) (quotientRecord q (m .round)) h w)
 
           first : Candidate → Outcome Quotient
           first h = thenUnits (second h) refusedQuotient (inUnits v)
@@ -159,6 +160,13 @@ module _ (f g : Model) where
               ∙ rw (bf, bg, same, ← em, e, ← eq, a)
           go false a = ap (thenUnits first refusedQuotient) (sym (units-not-finite q a)) ∙ rw (bf, bg, same, ← em, e, ← eq, a)
 
+-- "Number 15: … while making. Number 16: … after it.": a value of w or of f·w that is not finite, whatever the lists weigh
+pub not-finite-before-weight : (f g : Model) → good f ≡ true → good g ≡ true → sameInterval (f .interval) (g .interval) ≡ true
+    → reciprocalRounds (valuesOf g) .finite && allFinite (product (valuesOf f) (reciprocalRounds (valuesOf g) .round .coefficients)) ≡ false
+    → quotientProposal f g ≡ refused 15 refusedQuotient
+unfolding quotientProposal passing
+not-finite-before-weight f g bf bg same h = rw (bf, bg, same, h)
+
 -- ---- no two answers of code have one meaning
 
 pub inUnitsOf-injective : (r s : CandidateOutcome) → inUnitsOf r ≡ inUnitsOf s → r ≡ s
@@ -173,4 +181,4 @@ reciprocalOf-injective r s e =
 pub quotientOf-injective : (r s : QuotientOutcome) → quotientOf r ≡ quotientOf s → r ≡ s
 quotientOf-injective r s e =
     let (v, m) = judged-injective (r .verdict) (s .verdict) _ _ e in
-    λ i. record { verdict = v i; ending = m i .ending; quotient = m i .quotient; round = m i .round; h = m i .h; w = m i .w }
+    λ i. record { verdict = v i; ending = m i .ending; recorded = m i .recorded; h = m i .h; w = m i .w }

@@ -1,19 +1,23 @@
--- The values of 2^j units and of its inverse, for j up to 28: exact, and a round of them gives the inverse again.
-use mathlib.Core.Path.{_≡_, refl, sym, _∙_, subst}
+-- The values of 2^j units and of its inverse, for j up to 28: exact, a power of two as data, and a round of them gives the inverse again.
+use mathlib.Core.Path.{_≡_, refl, sym, _∙_, ap, subst}
 use mathlib.Core.Bool.{true, false}
-use Prim.Native.Nat.{ℕ, _+_, _*_, _^_, _≤_, _<_}
-use native.Mathlib.Nat.{mul-pos}
+use mathlib.Core.List.{List, [], _∷_}
+use mathlib.Core.Logic.{inl, inr}
+use Prim.Native.Nat.{ℕ, zero, suc, _+_, _*_, _^_, _≤_, _<_}
+use native.Mathlib.Nat.{mul-pos, eq-or-lt-of-le}
 use native.Mathlib.Omega.{arith}
 use lib.Dec.{T, lit<}
 use lib.IntN.{pos}
+use lib.ListN.{getD, drop}
 use lib.Pow.{pow-pos, pow-lt}
-use lib.Ieee.{Float, binary64, round, add, sub, mul, div, lt, eq}
+use lib.Ieee.{Float, nan, binary64, round, add, sub, mul, div, lt, eq, ofInt}
 use lib.Ieee.Bits.{is-true}
 use lib.Ieee.Exact.{HasValue}
 use lib.Ieee.Scale.{round-same, finite}
 use lib.Ieee.Positive.{positive-of-value, positive-finite}
 use Rattle.proposals.specs.definitions.Values.{nought, one, two, valueOf, magnitude, difference}
 use Rattle.proposals.specs.definitions.Product.{half}
+use Rattle.proposals.specs.definitions.ExactCase.{exactValue}
 use Rattle.proposals.specs.laws.ValueExact.{value-exact}
 use Rattle.proposals.specs.laws.ValueOperations.{mul-at, div-at, add-nought, nought-add, mul-nought, nought-mul, add-same, eq-nought, sub-same, power-exact}
 use Rattle.proposals.specs.laws.ConstantProduct.{doubled, Plain, improvedNumber}
@@ -58,6 +62,26 @@ powerValue j = valueOf (pos (2 ^ j))
 unfoldable pub inverse : ℕ → Float
 inverse j = div binary64 one (powerValue j)
 
+-- f of n − 1 down to 0
+unfoldable listed : (ℕ → Float) → ℕ → List Float
+listed f zero = []
+listed f (suc n) = f n ∷ listed f n
+
+equal-at : (f g : ℕ → Float) (n j : ℕ) → j < n → listed f n ≡ listed g n → f j ≡ g j
+unfolding listed
+equal-at f g zero j h e = absurd (omega arith)
+equal-at f g (suc n) j h e =
+    let l : j ≤ n = omega arith in
+    elim (eq-or-lt-of-le l) [
+      | inl z ↦ subst (λ (i : ℕ). f i ≡ g i) (sym z) (ap (λ (a : List Float). getD a 0 nan) e)
+      | inr k ↦ equal-at f g n j k (ap (drop 1) e)
+    ]
+
+-- the inverses of 2^0 to 2^28 units, computed
+inverses : listed inverse 29 ≡ listed exactValue 29
+unfolding listed inverse valueOf ofInt div round
+inverses = refl
+
 -- twice the inverse
 abbrev twice : ℕ → Float
 twice j = round binary64 false (2 ^ 21) (2 ^ j)
@@ -78,6 +102,10 @@ module _ (j : ℕ) (l : j ≤ 28) where
       let h : j ≤ 20 + 1074 = omega arith in
       let k : 20 ≤ j + 1023 = omega arith in
       rw inverse-is (power-exact binary64 false 20 j h k)
+
+  -- and as data: 1·2^(20−j)
+  pub inverse-exact : inverse j ≡ exactValue j
+  inverse-exact = equal-at inverse exactValue 29 j (omega arith) inverses
 
   pub inverse-finite : finite (inverse j) ≡ true
   inverse-finite = is-true (finite (inverse j)) (positive-finite (inverse j) (positive-of-value (inverse j) (2 ^ 20) (2 ^ j) inverse-value (pow-pos 20)))

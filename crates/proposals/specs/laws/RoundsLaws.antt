@@ -13,9 +13,9 @@ use lib.Ieee.Fits.{and-l}
 use lib.Ieee.Scale.{finite}
 use Rattle.proposals.specs.definitions.Values.{nought, two, settledLimit, difference, greater, allFinite}
 use Rattle.proposals.specs.definitions.Rounds.{twoLess, changeFrom, nextRound, finiteRound, madeOf, rounds}
+use Rattle.proposals.specs.definitions.Endings.{changeIn}
 use Rattle.proposals.specs.declared.types.Round.{Round}
 use Rattle.proposals.specs.declared.types.Made.{Made}
-use Rattle.proposals.specs.declared.types.Ending.{Ending}
 use Rattle.proposals.specs.declared.types.Ending.the-variants.{Settled, GivenUp}
 
 pub twoLess-set : (c : List Float) → set (map (sub binary64 nought) c) 0 (sub binary64 two (getD c 0 nan)) ≡ twoLess c
@@ -84,11 +84,6 @@ rounds-finite zero g r = one-round 0 g r (λ e h. finite-in-round (nextRound g r
 rounds-finite (suc n) g r = one-round (suc n) g r (λ e. rounds-finite n g (nextRound g r))
 
 -- ---- the outcome's change is the record's
-
--- the change that an outcome carries
-abbrev pub changeIn : Ending → Float
-changeIn (Settled d) = d
-changeIn (GivenUp d) = d
 
 pub rounds-change : (n : ℕ) (g : List Float) (r : Round) → changeIn (rounds n g r .ending) ≡ rounds n g r .round .change
 unfolding rounds

@@ -19,7 +19,7 @@ use Rattle.integer.specs.laws.RoundingLaws.{near-error, near-even, near-unique,
 use Rattle.integer.specs.laws.NearLaws.{near-same, near-natural}
 use Rattle.chebyshev.specs.definitions.Coefficients.{weight}
 use Rattle.model.specs.definitions.Models.{scale}
-use Rattle.proposals.specs.definitions.Units.{signed, unitsOf}
+use Rattle.proposals.specs.definitions.Units.{signed, unitsOf, signOf}
 use Rattle.proposals.specs.definitions.InnerContracts.{limited, limitedUnits}
 
 -- ---- signs
@@ -72,12 +72,6 @@ pub units-unique : (x : Float) (s : Bool) (a l : ℕ) (c : ℤ) → 0 < l → Ha
 units-unique x s a l c p v h t = near-unique (signed s (a * scale)) c l p h t ∙ sym (units-value x s a l p v)
 
 -- ---- any finite f64, by itself: it is ±num x / den x
-
--- the sign bit
-abbrev pub signOf : Float → Bool
-signOf nan = false
-signOf (inf s) = s
-signOf (fin s m e) = s
 
 finite-value : (x : Float) → T (finite x) → HasValue x (signOf x) (num x) (den x)
 finite-value nan h = absurd h

@@ -13,7 +13,7 @@ use lib.Ieee.Back.{round-whole}
 use Rattle.integer.specs.definitions.Rounding.{near}
 use Rattle.integer.specs.laws.NearLaws.{near-whole}
 use Rattle.model.specs.definitions.Models.{scale}
-use Rattle.proposals.specs.definitions.Values.{scaleValue, valueOf}
+use Rattle.proposals.specs.definitions.Values.{scaleValue, valueOf, negative}
 use Rattle.proposals.specs.definitions.Units.{signed, unitsOf}
 use Rattle.proposals.specs.laws.UnitsLaws.{signed-scaled, units-value}
 
@@ -58,10 +58,6 @@ over-scale (fin true m e) s n h v =
     subst (λ (b : Bool). HasValue (div binary64 (fin true m e) scaleValue) b n (2 ^ 20)) (v .0) (quotient-exact true (m * up e) (down e) n (down-pos e) h (v .1))
 over-scale (fin false m e) s n h v =
     subst (λ (b : Bool). HasValue (div binary64 (fin false m e) scaleValue) b n (2 ^ 20)) (v .0) (quotient-exact false (m * up e) (down e) n (down-pos e) h (v .1))
-
-abbrev pub negative : ℤ → Bool
-negative (pos n) = false
-negative (negsuc n) = true
 
 -- z units are z / S, exactly
 pub value-exact : (z : ℤ) → natAbs z < 2 ^ 53 → HasValue (valueOf z) (negative z) (natAbs z) (2 ^ 20)

@@ -31,7 +31,7 @@ of-values P (fin false m e) (fin false n g) a c b d h k p = p m n e g (h .1) (k 
 sum-crossed : (x y p q a b c d : ℕ) → x * c ≡ a * p → y * d ≡ b * q → (x * q + y * p) * (c * d) ≡ (a * d + b * c) * (p * q)
 sum-crossed x y p q a b c d h k = omega (arith, ap (λ (z : ℕ). z * (q * d)) h, ap (λ (z : ℕ). z * (p * c)) k)
 
-product-crossed : (x y p q a b c d : ℕ) → x * c ≡ a * p → y * d ≡ b * q → x * y * (c * d) ≡ a * b * (p * q)
+pub product-crossed : (x y p q a b c d : ℕ) → x * c ≡ a * p → y * d ≡ b * q → x * y * (c * d) ≡ a * b * (p * q)
 product-crossed x y p q a b c d h k = omega (arith, ap (λ (z : ℕ). z * (y * d)) h, ap (λ (z : ℕ). z * (a * p)) k)
 
 quotient-crossed : (x y p q a b c d : ℕ) → x * c ≡ a * p → y * d ≡ b * q → x * q * (b * c) ≡ a * d * (y * p)

@@ -62,6 +62,13 @@ pub selections : Selections
 unfolding tighter proposalNeeding quotientNeeding quotientContraction quotientResidual quotientModel displacement productList passing sameInterval goodEnds partsWithinLimits good tooLarge constantModel zeroModel weight addLists subtractLists scaleList addAtBy addPairBy addTermBy addTermsBy product upℕ
 selections = (refl, refl, refl, refl, refl, refl, refl, refl, refl, refl, refl, refl, refl, refl, refl, refl)
 
+-- chosen and radius are different numbers, by their names: of 699056 and 699054, with radii 7 and 5
+pub chosen-and-radius :
+    (pair (proposal 699056 w) (proposal 699054 w) ≡ accepted (record { chosen = 2; radius = 5 }))
+    × (pair (proposal 699054 w) (proposal 699056 w) ≡ accepted (record { chosen = 1; radius = 5 }))
+unfolding tighter proposalNeeding quotientNeeding quotientContraction quotientResidual quotientModel displacement productList passing sameInterval goodEnds partsWithinLimits good tooLarge constantModel zeroModel weight addLists subtractLists scaleList addAtBy addPairBy addTermBy addTermsBy product upℕ
+chosen-and-radius = (refl, refl)
+
 -- h's coefficients behind the degree, in the chosen slice; of none an empty part where the first begins
 abbrev pub Parts : Type 0
 Parts =

@@ -13,18 +13,20 @@ use Rattle.model.specs.definitions.Area.{candidateSize, areaCandidate}
 use Rattle.model.specs.laws.AreaLaws.{candidate-front}
 use Rattle.model.specs.definitions.Outcomes.{accepted, refused, mapOutcome, judged}
 use Rattle.model.specs.laws.PlaceLaws.{refused-not-accepted}
-use Rattle.model.specs.laws.OutcomeLaws.{judged-mapped}
+use Rattle.model.specs.laws.OutcomeLaws.{accepted-judged, judged-mapped}
 use Rattle.model.specs.definitions.Allowed.{AllowsAt}
 use Rattle.model.specs.declared.types.Model.{Model}
 use Rattle.model.specs.declared.types.Candidate.{Candidate}
+use Rattle.model.specs.declared.types.Verdict.the-variants.{Accepted}
 use Rattle.certificate.specs.definitions.Tests.{scratchSize, Certificate, zeroCertificate, testOf}
 use Rattle.certificate.specs.declared.types.TestOutcome.{TestOutcome}
 use Rattle.certificate.specs.definitions.Quotient.{quotientTest, quotientModel}
+use Rattle.certificate.specs.definitions.Promise.{QuotientAllowed}
 use Rattle.certificate.specs.laws.GroupTheorem.{quotient-as-65, quotient-below-16}
 use Rattle.certificate.specs.laws.QuotientConditions.{quotient-passes}
-use Rattle.certificate.specs.laws.QuotientSound.{quotient-nonzero, quotient-sound}
+use Rattle.certificate.specs.laws.PromiseLaws.{quotient-allowed}
 use Rattle.selection.specs.definitions.Proposal.{proposalSize, proposedAnswer, proposedHelper, proposalNeeding, proposalTest, resultRadius, proposalRadius}
-use Rattle.selection.specs.definitions.Promise.{QuotientAllowed}
+use Rattle.selection.specs.definitions.Promise.{partModel}
 
 -- ---- the scratch
 
@@ -62,14 +64,18 @@ module _ (len : ℕ) (f g : Model) (s : List ℤ) where
   unfolding zeroModel
   short-radius e = ap (mapOutcome resultRadius) (proposal-short e)
 
-  -- the code's candidates are read from two parts of the proposal, and its radius from the test's result
-  pub proposal-read : (h w : Candidate) → proposalSize ≤ length s → h ≡ areaCandidate (take candidateSize s)
+  -- the code's candidates are read from two parts of the proposal
+  pub test-read : (h w : Candidate) → proposalSize ≤ length s → h ≡ areaCandidate (take candidateSize s)
       → w ≡ areaCandidate (take candidateSize (drop candidateSize s)) → (t : TestOutcome) → testOf t ≡ quotientTest len f g h w
-      → judged (t .verdict) (t .model .radius) ≡ proposalRadius len f g s
-  proposal-read h w long eh ew t et =
+      → testOf t ≡ proposalTest len f g s
+  test-read h w long eh ew t et =
       let i = eh ∙ candidate-front candidateSize s (omega arith) in
       let j = ew ∙ candidate-front candidateSize (drop candidateSize s) (omega arith) in
-      judged-mapped resultRadius (t .verdict) _ ∙ ap (mapOutcome resultRadius) (et ∙ (λ k. quotientTest len f g (i k) (j k)) ∙ sym (proposal-long long))
+      et ∙ (λ k. quotientTest len f g (i k) (j k)) ∙ sym (proposal-long long)
+
+  -- and its radius from the test's result
+  pub proposal-read : (t : TestOutcome) → testOf t ≡ proposalTest len f g s → judged (t .verdict) (t .model .radius) ≡ proposalRadius len f g s
+  proposal-read t e = judged-mapped resultRadius (t .verdict) _ ∙ ap (mapOutcome resultRadius) e
 
 -- ---- a proposal that passes
 
@@ -91,11 +97,25 @@ module _ (len : ℕ) (f g : Model) (s : List ℤ) {c : Certificate} (passes : pr
   proposal-result =
       let same = quotient-passes len f g (proposedAnswer s) (proposedHelper s) test-passes .1 in rw same
 
-  pub proposal-allowed : QuotientAllowed f g (proposedAnswer s .coefficients) (c .model .radius)
-  unfolding AllowsAt
-  proposal-allowed = record {
-    divisor = λ x v on hv.
-        quotient-nonzero len f g (proposedAnswer s) (proposedHelper s) test-passes x on v hv;
-    quotient = λ x u v on hu hv.
-        rw proposal-result at (quotient-sound len f g (proposedAnswer s) (proposedHelper s) test-passes x on u v hu hv);
-  }
+-- ---- what is promised of it
+
+-- of the part, where it is promised of the same coefficients with any degree
+part-allowed : {f g q : Model} {n : ℕ} {cs : List ℤ} {e : ℕ} → q ≡ makeModel n cs e (f .interval) → QuotientAllowed f g q
+    → QuotientAllowed f g (partModel cs e (f .interval))
+unfolding AllowsAt
+part-allowed same a = record {
+  divisor = a .divisor;
+  quotient = λ x u v on hu hv.
+      rw same at (a .quotient x u v on hu hv);
+}
+
+module _ (len : ℕ) (f g : Model) (s : List ℤ) where
+  pub proposal-allowed : {c : Certificate} → proposalTest len f g s ≡ accepted c
+      → QuotientAllowed f g (partModel (proposedAnswer s .coefficients) (c .model .radius) (f .interval))
+  proposal-allowed passes =
+      part-allowed (proposal-result len f g s passes) (quotient-allowed len f g (proposedAnswer s) (proposedHelper s) (test-passes len f g s passes))
+
+  -- of the code's test, from what is promised of its result
+  pub proposal-promised : (t : TestOutcome) → testOf t ≡ proposalTest len f g s → (t .verdict ≡ Accepted → QuotientAllowed f g (t .model))
+      → t .verdict ≡ Accepted → QuotientAllowed f g (partModel (proposedAnswer s .coefficients) (t .model .radius) (f .interval))
+  proposal-promised t e promise a = part-allowed (proposal-result len f g s (accepted-judged (t .verdict) _ e a)) (promise a)

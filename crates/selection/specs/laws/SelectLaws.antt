@@ -1,9 +1,9 @@
 -- What a selection tells of the two proposals, what the lent numbers mean, and how long the scratch must be.
 use mathlib.Core.Path.{_≡_, refl, sym, _∙_, ap, ap₂}
-use mathlib.Core.Logic.{_⊎_, inl, inr}
+use mathlib.Core.Logic.{_⊎_, inl, inr, ⊎-elim}
 use mathlib.Core.Bool.{Bool, true, false, cond}
 use mathlib.Core.List.{List}
-use Prim.Native.Nat.{ℕ, _≤_, _<_}
+use Prim.Native.Nat.{ℕ, _≤_, _<_, min}
 use native.Mathlib.Omega.{arith}
 use borrow.Author.Tests.{ltb-true, ltb-false, le-ltb, lt-ltb, eqb-true}
 use lib.Dec.{eqb, ltb}
@@ -16,6 +16,7 @@ use Rattle.model.specs.declared.types.Model.{Model}
 use Rattle.certificate.specs.definitions.Tests.{scratchSize}
 use Rattle.selection.specs.definitions.Proposal.{resultRadius, proposalOf}
 use Rattle.selection.specs.definitions.Select.{Selected, makeSelected, tighter, selection, selectionNeeding, selectionOf, selectedOf}
+use Rattle.selection.specs.definitions.Promise.{Tightest}
 use Rattle.selection.specs.laws.ProposalLaws.{proposal-as-65, proposal-below-16}
 use Rattle.selection.specs.declared.types.ProposalOutcome.{ProposalOutcome}
 use Rattle.selection.specs.declared.types.Selection.{Selection}
@@ -45,13 +46,8 @@ neither n z m y = refl
 
 -- ---- the chosen proposal
 
--- it passes with the radius of the selection, and no proposal that passes has a smaller one
-pub record IsLeast (a b : Outcome ℕ) (c : Selected) : Type 0 where
-  pub passes : ((c .chosen ≡ 1) × (a ≡ accepted (c .radius))) ⊎ ((c .chosen ≡ 2) × (b ≡ accepted (c .radius)))
-  pub least-first : (e : ℕ) → a ≡ accepted e → c .radius ≤ e
-  pub least-second : (d : ℕ) → b ≡ accepted d → c .radius ≤ d
-
-both : (e d : ℕ) (t : Bool) → ltb d e ≡ t → IsLeast (accepted e) (accepted d) (cond t (makeSelected 2 d) (makeSelected 1 e))
+-- the tighter one is the tightest: it passes with the radius of the selection, and no proposal that passes has a smaller one
+both : (e d : ℕ) (t : Bool) → ltb d e ≡ t → Tightest (accepted e) (accepted d) (cond t (makeSelected 2 d) (makeSelected 1 e))
 both e d true h = record {
   passes = inr (refl, refl);
   least-first = λ x i. omega (arith, ltb-true d e h, ap payload i);
@@ -63,7 +59,7 @@ both e d false h = record {
   least-second = λ x i. omega (arith, ltb-false d e h, ap payload i);
 }
 
-pub tighter-is-least : (a b : Outcome ℕ) {c : Selected} → tighter a b ≡ accepted c → IsLeast a b c
+pub tighter-is-least : (a b : Outcome ℕ) {c : Selected} → tighter a b ≡ accepted c → Tightest a b c
 unfolding tighter
 tighter-is-least (accepted e) (accepted d) h = rw (sym (ap payload h)) (both e d (ltb d e) refl)
 tighter-is-least (accepted e) (refused m z) h =
@@ -73,6 +69,16 @@ tighter-is-least (refused n z) (accepted d) h =
     rw (sym (ap payload h))
     (record { passes = inr (refl, refl); least-first = λ x i. absurd (refused-not-accepted i); least-second = λ x i. omega (arith, ap payload i) })
 tighter-is-least (refused n z) (refused m y) h = absurd (refused-not-accepted h)
+
+-- where both pass, the radius is the smaller of theirs
+pub tightest-radius : {a b : Outcome ℕ} {c : Selected} → Tightest a b c → (e d : ℕ) → a ≡ accepted e → b ≡ accepted d → c .radius ≡ min e d
+tightest-radius t e d ea eb =
+    smaller _ (t .least-first e ea) (t .least-second d eb)
+    (⊎-elim (λ p. inl (ap payload (sym (p .1) ∙ ea))) (λ p. inr (ap payload (sym (p .1) ∙ eb))) (t .passes))
+  where
+    smaller : (r : ℕ) → r ≤ e → r ≤ d → (r ≡ e) ⊎ (r ≡ d) → r ≡ min e d
+    smaller r i j (inl k) = omega arith
+    smaller r i j (inr k) = omega arith
 
 -- nothing is chosen only where neither passes; the number is then that of the first
 pub none-passes : (a b : Outcome ℕ) {n : ℕ} {c : Selected} → tighter a b ≡ refused n c

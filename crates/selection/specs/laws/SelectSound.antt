@@ -14,9 +14,10 @@ use Rattle.model.specs.definitions.Allowed.{AllowsAt, Allows, OnInterval}
 use Rattle.model.specs.definitions.Outcomes.{accepted}
 use Rattle.model.specs.laws.PlaceLaws.{mapped-accepted}
 use Rattle.model.specs.declared.types.Model.{Model}
+use Rattle.certificate.specs.definitions.Promise.{QuotientAllowed}
 use Rattle.selection.specs.definitions.Proposal.{proposalSize, proposedAnswer, proposalTest, resultRadius, proposalRadius}
 use Rattle.selection.specs.definitions.Select.{Selected, selection, byChosen, partNumbers}
-use Rattle.selection.specs.definitions.Promise.{QuotientAllowed}
+use Rattle.selection.specs.definitions.Promise.{partModel}
 use Rattle.selection.specs.laws.ProposalLaws.{passes-long, proposal-allowed}
 use Rattle.selection.specs.laws.SelectLaws.{tighter-is-least}
 
@@ -24,7 +25,7 @@ module _ (len : ℕ) (f g : Model) (s : List ℤ) {e : ℕ} (passes : proposalRa
   radius-long : proposalSize ≤ length s
   radius-long = passes-long len f g s (mapped-accepted resultRadius (proposalTest len f g s) passes .1 .0)
 
-  radius-allowed : QuotientAllowed f g (proposedAnswer s .coefficients) e
+  radius-allowed : QuotientAllowed f g (partModel (proposedAnswer s .coefficients) e (f .interval))
   radius-allowed =
       let m = mapped-accepted resultRadius (proposalTest len f g s) passes in
       rw (sym (m .1 .1)) (proposal-allowed len f g s (m .1 .0))
@@ -37,9 +38,9 @@ module _ (len : ℕ) (f g : Model) (first second : List ℤ) {c : Selected} (acc
       ⊎-elim (λ p. subst P (sym (p .0)) (one (p .1))) (λ p. subst P (sym (p .0)) (two (p .1)))
       (tighter-is-least (proposalRadius len f g first) (proposalRadius len f g second) accepts .passes)
 
-  pub selection-allowed : QuotientAllowed f g (partNumbers (c .chosen) first second) (c .radius)
+  pub selection-allowed : QuotientAllowed f g (partModel (partNumbers (c .chosen) first second) (c .radius) (f .interval))
   selection-allowed =
-      of-chosen (λ (k : ℕ). QuotientAllowed f g (partNumbers k first second) (c .radius)) (radius-allowed len f g first) (radius-allowed len f g second)
+      of-chosen (λ (k : ℕ). QuotientAllowed f g (partModel (partNumbers k first second) (c .radius) (f .interval))) (radius-allowed len f g first) (radius-allowed len f g second)
 
   -- the chosen proposal has all its numbers
   pub chosen-long : proposalSize ≤ length (byChosen (c .chosen) [] first second)
@@ -54,7 +55,7 @@ module _ (len : ℕ) (f g : Model) (first second : List ℤ) {c : Selected} (acc
       count s h = length-take-le coefficientCount (drop 1 s) (omega (arith, h, length-drop 1 s))
 
 -- the claim put to use, of a part with any degree
-pub allowed-quotient : {f g : Model} {cs : List ℤ} {e : ℕ} → QuotientAllowed f g cs e → (n : ℕ) (x u v : ℚ) → OnInterval (f .interval) x
+pub allowed-part : {f g : Model} {cs : List ℤ} {e : ℕ} → QuotientAllowed f g (partModel cs e (f .interval)) → (n : ℕ) (x u v : ℚ) → OnInterval (f .interval) x
     → Allows f x u → Allows g x v → (¬ (v ≡ whole (pos 0))) × Allows (makeModel n cs e (f .interval)) x (u /ℚ v)
 unfolding AllowsAt
-allowed-quotient q n x u v on hu hv = (q .divisor x v on hv, q .quotient x u v on hu hv)
+allowed-part q n x u v on hu hv = (q .divisor x v on hv, q .quotient x u v on hu hv)

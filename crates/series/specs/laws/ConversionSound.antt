@@ -1,4 +1,4 @@
--- Document 02, S-3: "Each converted model allows the series' exact value at every fraction from −1 to 1."
+-- Document 02, S-3: "Each converted model allows the series' exact value at every fraction from −1 to 1." And it is a good model.
 use mathlib.Core.Path.{_≡_, refl, sym, _∙_, ap, ap₂, subst, subst⁻¹}
 use mathlib.Core.Bool.{true}
 use mathlib.Core.List.{List, [], _∷_}
@@ -16,23 +16,28 @@ use Rattle.integer.specs.laws.FractionSolver.{solveℚ, reifyℚ}
 use Rattle.chebyshev.specs.definitions.Allows.{allows}
 use Rattle.chebyshev.specs.definitions.Coefficients.{value, valueFrom, weight, scaleList}
 use Rattle.chebyshev.specs.laws.Weight.{weight-end, weight-zero}
-use Rattle.model.specs.definitions.Models.{scale, coefficientCount, zeroModel}
-use Rattle.model.specs.definitions.Outcomes.{accepted}
+use Rattle.model.specs.definitions.Models.{scale, coefficientCount, beyond, good, zeroModel}
+use Rattle.model.specs.definitions.Outcomes.{accepted, outcomeOf}
 use Rattle.model.specs.definitions.Round.{rounded, roundingLoss}
-use Rattle.model.specs.definitions.Intervals.{standardInterval}
+use Rattle.model.specs.definitions.Intervals.{goodEnds, standardInterval}
+use Rattle.model.specs.laws.GoodResults.{good-small, weight-behind}
 use Rattle.model.specs.laws.IntervalLaws.{within}
 use Rattle.model.specs.laws.StandardInterval.{standard-ends, position-standard, on-standard}
 use Rattle.model.specs.definitions.Allowed.{position, AllowsAt, Allows}
 use Rattle.model.specs.laws.PlaceLaws.{outcome-accepted}
-use Rattle.model.specs.laws.RoundingPassLaws.{rounding-value}
+use Rattle.model.specs.laws.OutcomeLaws.{accepted-judged}
+use Rattle.model.specs.laws.RoundingPassLaws.{rounding-value, rounded-length}
 use Rattle.model.specs.laws.ValueLaws.{valueAt, valueAt-add, valueAt-scale, valueAt-append-zeros, scale-nonzero}
 use Rattle.model.specs.declared.types.Model.{Model}
+use Rattle.model.specs.declared.types.ModelOutcome.{ModelOutcome}
+use Rattle.model.specs.declared.types.Verdict.the-variants.{Accepted}
 use Rattle.series.specs.definitions.Table.{expansionUnit, expansionRow}
 use Rattle.series.specs.definitions.Convert.{seriesTerms, goodSeries, expandedFrom, expanded, seriesModel, conversionPlaces, conversion}
 use Rattle.series.specs.definitions.SeriesValue.{power, seriesFrom, seriesValue}
+use Rattle.series.specs.definitions.Promise.{SeriesAllowed}
 use Rattle.series.specs.declared.types.Series.{Series}
 use Rattle.series.specs.laws.RowLaws.{expansion-value}
-use Rattle.series.specs.laws.ConversionLaws.{limits}
+use Rattle.series.specs.laws.ConversionLaws.{limits, length-expanded}
 
 -- ---- the value of the expanded series is 2^32 times that of the series
 
@@ -108,3 +113,28 @@ conversion-sound s {m} e x above below =
     let v = seriesValue (s .coefficients) x /ℚ whole (pos scale) in
     let at-x = subst⁻¹ (λ r. AllowsAt r x v) (p .1) (series-sound s (not-false (goodSeries s) (p .0 .0)) x near) in
     subst⁻¹ (λ i. AllowsAt m (position i x) v) (conversion-interval s e) (subst⁻¹ (λ y. AllowsAt m y v) (position-standard x) at-x)
+
+-- both, of the code's model where its verdict is an acceptance
+pub series-allowed : (s : Series) (r : ModelOutcome) → outcomeOf r ≡ conversion s → r .verdict ≡ Accepted → SeriesAllowed s (r .model)
+series-allowed s r e a =
+    let given = accepted-judged (r .verdict) (r .model) e a in
+    record { value = conversion-sound s given; interval = conversion-interval s given }
+
+-- the promise put to use
+pub allowed-series : {s : Series} {m : Model} → SeriesAllowed s m → (x : ℚ) → (-ℚ whole (pos 1)) ≤ℚ x → x ≤ℚ whole (pos 1)
+    → (m .interval ≡ standardInterval) × Allows m x (seriesValue (s .coefficients) x /ℚ whole (pos scale))
+allowed-series a x above below = (a .interval, a .value x above below)
+
+-- ---- a converted model is good, so that no operation refuses it with 2 or 18
+
+series-beyond : (s : Series) → weight (beyond (seriesModel s)) ≡ 0
+unfolding seriesModel
+series-beyond s =
+    weight-behind (suc (s .degree)) (rounded expansionUnit (expanded s)) (coefficientCount - suc (s .degree))
+    (rw (rounded-length, length-expanded, length-take) (omega arith))
+
+pub conversion-good : (s : Series) {m : Model} → conversion s ≡ accepted m → good m ≡ true
+unfolding conversion seriesModel goodEnds
+conversion-good s e =
+    let (passed, same) = outcome-accepted (conversionPlaces s) (seriesModel s) zeroModel e in
+    rw same (good-small (seriesModel s) (passed .1 .0) (series-beyond s) refl)

@@ -5,9 +5,8 @@ use Prim.Native.Nat.{_≤_}
 use native.Mathlib.Omega.{arith}
 use Rattle.model.specs.definitions.Models.{maxWeight}
 use Rattle.model.specs.laws.ModelLaws.{good-is}
-use Rattle.certificate.specs.definitions.Tests.{testOf, placed}
+use Rattle.certificate.specs.definitions.Tests.{testOf, placed, refusedTest}
 use Rattle.certificate.specs.laws.Stages.{displacement-bound}
-use Rattle.certificate.specs.definitions.InnerContracts.{refusedTest}
 use Rattle.certificate.specs.laws.QuotientStages.{quotient-not-contracting, quotient-large-residual, quotient-formed}
 use Rattle.certificate.specs.definitions.Quotient.{quotientContraction, quotientResidual}
 use Rattle.certificate.specs.laws.Stages.{standard-good, quotientContraction-standard, quotientResidual-standard}

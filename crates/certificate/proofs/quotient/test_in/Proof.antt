@@ -7,8 +7,7 @@ use Rattle.model.specs.definitions.Models.{partsWithinLimits, good}
 use Rattle.model.specs.laws.ModelLaws.{good-ends}
 use Rattle.model.specs.declared.types.Candidate.{Candidate}
 use Rattle.model.specs.declared.types.Model.{Model}
-use Rattle.certificate.specs.definitions.Tests.{placed}
-use Rattle.certificate.specs.definitions.InnerContracts.{refusedTest}
+use Rattle.certificate.specs.definitions.Tests.{placed, refusedTest}
 use Rattle.certificate.specs.laws.QuotientStages.{quotient-bad-f, quotient-bad-g, quotient-bad-h, quotient-bad-w, quotient-different}
 use Rattle.certificate.specs.laws.Stages.{candidate-good, candidate-fault}
 use Rattle.certificate.proofs.quotient.test_in.Statement.{statement}

@@ -5,6 +5,8 @@ use Prim.Native.Nat.{ℕ}
 use lib.ListN.{length}
 use Rattle.model.specs.definitions.Outcomes.{numberOf}
 use Rattle.certificate.specs.definitions.InnerContracts.{reachOf}
+use Rattle.certificate.specs.definitions.Promise.{RootAllowed}
+use Rattle.certificate.specs.laws.PromiseLaws.{test-promised, root-allowed}
 use Rattle.certificate.specs.laws.RootStages.{RootReached, root-reached-is, root-refused-is, root-last}
 use Rattle.certificate.proofs.root.root.Statement.{statement}
 use Rattle.certificate.proofs.root.root.Tie as tie
@@ -39,16 +41,23 @@ returns : tie.Need-returns
 returns c =
     let d = c .before .before in
     let r = d .before .before .before .root-numbers in
-    let a = d .before .before .before .before .before .args in (
-      c .refused .ensures
-          ∙ sym (root-refused-is (length (a .scratch .now)) (a .f) (a .h) (a .w) (a .rule) (numberOf (d .numbers .given .0 .0))
-          (sym (r .ensures .0) ∙ ap reachOf (d .numbers .given .1))),
-      r .ensures .1,
-    )
+    let a = d .before .before .before .before .before .args in
+    let n = length (a .scratch .now) in
+    let e =
+    c .refused .ensures
+    ∙ sym (root-refused-is n (a .f) (a .h) (a .w) (a .rule) (numberOf (d .numbers .given .0 .0)) (sym (r .ensures .0) ∙ ap reachOf (d .numbers .given .1))) in
+    (e, (r .ensures .1, test-promised (RootAllowed (a .f)) (c .refused .result) e (λ _ p. root-allowed (a .rule) n (a .f) (a .h) (a .w) p)))
 
 returns-2 : tie.Need-returns-2
 returns-2 c =
-    (c .root-result .ensures ∙ sym (is-reached (c .before) .last (s (c .before) .args .rule)), c .before .before .before .before .before .root-numbers .ensures .1)
+    let a = s (c .before) .args in
+    let e = c .root-result .ensures ∙ sym (is-reached (c .before) .last (a .rule)) in (
+      e,
+      (
+        c .before .before .before .before .before .root-numbers .ensures .1,
+        test-promised (RootAllowed (a .f)) (c .root-result .result) e (λ _ p. root-allowed (a .rule) (length (a .scratch .now)) (a .f) (a .h) (a .w) p),
+      ),
+    )
 
 pub root-spec : {M : Type 1} → statement M
 root-spec =

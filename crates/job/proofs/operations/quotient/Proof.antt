@@ -43,7 +43,7 @@ returns c =
           held-two z (λ f g. quotientTest scratchSize f g h w) f g (byteAt job (at + 1)) (byteAt job (at + 2))
           (o .read-operands .ensures .0) (o .read-operands .ensures .1) n
           ∙ sym (quotient-operation _ _ h w rs)),
-      q .quotient .ensures .1 ∙ s .pre .1 .clear,
+      q .quotient .ensures .1 .0 ∙ s .pre .1 .clear,
     )
 
 pub quotient-spec : {M : Type 1} → statement M

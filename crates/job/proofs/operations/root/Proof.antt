@@ -51,7 +51,7 @@ returns c =
           (λ count rs t z n.
           held-one z (λ f. rootTest rule scratchSize f h w) f (byteAt job (at + 1)) (e .named .ensures) n
           ∙ sym (root-operation rule _ h w rs)),
-      q .root .ensures .1 ∙ s .pre .1 .clear,
+      q .root .ensures .1 .0 ∙ s .pre .1 .clear,
     )
 
 pub root-spec : {M : Type 1} → statement M

@@ -92,13 +92,14 @@ multiply-good-requires c κs =
 
 returns-5 : tie.Need-returns-5
 returns-5 c =
-    let j = c .before .before in
+    let g = c .before in
+    let j = g .before .before in
     let h = j .before in
     let x = e (k h) in
     let d = s x .args .kept in
-    c .multiply-good .ensures
+    g .multiply-good .ensures .0
     ∙ ap (λ (n : ℕ). unlessLarge (productModel n (a x) (b x))) (degree-is j)
-    ∙ multiplication-of-good d (a x) (b x) (good-a x) (good-b (k h)) (same-interval h) (subst (λ (n : ℕ). n ≤ maxDegree) (degree-is j) (c .before .if5 .left))
+    ∙ multiplication-of-good d (a x) (b x) (good-a x) (good-b (k h)) (same-interval h) (subst (λ (n : ℕ). n ≤ maxDegree) (degree-is j) (g .before .if5 .left))
 
 pub multiply-spec : {M : Type 1} → statement M
 multiply-spec =

@@ -12,9 +12,9 @@ use Rattle.chebyshev.specs.laws.Weight.{weight-take}
 use Rattle.model.specs.definitions.InnerContracts.{RoundedFrom, formedOutcome}
 use Rattle.model.specs.definitions.Models.{scale}
 use Rattle.model.specs.laws.ModelLaws.{Good, good-is}
-use Rattle.model.specs.definitions.Multiply.{productDegree, productList}
+use Rattle.model.specs.definitions.Multiply.{productDegree, productList, productVisits}
 use Rattle.model.specs.laws.GoodLaws.{weight-productList}
-use Rattle.model.specs.laws.MultiplicationLaws.{kept-is, radiusLoss, product-formed}
+use Rattle.model.specs.laws.MultiplicationLaws.{kept-is, radiusLoss, walk-rounded, product-formed}
 use Rattle.model.specs.laws.RoundingPassLaws.{rounded-loss}
 use Rattle.model.specs.declared.types.Model.{Model}
 use Rattle.model.proofs.multiply.multiply_good.Statement.{statement}
@@ -84,7 +84,7 @@ round-product-requires c κs =
       good-b s,
     )
 
--- the rounded list C
+-- the walk, and the list C that it formed, rounded
 module _ (c : tie.After-round-product) where
   abbrev at : tie.Joined1
   at = c .before .before .before .before .before .before .before .before
@@ -92,31 +92,31 @@ module _ (c : tie.After-round-product) where
   abbrev start : tie.Start
   start = s at
 
-  rounded-from : RoundedFrom (2 * scale) (productList (a start) (b start)) (suc (productDegree (start .args .kept) (a start) (b start))) (c .round-product .result)
-  unfolding productList
-  rounded-from = simp (add-one, degree-is at) at (c .round-product .ensures)
+  walked :
+      RoundedFrom (2 * scale) (productList (a start) (b start)) (suc (productDegree (start .args .kept) (a start) (b start))) (c .round-product .result .rounded)
+      × (c .round-product .result .visits ≡ productVisits (a start) (b start))
+  walked = walk-rounded (a start) (b start) (c .round-product .result) (simp (add-one, degree-is at) at (c .round-product .ensures))
 
 radius-loss-requires : tie.Need-radius-loss-requires
-radius-loss-requires c κs = let s = start (c .before .before .before) in omega (arith, s .pre, good-a s, good-b s)
+radius-loss-requires c κs = let s = start (c .before .before .before .before) in omega (arith, s .pre, good-a s, good-b s)
 
 add-loss : tie.Need-add-loss
 add-loss c =
-    let r = c .before .before .before .before .before in
+    let r = c .before .before .before .before .before .before in
     let s = start r in
-    omega (arith, c .before .radius-loss .ensures .1, rounded-loss (2 * scale) (omega arith) (productList (a s) (b s)) _ (r .round-product .result) (rounded-from r), weight-productList (a s) (b s) (s .pre .first-good) (s .pre .second-good))
+    omega (arith, c .before .radius-loss .ensures .1, rounded-loss (2 * scale) (omega arith) (productList (a s) (b s)) _ (r .round-product .result .rounded) (walked r .0), weight-productList (a s) (b s) (s .pre .first-good) (s .pre .second-good))
 
 returns : tie.Need-returns
 returns c =
     let u = c .before in
     let l = u .before .before in
-    let r = l .before .before .before .before in
+    let r = l .before .before .before .before .before in
     let s = start r in
-    let p = r .round-product .result in
+    let p = r .round-product .result .rounded in
     let n : l .radius-loss .result ≡ radiusLoss (a s) (b s) = l .radius-loss .ensures .0 ∙ (λ t. 2 * (s .pre .first-weight t * b s .radius + s .pre .second-weight t * a s .radius + a s .radius * b s .radius)) in
     let e : u .up-unsigned .result ≡ upℕ (p .loss + radiusLoss (a s) (b s)) (2 * scale) = u .up-unsigned .ensures ∙ ap (λ m. upℕ (p .loss + m) (2 * scale)) n in
-    c .formed .ensures
-    ∙ (λ t. formedOutcome (degree-is (at r) t) (p .coefficients) (p .weight) (e t) (a s .interval))
-    ∙ product-formed (s .args .kept) (a s) (b s) p (rounded-from r)
+    let o = c .formed .ensures ∙ (λ t. formedOutcome (degree-is (at r) t) (p .coefficients) (p .weight) (e t) (a s .interval)) ∙ product-formed (s .args .kept) (a s) (b s) p (walked r .0) in
+    (o, walked r .1)
 
 pub multiply-good-spec : {M : Type 1} → statement M
 multiply-good-spec =

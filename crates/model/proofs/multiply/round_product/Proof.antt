@@ -1,4 +1,4 @@
--- `multiply::round_product` meets its contract: C ends where it is cut off.
+-- `multiply::round_product` meets its contract: C ends where it is cut off, and the visits are those of the walk that formed it.
 use borrow.Author.Needs.{needs}
 use mathlib.Core.Path.{_≡_, sym, ap}
 use mathlib.Core.List.{List}
@@ -62,10 +62,12 @@ round-requires c κs =
     })
 
 returns : tie.Need-returns
+unfolding product
 returns c =
     let s = c .before .before .before .before .before in
-    rounded-prefix (2 * scale) (C s) (end s) (s .args .kept) (c .round .result) (product-end productSize (end s) (a s) (b s) (omega arith)) (omega (arith, s .pre))
-    (rw (formed (c .before .before .before)) at (c .round .ensures))
+    let p = c .before .before .before in
+    let f = rounded-prefix (2 * scale) (C s) (end s) (s .args .kept) (c .round .result) (product-end productSize (end s) (a s) (b s) (omega arith)) (omega (arith, s .pre)) (rw (formed p) at (c .round .ensures)) in
+    record { list = C s; walk-is = λ t. (C s, p .add-products .ensures .0 t .1); rounded-from = f }
 
 pub round-product-spec : {M : Type 1} → statement M
 round-product-spec =

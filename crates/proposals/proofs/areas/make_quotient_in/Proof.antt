@@ -27,7 +27,7 @@ returns c =
     rw (t .if1 .taken)
     (r .answer-quotient .ensures
     ∙ ap (λ o. quotientIn o (now (a .recorded)) (now (a .h)) (now (a .w)) (now (a .outcome)))
-    (m .make-quotient .ensures ∙ ap₂ quotientProposal (i .model-in .ensures) (j .model-in2 .ensures)))
+    (m .make-quotient .ensures .0 ∙ ap₂ quotientProposal (i .model-in .ensures) (j .model-in2 .ensures)))
 
 returns-2 : tie.Need-returns-2
 returns-2 c =
@@ -41,6 +41,6 @@ pub make-quotient-in-spec : {M : Type 1} → statement M
 make-quotient-in-spec =
     tie.close (tie.spec
     model-in-requires model-in-requires-2 (λ c κs. search needs)
-    (λ c κs. let u = c .before .before .before .before .make-quotient in quotient-degrees (u .result) _ _ (u .ensures))
+    (λ c κs. let u = c .before .before .before .before .make-quotient in quotient-degrees (u .result) _ _ (u .ensures .0))
     (λ c κs. search needs) (λ c κs. let u = c .before .before .before .before .refused in short-quotient-degrees (u .result) (u .ensures)) (λ c. search needs) (λ c. search needs)
     (λ c. search needs) (λ c. search needs) returns (λ c. search needs) (λ c. search needs) (λ c. search needs) (λ c. search needs) returns-2)

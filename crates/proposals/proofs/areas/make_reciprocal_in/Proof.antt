@@ -20,7 +20,7 @@ returns c =
     let a = t .before .before .before .args in
     rw (t .if1 .taken)
     (r .answer-reciprocal .ensures
-    ∙ ap (λ o. reciprocalIn o (now (a .recorded)) (now (a .w)) (now (a .outcome))) (m .make-reciprocal .ensures ∙ ap reciprocalProposal (i .model-in .ensures)))
+    ∙ ap (λ o. reciprocalIn o (now (a .recorded)) (now (a .w)) (now (a .outcome))) (m .make-reciprocal .ensures .0 ∙ ap reciprocalProposal (i .model-in .ensures)))
 
 returns-2 : tie.Need-returns-2
 returns-2 c =
@@ -33,6 +33,6 @@ returns-2 c =
 pub make-reciprocal-in-spec : {M : Type 1} → statement M
 make-reciprocal-in-spec =
     tie.close (tie.spec
-    model-in-requires (λ c κs. search needs) (λ c κs. let u = c .before .before .before .make-reciprocal in reciprocal-degree (u .result) _ (u .ensures))
+    model-in-requires (λ c κs. search needs) (λ c κs. let u = c .before .before .before .make-reciprocal in reciprocal-degree (u .result) _ (u .ensures .0))
     (λ c κs. search needs) (λ c κs. let u = c .before .before .before .refused in short-reciprocal-degree (u .result) (u .ensures)) (λ c. search needs) (λ c. search needs)
     (λ c. search needs) returns (λ c. search needs) (λ c. search needs) (λ c. search needs) returns-2)

@@ -12,7 +12,7 @@ use denote.Ref.{now}
 use Rattle.model.specs.definitions.Area.{areaOut}
 use Rattle.model.specs.laws.AreaLaws.{filled, untouched}
 use Rattle.proposals.proofs.Passes.{part-rest, put-rest}
-use Rattle.proposals.specs.definitions.Areas.{roundSize, quotientSize, roundNumbers}
+use Rattle.proposals.specs.definitions.Areas.{roundSize, quotientSize, roundNumbers, quotientNumbers}
 use Rattle.proposals.proofs.areas.store_quotient.Statement.{statement}
 use Rattle.proposals.proofs.areas.store_quotient.Tie as tie
 
@@ -29,24 +29,24 @@ written o q n d e h ed =
     ∙ sym (append-assoc q n (drop quotientSize o))
 
 returns : tie.Need-returns
-returns c = let a = c .before .before .args in untouched quotientSize (a .t2 ++ roundNumbers (a .round)) (now (a .recorded)) (c .if1 .taken)
+returns c = let a = c .before .before .args in untouched quotientSize (quotientNumbers (a .made)) (now (a .recorded)) (c .if1 .taken)
 
 copy-values-requires : tie.Need-copy-values-requires
 copy-values-requires c κs =
-    let e : length (c .before .before .before .before .args .t2) ≡ 33 = search needs in
+    let e : length (c .before .before .before .before .before .args .made .quotient) ≡ 33 = search needs in
     simp length-take (omega (arith, e))
 
 returns-2 : tie.Need-returns-2
 returns-2 c =
     let s = c .before .before in
     let p = s .before .before .before .before in
-    let t = p .before .before .before in
+    let t = p .before .before .before .before in
     let a = t .before .before .args in
-    let e : length (a .t2) ≡ 33 = search needs in
-    let n = roundNumbers (a .round) in
+    let e : length (a .made .quotient) ≡ 33 = search needs in
+    let n = roundNumbers (a .made .round) in
     written (now (a .recorded)) (p .copy-values .last .1 .0) n (s .store-round .last .0) (ap length (p .copy-values .ensures) ∙ e) (t .if1 .left) (s .store-round .ensures)
     ∙ ap (λ (q : List Float). (q ++ n) ++ drop quotientSize (now (a .recorded))) (p .copy-values .ensures)
-    ∙ filled quotientSize (a .t2 ++ n) (now (a .recorded)) (t .if1 .left)
+    ∙ filled quotientSize (quotientNumbers (a .made)) (now (a .recorded)) (t .if1 .left)
 
 pub store-quotient-spec : {M : Type 1} → statement M
 store-quotient-spec =

@@ -14,8 +14,9 @@ use Rattle.model.specs.declared.types.Candidate.{Candidate}
 use Rattle.proposals.specs.definitions.Product.{product}
 use Rattle.proposals.specs.definitions.Units.{inUnits}
 use Rattle.proposals.specs.definitions.Reciprocal.{valuesOf}
-use Rattle.proposals.specs.definitions.Quotient.{Quotient, makeQuotient, refusedQuotient, quotientProposal}
+use Rattle.proposals.specs.definitions.Quotient.{Quotient, quotientRecord, makeQuotient, refusedQuotient, quotientProposal}
 use Rattle.proposals.specs.laws.MakerLaws.{quotient-of-bad, quotient-by-bad, quotient-different, quotient-not-finite, quotient-in-units, thenUnits, units-stop, units-go-on}
+use Rattle.proposals.specs.laws.ExactQuotient.{with-exact-quotient}
 use Rattle.proposals.proofs.quotient.make_quotient.Statement.{statement}
 use Rattle.proposals.proofs.quotient.make_quotient.Tie as tie
 
@@ -24,8 +25,8 @@ returns c =
     let k = c .before in
     let b = k .before .before .is-good in
     let a = k .before .before .before .args in
-    c .refused .ensures ∙ ap (λ (n : ℕ). refused n refusedQuotient) (k .fault-of .ensures)
-    ∙ quotient-of-bad (a .f) (a .g) (sym (b .ensures) ∙ not-true (b .result) (k .before .if1 .taken))
+    with-exact-quotient (a .f) (a .g) (c .refused .ensures ∙ ap (λ (n : ℕ). refused n refusedQuotient) (k .fault-of .ensures)
+    ∙ quotient-of-bad (a .f) (a .g) (sym (b .ensures) ∙ not-true (b .result) (k .before .if1 .taken)))
 
 first-good : (e : tie.Else1) → good (e .before .before .args .f) ≡ true
 first-good e = let b = e .before .is-good in sym (b .ensures) ∙ not-false (b .result) (e .if1 .left)
@@ -36,8 +37,8 @@ returns-2 c =
     let b = k .before .before .is-good2 in
     let e = k .before .before .before in
     let a = e .before .before .args in
-    c .refused2 .ensures ∙ ap (λ (n : ℕ). refused n refusedQuotient) (k .fault-of2 .ensures)
-    ∙ quotient-by-bad (a .f) (a .g) (first-good e) (sym (b .ensures) ∙ not-true (b .result) (k .before .if2 .taken))
+    with-exact-quotient (a .f) (a .g) (c .refused2 .ensures ∙ ap (λ (n : ℕ). refused n refusedQuotient) (k .fault-of2 .ensures)
+    ∙ quotient-by-bad (a .f) (a .g) (first-good e) (sym (b .ensures) ∙ not-true (b .result) (k .before .if2 .taken)))
 
 divisor-good : (e : tie.Else2) → good (e .before .before .before .before .args .g) ≡ true
 divisor-good e = let b = e .before .is-good2 in sym (b .ensures) ∙ not-false (b .result) (e .if2 .left)
@@ -48,7 +49,7 @@ returns-3 c =
     let d = c .before .before .before in
     let e = d .before .before in
     let a = e .before .before .args in
-    c .refused3 .ensures ∙ quotient-different (a .f) (a .g) (first-good e) (divisor-good d) (sym (b .ensures) ∙ not-true (b .result) (c .before .if3 .taken))
+    with-exact-quotient (a .f) (a .g) (c .refused3 .ensures ∙ quotient-different (a .f) (a .g) (first-good e) (divisor-good d) (sym (b .ensures) ∙ not-true (b .result) (c .before .if3 .taken)))
 
 -- the rounds were made
 module _ (m : tie.After-make) where
@@ -76,9 +77,9 @@ module _ (m : tie.After-make) where
 returns-4 : tie.Need-returns-4
 returns-4 c =
     let m = c .before .before .before in
-    c .refused4 .ensures
+    with-exact-quotient (f m) (g m) (c .refused4 .ensures
     ∙ quotient-not-finite (f m) (g m) (first-good (e m .before .before)) (m .make .result) (second-good m) (same-interval m) (m .make .ensures)
-    (not-true (m .make .result .finite) (c .before .if4 .taken))
+    (not-true (m .make .result .finite) (c .before .if4 .taken)))
 
 -- f·w was turned into units
 module _ (u : tie.After-to-units) where
@@ -89,7 +90,7 @@ module _ (u : tie.After-to-units) where
   q = u .before .multiply .result
 
   abbrev both : Candidate → Candidate → Outcome Quotient
-  both h w = accepted (makeQuotient (m .make .result .ending) q (m .make .result .round) h w)
+  both h w = accepted (makeQuotient (m .make .result .ending) (quotientRecord q (m .make .result .round)) h w)
 
   abbrev one : Candidate → Outcome Quotient
   one h = thenUnits (both h) refusedQuotient (inUnits (values m))
@@ -106,9 +107,9 @@ returns-5 : tie.Need-returns-5
 returns-5 c =
     let u = c .before .before .before .before .before in
     let r = u .to-units .result in
-    c .refused5 .ensures
+    with-exact-quotient (f (m u)) (g (m u)) (c .refused5 .ensures
     ∙ units-stop (one u) refusedQuotient (r .verdict) (r .candidate) (inUnits (q u)) (u .to-units .ensures) _ (c .before .before .of-first .given .1)
-    ∙ in-units u
+    ∙ in-units u)
 
 -- w was turned into units behind it
 module _ (v : tie.After-to-units2) where
@@ -125,18 +126,18 @@ returns-6 : tie.Need-returns-6
 returns-6 c =
     let v = c .before .before .before .before .before in
     let r = v .to-units2 .result in
-    c .refused6 .ensures
+    with-exact-quotient (f (m (u v))) (g (m (u v))) (c .refused6 .ensures
     ∙ units-stop (both (u v) (u v .to-units .result .candidate)) refusedQuotient (r .verdict) (r .candidate) (inUnits (values (m (u v)))) (v .to-units2 .ensures) _
     (c .before .before .of-second .given .1)
-    ∙ h-stays v
+    ∙ h-stays v)
 
 returns-7 : tie.Need-returns-7
 returns-7 c =
     let v = c .before .before .before in
     let r = v .to-units2 .result in
-    units-go-on (both (u v) (u v .to-units .result .candidate)) refusedQuotient (r .verdict) (r .candidate) (inUnits (values (m (u v)))) (v .to-units2 .ensures)
+    with-exact-quotient (f (m (u v))) (g (m (u v))) (units-go-on (both (u v) (u v .to-units .result .candidate)) refusedQuotient (r .verdict) (r .candidate) (inUnits (values (m (u v)))) (v .to-units2 .ensures)
     (c .enum-told2 .given .1)
-    ∙ h-stays v
+    ∙ h-stays v)
 
 pub make-quotient-spec : {M : Type 1} → statement M
 make-quotient-spec =

@@ -11,6 +11,7 @@ use Rattle.model.specs.declared.types.Candidate.{Candidate}
 use Rattle.proposals.specs.definitions.Units.{inUnits}
 use Rattle.proposals.specs.definitions.Reciprocal.{Reciprocal, makeReciprocal, refusedReciprocal, reciprocalProposal}
 use Rattle.proposals.specs.laws.MakerLaws.{reciprocal-of-bad, reciprocal-not-finite, reciprocal-in-units, thenUnits, units-stop, units-go-on}
+use Rattle.proposals.specs.laws.ExactQuotient.{with-exact-reciprocal}
 use Rattle.proposals.proofs.reciprocal.make_reciprocal.Statement.{statement}
 use Rattle.proposals.proofs.reciprocal.make_reciprocal.Tie as tie
 
@@ -18,8 +19,9 @@ returns : tie.Need-returns
 returns c =
     let k = c .before in
     let b = k .before .before .is-good in
-    c .refused .ensures ∙ ap (λ (n : ℕ). refused n refusedReciprocal) (k .fault-of .ensures)
-    ∙ reciprocal-of-bad (k .before .before .before .args .g) (sym (b .ensures) ∙ not-true (b .result) (k .before .if1 .taken))
+    with-exact-reciprocal (k .before .before .before .args .g)
+    (c .refused .ensures ∙ ap (λ (n : ℕ). refused n refusedReciprocal) (k .fault-of .ensures)
+    ∙ reciprocal-of-bad (k .before .before .before .args .g) (sym (b .ensures) ∙ not-true (b .result) (k .before .if1 .taken)))
 
 -- the rounds were made
 module _ (m : tie.After-make) where
@@ -35,8 +37,9 @@ module _ (m : tie.After-make) where
 returns-2 : tie.Need-returns-2
 returns-2 c =
     let m = c .before .before .before in
-    c .refused2 .ensures
-    ∙ reciprocal-not-finite (g m) (m .make .result) (is-good m) (m .make .ensures) (not-true (m .make .result .finite) (c .before .if2 .taken))
+    with-exact-reciprocal (g m)
+    (c .refused2 .ensures
+    ∙ reciprocal-not-finite (g m) (m .make .result) (is-good m) (m .make .ensures) (not-true (m .make .result .finite) (c .before .if2 .taken)))
 
 -- the list was turned into units
 module _ (u : tie.After-to-units) where
@@ -53,16 +56,18 @@ returns-3 : tie.Need-returns-3
 returns-3 c =
     let u = c .before .before .before .before .before in
     let r = u .to-units .result in
-    c .refused3 .ensures
+    with-exact-reciprocal (g (m u))
+    (c .refused3 .ensures
     ∙ units-stop (kept u) refusedReciprocal (r .verdict) (r .candidate) (inUnits (m u .make .result .round .coefficients)) (u .to-units .ensures) _ (c .before .before .verdict .given .1)
-    ∙ in-units u
+    ∙ in-units u)
 
 returns-4 : tie.Need-returns-4
 returns-4 c =
     let u = c .before .before .before in
     let r = u .to-units .result in
-    units-go-on (kept u) refusedReciprocal (r .verdict) (r .candidate) (inUnits (m u .make .result .round .coefficients)) (u .to-units .ensures) (c .enum-told .given .1)
-    ∙ in-units u
+    with-exact-reciprocal (g (m u))
+    (units-go-on (kept u) refusedReciprocal (r .verdict) (r .candidate) (inUnits (m u .make .result .round .coefficients)) (u .to-units .ensures) (c .enum-told .given .1)
+    ∙ in-units u)
 
 pub make-reciprocal-spec : {M : Type 1} → statement M
 make-reciprocal-spec =

@@ -1,0 +1,14 @@
+pub mod Answers
+pub mod Rounding
+pub mod Operations
+pub mod Tests
+pub mod Mirrors
+pub mod Series
+pub mod Selections
+pub mod Proposals
+pub mod Jobs
+pub mod Benchmarks
+pub mod Calls
+pub mod Former
+pub mod Contracts
+pub mod Promises
