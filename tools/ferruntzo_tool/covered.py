@@ -7,7 +7,7 @@ from . import exact, offset
 from .arithmetic import weight
 from .exact import Series
 from .reading import loaded, split
-from .tables import S, in_micrometres, is_load
+from .tables import MAX_RESULTS, S, in_micrometres, is_load
 
 PIECE_DEGREE = 3                # of a piece of a spline, which is exact and may fall slowly
 ROUNDING = 17                   # half a unit for each of 33 coefficients
@@ -87,20 +87,25 @@ def pieces(job):
     return found
 
 
-def suspects(job):
+def suspects(job, accepted=True):
     """Number, model and what may be missing of each load that looks like a series that was cut off early: what seems to lie beyond
     is much larger than its radius and the rounding together (a guess from its coefficients)."""
-    exempt = pieces(job)
+    # Of a refused job it is not known what its loads were for.
+    exempt = pieces(job) if accepted else range(MAX_RESULTS)
     found = ((i, m, beyond(m, i in exempt)) for i, m in loads(job))
     return [(i, m, missing) for i, m, missing in found if missing > 8 * m.radius + ROUNDING]
 
 
-def cautions(job):
+def cautions(job, accepted=True):
     """A line for each load that looks cut without a radius for it."""
     return [f'result {i} is loaded with radius {m.radius:,} ({in_micrometres(m.radius)}), but its '
             f'coefficients fall so slowly that {missing:,} units ({in_micrometres(missing)}) and more '
             'may lie beyond the last one; if the curve was cut there, that is NOT covered'
-            for i, m, missing in suspects(job)]
+            for i, m, missing in suspects(job, accepted)]
+
+
+def plural(numbers):
+    return f'result{"s" if len(numbers) != 1 else ""} {numbers_text(numbers)}'
 
 
 def numbers_text(numbers):

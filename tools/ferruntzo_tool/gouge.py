@@ -9,7 +9,7 @@ from collections import deque, namedtuple
 from fractions import Fraction
 from math import sqrt
 
-from . import bernstein, exact, offset
+from . import bernstein, covered, exact, offset
 from .arithmetic import value, weight
 from .depth import Distance, dyadic, grid
 from .exact import Series, plus, times
@@ -153,7 +153,7 @@ def findings(job):
 def argument(path, at):
     """x of a place, on the interval of the path."""
     low, high = path.interval
-    return f'{float((low + high + at * (high - low)) / (2 * S)):.6g}'
+    return f'{float((low + high + at * (high - low)) / (2 * S)):.5g}'
 
 
 def named(path):
@@ -167,12 +167,12 @@ def turning(finding):
     where = f'from about x = {argument(path, low)} to {argument(path, high)}'
     if others:
         where += f' and at {len(others)} other place{"s" if len(others) > 1 else ""}'
-    text = f'{named(path)} turns back {where}, so that the bur of {(path.square[0] / path.square[1]) ** 0.5:.6g} mm cuts into the margin'
+    text = f'{named(path)} turns back {where}'
     if not finding.depth:
-        return text + ', by less than can be told'
+        return f'{text}; how far the bur comes into the margin was not found'
     x, y = Distance(path).margin(float(finding.deepest))
-    return (f'{text}, by at least {in_micrometres(finding.depth, down=True)} at x = {argument(path, finding.deepest)} '
-            f'({x:.4f}, {y:.4f} mm)')
+    return (f'{text}: the bur of {sqrt(path.square[0] / path.square[1]):.6g} mm cuts into the margin, by at least '
+            f'{in_micrometres(finding.depth, down=True)} at x = {argument(path, finding.deepest)} ({x:.4f}, {y:.4f} mm)')
 
 
 def caution(finding):
@@ -195,8 +195,46 @@ def cautions(found_paths):
 
 def looked_at(found_paths, judged_results):
     """What was shown, and which of the judged results were not looked at: short sentences."""
-    good = [named(finding.path) for finding in found_paths if finding.state == FORWARD]
-    lines = [f'{" and ".join(good)} do{"es" if len(good) == 1 else ""} not turn back'] if good else []
+    good = [finding.path for finding in found_paths if finding.state == FORWARD]
     in_paths = {i for finding in found_paths for i in finding.path.results}
-    left = [i for i in judged_results if i not in in_paths]
-    return lines, left
+    if len(found_paths) == 1 and in_paths == set(judged_results):
+        names = ['the path'] if good else []
+    else:
+        names = list(map(named, good))
+    lines = [f'{" and ".join(names)} do{"es" if len(names) == 1 else ""} not turn back'] if names else []
+    return lines, [i for i in judged_results if i not in in_paths]
+
+
+# ---- The stretches of a margin ----
+
+REMARKS = {FORWARD: '', TURNS: '   CAUTION: turns back', UNDECIDED: '   CAUTION: not shown not to turn back',
+           SKEWED: '   CAUTION: normal not at a right angle'}
+
+
+def remark(found_paths):
+    """What stands beside a stretch in a table."""
+    return ''.join(REMARKS[finding.state] + (f', at least {in_micrometres(finding.depth, down=True)} too deep' if finding.depth else '')
+                   for finding in found_paths) or ('' if found_paths else '   gouging not looked at')
+
+
+def summary(stretches):
+    """Lines below a table of stretches, from what was found about the path of each."""
+    by_state = {state: [] for state in REMARKS}
+    for i, found_paths in enumerate(stretches):
+        for finding in found_paths:
+            by_state[finding.state].append((i, finding))
+
+    def numbers(state):
+        named_ones = [i for i, _ in by_state[state]]
+        return f'stretch{"es" if len(named_ones) > 1 else ""} {covered.numbers_text(named_ones)}'
+    if by_state[TURNS]:
+        deepest, finding = max(by_state[TURNS], key=lambda pair: pair[1].depth)
+        yield (f'CAUTION: the path turns back on {len(by_state[TURNS])} of {len(stretches)} stretches ({numbers(TURNS)}): the margin is '
+               f'curved more tightly there than the bur, which cuts into it. Stretch {deepest}: {turning(finding)}.')
+    if by_state[UNDECIDED]:
+        yield f'CAUTION: it could not be shown that the path does not turn back on {numbers(UNDECIDED)}.'
+    if by_state[SKEWED]:
+        yield f'CAUTION: the normal could not be shown to be at nearly a right angle to the loaded margin on {numbers(SKEWED)}.'
+    if len(by_state[FORWARD]) == len(stretches):
+        yield 'The path turns back on no stretch, shown for the loaded curves.'
+    yield 'Stretches were not compared with one another: far parts of the margin may still be too near to the path.'
