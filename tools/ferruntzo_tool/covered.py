@@ -44,29 +44,26 @@ def beyond(m, piece=False):
         low = k <= PIECE_DEGREE
         noise = behind == 0 or (behind <= (2 if low else NOISE) and degree >= k + TAIL)
         if noise and not (low and piece):
-            found = max(found, expected(sizes, k) - GAP * behind)
+            # Before noise the last coefficient itself has to be large: a series that was cut falls at once.
+            size_there = min(expected(sizes, k), sizes[k]) if behind else expected(sizes, k)
+            found = max(found, size_there - GAP * behind)
         behind = max(behind, sizes[k])
     return found
 
 
-def is_derivative(normal, margin, e_normal, e_margin):
-    """Whether a normal's curve is a power of two, or its opposite, times the derivative of a margin's curve, but for what the rounding
-    of both and their radii may do to a curve of the degree of a piece. Both are in mm, the radii in units."""
-    slope = exact.derivative(margin)
-    sizes = [Fraction(weight(series.row), series.scale) for series in (normal, slope)]
-    if len(margin.row) > PIECE_DEGREE + 1 or not all(sizes):
-        return len(margin.row) <= PIECE_DEGREE + 1 and sizes[0] == sizes[1]
-    scale = round(log2(sizes[0] / sizes[1]))
-    factor = Fraction(2) ** scale
-    # Half a unit of a coefficient k is up to k²/2 units of the derivative's weight; the first two that were cut count as well.
-    allowed = e_normal + ROUNDING + factor * (PIECE_DEGREE + 2) ** 2 * (e_margin + 1)
+def is_derivative(normal, slope, factor, allowed):
+    """Whether a normal's curve is a factor, or its opposite, times the derivative of a margin's curve, but for so many units."""
     scaled = Series([c * factor.numerator for c in slope.row], slope.scale * factor.denominator)
     differences = (exact.plus(normal, scaled, sign) for sign in (1, -1))
-    return any(Fraction(weight(series.row), series.scale) * S <= allowed for series in differences)
+    return any(size(series) * S <= allowed for series in differences)
 
 
-def unit_normal(path):
-    """The normal as it was loaded, without the bur's radius: x and y, or nothing where that is no fraction."""
+def size(series):
+    return Fraction(weight(series.row), series.scale)
+
+
+def loaded_normal(path):
+    """The normal of a path as it was loaded, without the bur's radius: x and y, or nothing where that is no fraction."""
     top, bottom = map(isqrt, path.square)
     if (top * top, bottom * bottom) != tuple(path.square):
         return None
@@ -74,16 +71,20 @@ def unit_normal(path):
 
 
 def pieces(job):
-    """The loads of a path that may be pieces of splines: the loaded normal is the derivative of the loaded margin."""
+    """The loads of paths that may be pieces of splines: the loaded normal is a power of two times the derivative of the loaded margin, turned
+    by a right angle."""
     found, radii = set(), {i: m.radius for i, m in loads(job)}
     for path in offset.paths(job):
-        normal = unit_normal(path)
-        for axis in (0, 1) if normal else ():
-            margin, other = path.margin[axis], 1 - axis
-            e_margin = max((radii[i] for i in margin.loads), default=0)
-            e_normal = max((radii[i] for i in path.normal[other].loads), default=0)
-            if is_derivative(normal[other], margin.series, e_normal, e_margin):
-                found |= margin.loads | path.normal[other].loads
+        normal, slopes = loaded_normal(path), [exact.derivative(part.series) for part in path.margin]
+        if not normal or not any(map(size, slopes)):
+            continue
+        factor = Fraction(2) ** round(log2(sum(map(size, normal)) / sum(map(size, slopes))))
+        for margin, slope, part, curve in zip(path.margin, slopes, path.normal[::-1], normal[::-1]):
+            e_margin, e_normal = (max((radii[i] for i in one.loads), default=0) for one in (margin, part))
+            # Half a unit of a coefficient k is up to k²/2 units of the derivative's weight; the first two that were cut count as well.
+            allowed = e_normal + ROUNDING + factor * (PIECE_DEGREE + 2) ** 2 * (e_margin + 1)
+            if len(margin.series.row) <= PIECE_DEGREE + 1 and is_derivative(curve, slope, factor, allowed):
+                found |= margin.loads | part.loads
     return found
 
 

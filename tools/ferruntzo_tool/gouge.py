@@ -23,8 +23,8 @@ BISECTIONS = 12                 # for about where a path begins to turn back
 FORWARD, TURNS, UNDECIDED, SKEWED = 'forward', 'turns back', 'undecided', 'skewed'
 
 # Places are from -1 to 1. at: where the path turns back, is not shown to go forward, or its normal is not shown to be at nearly a right
-# angle. back: about the stretches on which it turns back. deepest, depth: where and by how many units at least the bur comes into
-# the margin. parts: how many of the stretch were looked at.
+# angle. back: about the stretches on which it turns back. deepest, depth: a place of the path and one of the margin, and by how many
+# units at least they are nearer than the bur's radius. parts: how many of the stretch were looked at.
 Finding = namedtuple('Finding', 'path state at back deepest depth parts', defaults=(None, (), None, 0, 1))
 
 
@@ -94,9 +94,10 @@ def search(series, decided, fails):
     return None, False, parts
 
 
-def judged(inequality, place):
-    """State, place and parts; `place` is where the path most likely turns back."""
-    if inequality.by_coefficients():
+def judged(inequality, samples):
+    """State, place and parts; `samples` are floats along the stretch, and tell where the path most likely turns back."""
+    place = dyadic(min(samples, key=lambda pair: pair[1])[0]) if samples else None
+    if place is None:
         state, at, parts = FORWARD, None, 1
     elif not inequality.forward(place.numerator, place.denominator):
         return TURNS, place, 1
@@ -133,14 +134,14 @@ def turned(inequality, samples, at):
 def found(path):
     """What is found about one path."""
     inequality = Inequality(path)
+    # None are needed where the coefficients alone show that the path goes forward.
     samples = [] if inequality.by_coefficients() else [(x, inequality.guess(x)) for x in grid()]
-    place = dyadic(min(samples, key=lambda pair: pair[1])[0]) if samples else Fraction(0)
-    state, at, parts = judged(inequality, place)
+    state, at, parts = judged(inequality, samples)
     if state != TURNS:
         return Finding(path, state, at, parts=parts)
     distance = Distance(path)
-    u, v = distance.deepest()
-    return Finding(path, state, at, turned(inequality, samples, at), v, distance.depth(u, v), parts)
+    pair = distance.deepest()
+    return Finding(path, state, at, turned(inequality, samples, at), pair, distance.depth(*pair), parts)
 
 
 def findings(job):
@@ -170,9 +171,10 @@ def turning(finding):
     text = f'{named(path)} turns back {where}'
     if not finding.depth:
         return f'{text}; how far the bur comes into the margin was not found'
-    x, y = Distance(path).margin(float(finding.deepest))
+    place = finding.deepest[1]
+    x, y = Distance(path).margin(float(place))
     return (f'{text}: the bur of {sqrt(path.square[0] / path.square[1]):.6g} mm cuts into the margin, by at least '
-            f'{in_micrometres(finding.depth, down=True)} at x = {argument(path, finding.deepest)} ({x:.4f}, {y:.4f} mm)')
+            f'{in_micrometres(finding.depth, down=True)} at x = {argument(path, place)} ({round(x, 4) + 0.0:.4f}, {round(y, 4) + 0.0:.4f} mm)')
 
 
 def caution(finding):
