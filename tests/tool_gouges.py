@@ -155,11 +155,54 @@ def agreed(cases, counts):
             counts['alone', state, parts > 1] += 1
 
 
+def random_row(rng, first, fall):
+    return [int(rng.uniform(-1, 1) * first * fall ** k) for k in range(rng.choice((0, 1, 3, 7, 16, 32)) + 1)]
+
+
+def odd_loads(rng, count):
+    """Margins and normals that have nothing to do with each other, any radius of the bur: what is said is true, and every job ends."""
+    states = Counter()
+    for _ in range(count):
+        fall = rng.choice((0.3, 0.6, 0.8, 0.9))
+        rows = [random_row(rng, size * S, fall) for size in (3, 3, 2, 2)]
+        rows[2 + rng.randrange(2)][0] += rng.choice((-6, -3, 3, 6)) * S
+        bur, job = rng.choice((rng.randrange(-5 * S, 5 * S), rng.randrange(1, S), 1, 0)), solver.Job()
+        try:
+            solver.add_loads(job, job.load(model([bur])), list(map(model, rows)))
+        except Refused:
+            continue
+        for finding in gouge.findings(job.ended()):
+            states[finding.state] += 1
+            turned = [[c if bur > 0 else -c for c in row] for row in rows[2:]]
+            sampled = Sampled(list(map(model, rows[:2] + turned)), abs(bur), 'left')
+            # The side is that of the middle; there powers are their first coefficients.
+            (dx, dy), (nx, ny) = ([row[0] for row in pair] for pair in (sampled.slopes[:2], sampled.rows[2:]))
+            sampled.side = 1 if dx * ny >= dy * nx else -1
+            if finding.state == gouge.TURNS:
+                expect('odd loads that turn back', not sampled.forward(*finding.at.as_integer_ratio()), str(rows))
+            elif finding.state != gouge.UNDECIDED:
+                expect('odd loads that do not', all(sampled.forward(p, 100) for p in range(-100, 101)), str(rows))
+            expect('words about odd loads', all(gouge.cautions([finding])) and gouge.remark([finding]).startswith('   CAUTION')
+                   == (finding.state != gouge.FORWARD))
+    expect('odd loads', min(states[gouge.TURNS], states[gouge.SKEWED]) >= 3, str(states))
+
+
+def few_parts(cases):
+    """Where the parts do not suffice it is said that nothing could be shown; the search ends, whatever their number."""
+    former, states = gouge.MOST_PARTS, Counter()
+    for solved, _ in cases:
+        wanted, = gouge.findings(solved.job.ended())
+        for most in range(1, 8) if wanted.state == gouge.FORWARD and wanted.parts > 1 else ():
+            gouge.MOST_PARTS = most
+            finding, = gouge.findings(solved.job.ended())
+            states[finding.state] += 1
+            expect('too few parts', finding.state == gouge.UNDECIDED or (most > 1 and finding[:2] == wanted[:2]
+                                                                         and finding.parts == wanted.parts), str(finding))
+    gouge.MOST_PARTS = former
+    expect('few parts', states[gouge.UNDECIDED] >= 20, str(states))
+
+
 # ---- However the commands are written ----
-
-def standard(job, bur, loads):
-    return solver.add_loads(job, bur, loads)
-
 
 def length_of(job, one, two):
     return job.root(job.add(job.multiply(one, one), job.multiply(two, two)))
@@ -201,7 +244,7 @@ def over_common_length(job, bur, loads):
     return [job.quotient(job.add(job.multiply(at, length), job.multiply(bur, n)), length) for at, n in ((x, nx), (y, ny))]
 
 
-FORMS = (standard, radius_over_length, inverse_length, radius_times_normal, subtracted, two_roots, over_common_length)
+FORMS = (solver.add_loads, radius_over_length, inverse_length, radius_times_normal, subtracted, two_roots, over_common_length)
 
 
 def recognised(cases):
@@ -346,8 +389,10 @@ def main():
         cases = list(random_stretches(rng, folder, options.cases))
         agreed(cases, counts)
         if not options.plant:
-            agreed(random_crowns(rng, folder, 6), counts)
-            recognised(cases[:8])
+            agreed(random_crowns(rng, folder, 4), counts)
+            recognised(cases[:5])
+            odd_loads(rng, 40)
+            few_parts(cases)
             tangent()
             stories(run, folder)
             words(run, folder)

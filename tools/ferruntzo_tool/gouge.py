@@ -7,7 +7,7 @@ s·b >= 0 or a²·u > b². All three are polynomials of the loaded curves; the r
 
 from collections import deque, namedtuple
 from fractions import Fraction
-from math import sqrt
+from math import floor, log10, sqrt
 
 from . import bernstein, covered, exact, offset
 from .arithmetic import value, weight
@@ -87,7 +87,7 @@ def search(series, decided, fails):
         if decided(*map(min, rows)):
             continue
         at, bad = Fraction(middle, 1 << level), fails(middle, 1 << level)
-        if bad or level == HALVINGS or parts == MOST_PARTS:
+        if bad or level == HALVINGS or parts >= MOST_PARTS:
             return at, bad, parts
         for way, half in zip((-1, 1), zip(*map(bernstein.halves, rows))):
             waiting.append((level + 1, 2 * middle + way, half))
@@ -96,11 +96,11 @@ def search(series, decided, fails):
 
 def judged(inequality, samples):
     """State, place and parts; `samples` are floats along the stretch, and tell where the path most likely turns back."""
-    place = dyadic(min(samples, key=lambda pair: pair[1])[0]) if samples else None
-    if place is None:
+    likely = dyadic(min(samples, key=lambda pair: pair[1])[0]) if samples else None
+    if likely is None:
         state, at, parts = FORWARD, None, 1
-    elif not inequality.forward(place.numerator, place.denominator):
-        return TURNS, place, 1
+    elif not inequality.forward(likely.numerator, likely.denominator):
+        return TURNS, likely, 1
     else:
         # a²·u > b² makes a other than zero. One of the two holding on every part, a has one sign on all of them.
         at, bad, parts = search((inequality.a, inequality.b, inequality.difference()),
@@ -152,9 +152,16 @@ def findings(job):
 # ---- In words ----
 
 def argument(path, at):
-    """x of a place, on the interval of the path."""
+    """x of a place, on the interval of the path, with as many digits as tell the places of a drawing apart."""
     low, high = path.interval
-    return f'{float((low + high + at * (high - low)) / (2 * S)):.5g}'
+    digits = max(3 - floor(log10((high - low) / S)), 0)
+    return f'{float(low + high + at * (high - low)) / (2 * S):.{digits}f}'
+
+
+def place(path, at):
+    """A place of the margin: x, and the point in mm."""
+    point = ', '.join(f'{round(c, 4) + 0.0:.4f}' for c in Distance(path).margin(float(at)))
+    return f'x = {argument(path, at)} ({point} mm)'
 
 
 def named(path):
@@ -170,11 +177,9 @@ def turning(finding):
         where += f' and at {len(others)} other place{"s" if len(others) > 1 else ""}'
     text = f'{named(path)} turns back {where}'
     if not finding.depth:
-        return f'{text}; how far the bur comes into the margin was not found'
-    place = finding.deepest[1]
-    x, y = Distance(path).margin(float(place))
+        return f'{text}, near {place(path, finding.at)}; how far the bur comes into the margin was not found'
     return (f'{text}: the bur of {sqrt(path.square[0] / path.square[1]):.6g} mm cuts into the margin, by at least '
-            f'{in_micrometres(finding.depth, down=True)} at x = {argument(path, place)} ({round(x, 4) + 0.0:.4f}, {round(y, 4) + 0.0:.4f} mm)')
+            f'{in_micrometres(finding.depth, down=True)} at {place(path, finding.deepest[1])}')
 
 
 def caution(finding):
@@ -183,11 +188,11 @@ def caution(finding):
     if finding.state == TURNS:
         return turning(finding)
     if finding.state == UNDECIDED:
-        return (f'it could not be shown that {named(path)} does not turn back near x = {argument(path, finding.at)} '
+        return (f'it could not be shown that {named(path)} does not turn back near {place(path, finding.at)} '
                 f'({finding.parts} parts of the stretch were looked at, cut in halves up to {HALVINGS} times)')
     if finding.state == SKEWED:
-        return (f'the normal of {named(path)} could not be shown to be at nearly a right angle to the loaded margin near x = '
-                f'{argument(path, finding.at)}, so the path may come nearer to it than the radius of the bur')
+        return (f'the normal of {named(path)} could not be shown to be at nearly a right angle to the loaded margin near '
+                f'{place(path, finding.at)}, so the path may come nearer to it than the radius of the bur')
     return ''
 
 

@@ -4,6 +4,7 @@ Each result is followed as polynomials of the loaded curves over powers of one r
 commands, kept degrees and the kind of root play no part. Whatever else a result may be, it is not followed further."""
 
 from collections import namedtuple
+from functools import lru_cache
 
 from .exact import Series, plus, reduced, times
 from .reading import loaded, split
@@ -132,6 +133,7 @@ def ratio(one, two):
     return found.row[0], found.scale
 
 
+@lru_cache(maxsize=8)
 def paths(job):
     """The paths of a job that reads well: pairs of results of the form margin + normal/√under, in which what is under the root
     is a positive constant times the square of the normal's length."""
@@ -151,4 +153,4 @@ def paths(job):
                 found.append(Path((i, j), (margin, other[1]), (normal, other[2]), followed.under[under].series,
                                   constant_ratio, followed.intervals[i]))
                 used |= {i, j}
-    return found
+    return tuple(found)

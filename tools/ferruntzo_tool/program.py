@@ -15,6 +15,7 @@ from .tables import MAX_JOB_BYTES, PROGRAM_BYTES
 TIME_LIMIT = 60                 # seconds for one job; a job takes about a millisecond
 PIPE_WAIT = 5                   # seconds in which somebody must begin to write to a named pipe
 PIECE = 1 << 16                 # bytes that are read at once
+MOST_BYTES = 1 << 28            # of a curve or a text that are taken into memory; a device may have no end
 
 # accepted: radii and degrees by result. refused: refusal and command.
 Answer = namedtuple('Answer', 'accepted degrees radii refusal command text')
@@ -80,19 +81,19 @@ def _piped(descriptor, most):
     return found
 
 
-def read_file(name, most=sys.maxsize):
+def first_bytes(name, most):
     """The first bytes of a file, or of standard input, which is -."""
     try:
         if name == '-':
             if sys.stdin is None:
                 raise NotChecked('standard input is closed, or a folder')
-            return sys.stdin.buffer.read(most if most < sys.maxsize else -1)
+            return sys.stdin.buffer.read(most)
         # A pipe that nobody writes to would hold an ordinary open for ever.
         descriptor = os.open(name, os.O_RDONLY | os.O_NONBLOCK)
         with open(descriptor, 'rb') as file:
             if stat.S_ISFIFO(os.fstat(descriptor).st_mode):
                 return _piped(descriptor, most)
-            return file.read(most if most < sys.maxsize else -1)
+            return file.read(most)
     except OSError as error:
         raise NotChecked(f'{shown(name)}: cannot be read: {error.strerror or error}') from error
     except ValueError as error:
@@ -101,9 +102,17 @@ def read_file(name, most=sys.maxsize):
         raise NotChecked(f'{shown(name)}: {error}') from error
 
 
+def read_file(name):
+    """The bytes of a file; - is standard input."""
+    found = first_bytes(name, MOST_BYTES + 1)
+    if len(found) > MOST_BYTES:
+        raise NotChecked(f'{shown(name)}: more than the {MOST_BYTES:,} bytes that are taken into memory')
+    return found
+
+
 def read_job(name):
     """The bytes of a job, and no more of a larger file than shows that it is too long."""
-    job = read_file(name, PROGRAM_BYTES + 1)
+    job = first_bytes(name, PROGRAM_BYTES + 1)
     if len(job) > PROGRAM_BYTES:
         raise NotChecked(f'{shown(name)}: more than the {PROGRAM_BYTES:,} bytes that the program reads; a job has at '
                          f'most {MAX_JOB_BYTES:,}')
