@@ -2,7 +2,8 @@
 exact sampling of the loaded curves in the power basis; the stated depth is the distance at the named places; however the commands
 of a path are written, it is recognised; and check, explain, solve and show say what was found, in the words of the examples.
 
-  tool_gouges.py [--tool tools/ferruntzo] [--jobcheck target/bin/jobcheck] [--cases N] [--seed N] [--plant curvature|side|radius|bounds]
+  tool_gouges.py [--tool tools/ferruntzo] [--jobcheck target/bin/jobcheck] [--cases N] [--seed N]
+                 [--plant curvature|side|radius|bounds]
 """
 
 import argparse
@@ -28,6 +29,7 @@ from ferruntzo_tool.arithmetic import Refused, model, value             # noqa: 
 from ferruntzo_tool.curve import Piece, read_curve                      # noqa: E402
 from ferruntzo_tool.exact import Series                                 # noqa: E402
 from ferruntzo_tool.tables import MAX_DEGREE, S                         # noqa: E402
+from path_forms import FORMS                                            # noqa: E402
 from power_basis import power_form                                      # noqa: E402
 from tool_solve import Options, random_series                           # noqa: E402
 
@@ -97,7 +99,7 @@ def tightest(stretch, side):
 
 
 def random_stretches(rng, folder, count):
-    """Stretches of margins, each with a bur about as large as the margin's least radius of curvature; a third on an own interval."""
+    """Stretches of margins, each with a bur about as large as the margin's least radius of curvature; some on an own interval."""
     path = folder / 'curve.json'
     while count:
         given, side = random_series(rng, (6, 14, 24)), rng.choice(('left', 'right'))
@@ -160,7 +162,7 @@ def random_row(rng, first, fall):
 
 
 def odd_loads(rng, count):
-    """Margins and normals that have nothing to do with each other, any radius of the bur: what is said is true, and every job ends."""
+    """Margins and normals that have nothing to do with each other, with any bur: what is said is true, and the search ends."""
     states = Counter()
     for _ in range(count):
         fall = rng.choice((0.3, 0.6, 0.8, 0.9))
@@ -204,49 +206,6 @@ def few_parts(cases):
 
 # ---- However the commands are written ----
 
-def length_of(job, one, two):
-    return job.root(job.add(job.multiply(one, one), job.multiply(two, two)))
-
-
-def radius_over_length(job, bur, loads):
-    x, y, nx, ny = map(job.load, loads)
-    factor = job.quotient(bur, length_of(job, ny, nx))
-    return job.add(job.multiply(nx, factor), x), job.add(y, job.multiply(factor, ny))
-
-
-def inverse_length(job, bur, loads):
-    ny, nx, y, x = (job.load(m) for m in reversed(loads))
-    inverse = job.quotient(job.load(model([S], interval=loads[0].interval)), length_of(job, nx, ny))
-    return job.add(y, job.multiply(job.multiply(inverse, ny), bur)), job.add(x, job.multiply(bur, job.multiply(inverse, nx)))
-
-
-def radius_times_normal(job, bur, loads):
-    x, y, nx, ny = map(job.load, loads)
-    length = length_of(job, nx, ny)
-    return job.add(x, job.quotient(job.multiply(bur, nx), length)), job.add(y, job.quotient(job.multiply(ny, bur), length))
-
-
-def subtracted(job, bur, loads):
-    nx, ny = (job.load(m._replace(coefficients=[-c for c in m.coefficients])) for m in loads[2:])
-    x, y = map(job.load, loads[:2])
-    length = length_of(job, nx, ny)
-    return [job.subtract(at, job.multiply(job.quotient(n, length), bur)) for at, n in ((x, nx), (y, ny))]
-
-
-def two_roots(job, bur, loads):
-    x, y, nx, ny = map(job.load, loads)
-    return [job.add(at, job.multiply(bur, job.quotient(n, length_of(job, nx, ny)))) for at, n in ((x, nx), (y, ny))]
-
-
-def over_common_length(job, bur, loads):
-    x, y, nx, ny = map(job.load, loads)
-    length = length_of(job, nx, ny)
-    return [job.quotient(job.add(job.multiply(at, length), job.multiply(bur, n)), length) for at, n in ((x, nx), (y, ny))]
-
-
-FORMS = (solver.add_loads, radius_over_length, inverse_length, radius_times_normal, subtracted, two_roots, over_common_length)
-
-
 def recognised(cases):
     """Every form of the commands gives the same verdict; a root of something else is not recognised."""
     seen = Counter()
@@ -273,12 +232,12 @@ def recognised(cases):
 
 
 def tangent():
-    """A bur that just fits, so that 1 - r·κ is zero at one place: it is said that nothing could be shown, or that it turns back. With a
-    normal that is not at a right angle to the margin the path is no offset, and that is said."""
+    """A bur that just fits, so that 1 - r·κ is zero at one place: it is said that nothing could be shown, or that it turns back.
+    With a normal that is not at a right angle to the margin the path is no offset, and that is said."""
     x, y = Series([0, 3 * S // 2], 1), Series([S // 8 + 9 * S // 16, -6 * S // 8, 9 * S // 16], 1)
     stretch = solver.cut_out([Piece(0, 1 << 20, x, y)], 0, 1 << 20)
-    for bur, side, state in ((1, 'left', gouge.UNDECIDED), (Fraction(999, 1000), 'left', gouge.FORWARD), (9, 'right', gouge.FORWARD),
-                             (Fraction(1001, 1000), 'left', gouge.TURNS)):
+    for bur, side, state in ((1, 'left', gouge.UNDECIDED), (Fraction(999, 1000), 'left', gouge.FORWARD),
+                             (9, 'right', gouge.FORWARD), (Fraction(1001, 1000), 'left', gouge.TURNS)):
         solved = solver.solve_stretch(stretch, Fraction(bur), side)
         finding, = gouge.findings(solved.job.ended())
         expect('a bur that just fits', finding.state == state, f'{bur} {side}: {finding.state}')
@@ -307,8 +266,8 @@ def stories(run, folder):
                in done.stdout and f'by at least {depth} µm' in done.stdout, f'{name}: {done.stdout[-600:]}')
         for strict, status in (((), 0), (('--strict',), 1)):
             done = run('check', out, '--quiet', *strict)
-            expect('check cautions', done.returncode == status and done.stdout.count('CAUTION: the path of results 13, 14 turns back')
-                   == turning and f'{turning} with a caution' in done.stdout, f'{name} {status}: {done.stdout[-300:]}')
+            count = done.stdout.count('CAUTION: the path of results 13, 14 turns back')
+            expect('check cautions', done.returncode == status and count == turning and f'{turning} with a caution' in done.stdout, f'{name} {status}: {done.stdout[-300:]}')
     told = run('solve', ROOT / 'examples/margin.json').stdout
     expect('a path that goes forward', 'CAUTION' not in told and 'turns back on no stretch' in told, told)
 
@@ -331,8 +290,8 @@ def words(run, folder):
         found = run('check', job).returncode, run('check', job, '--strict').returncode
         expect('statuses', found == statuses, f'{job.name} {found}')
     said = run('check', ROOT / 'examples/stretch32.job').stdout
-    expect('two paths', 'the path of results 13, 14 and the path of results 27, 28 do not turn back; results 29 to 31 were not looked at'
-           in said, said)
+    expect('two paths', 'the path of results 13, 14 and the path of results 27, 28 do not turn back; results 29 to 31 were not '
+           'looked at' in said, said)
     # On an own interval the place is named there.
     time = folder / 'time'
     run('solve', ROOT / 'examples/machine_time.json', '--bur-mm', '6', '--side', 'left', '-o', time)
@@ -353,8 +312,11 @@ class Planted(gouge.Inequality):
         if self.fault == 'curvature':
             self.b = Series([-c for c in self.b.row], self.b.scale)
         elif self.fault == 'side':
-            sign = 1 if exact.value(exact.times(exact.derivative(path.margin[0].series), path.normal[1].series), 0, 1)[0] > 0 else -1
-            self.a, self.b = (Series([sign * c for c in s.row], s.scale) for s in (self.a, self.b))
+            # Every normal is taken for one on the left.
+            (mx, my), (nx, ny) = ([part.series for part in pair] for pair in (path.margin, path.normal))
+            left = exact.plus(exact.times(exact.derivative(mx), ny), exact.times(exact.derivative(my), nx), -1)
+            if exact.value(left, 0, 1)[0] < 0:
+                self.a, self.b = (Series([-c for c in s.row], s.scale) for s in (self.a, self.b))
         elif self.fault == 'radius':
             self.u = Series([4 * c for c in self.u.row], self.u.scale)
         self.floats = [[c / s.scale for c in s.row] for s in (self.a, self.b, self.u)]

@@ -108,7 +108,8 @@ def passed_over(folder, files, folders):
     """The line about what a folder holds beside its jobs, or nothing."""
     told = [f'{some(files)} (no *.job)'] if files else []
     if folders:
-        told.append(f'the folder{"s" if len(folders) > 1 else ""} {some(folders)} (-r looks into {"them" if len(folders) > 1 else "it"})')
+        many = len(folders) > 1
+        told.append(f'the folder{"s" if many else ""} {some(folders)} (-r looks into {"them" if many else "it"})')
     return [f'{shown(folder)}: passed over: {"; ".join(told)}.'] if told else []
 
 

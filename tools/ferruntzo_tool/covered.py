@@ -35,8 +35,8 @@ def expected(sizes, k):
 
 
 def beyond(m, piece=False):
-    """About how much of a load may have been cut off: what its coefficients let expect behind a place, where what stands behind it is
-    zero or noise. `piece`: a load that may be a piece of a spline."""
+    """About how much of a load may have been cut off: what its coefficients let expect behind a place, where what stands behind it
+    is zero or noise. `piece`: a load that may be a piece of a spline."""
     sizes = list(map(abs, m.coefficients))
     # The degree byte may be larger than the degree: zeros up to it are allowed.
     degree, found, behind = max((k for k, a in enumerate(sizes) if a), default=0), 0, 0
@@ -71,8 +71,8 @@ def loaded_normal(path):
 
 
 def pieces(job):
-    """The loads of paths that may be pieces of splines: the loaded normal is a power of two times the derivative of the loaded margin, turned
-    by a right angle."""
+    """The loads of paths that may be pieces of splines: the loaded normal is a power of two times the derivative of the loaded
+    margin, turned by a right angle."""
     found, radii = set(), {i: m.radius for i, m in loads(job)}
     for path in offset.paths(job):
         normal, slopes = loaded_normal(path), [exact.derivative(part.series) for part in path.margin]
@@ -81,7 +81,7 @@ def pieces(job):
         factor = Fraction(2) ** round(log2(sum(map(size, normal)) / sum(map(size, slopes))))
         for margin, slope, part, curve in zip(path.margin, slopes, path.normal[::-1], normal[::-1]):
             e_margin, e_normal = (max((radii[i] for i in one.loads), default=0) for one in (margin, part))
-            # Half a unit of a coefficient k is up to k²/2 units of the derivative's weight; the first two that were cut count as well.
+            # Half a unit of a coefficient k is up to k²/2 units of the derivative's weight; the first two that were cut count too.
             allowed = e_normal + ROUNDING + factor * (PIECE_DEGREE + 2) ** 2 * (e_margin + 1)
             if len(margin.series.row) <= PIECE_DEGREE + 1 and is_derivative(curve, slope, factor, allowed):
                 found |= margin.loads | part.loads

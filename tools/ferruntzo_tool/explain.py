@@ -142,8 +142,8 @@ def gouging_lines(found, ends):
     """Whether the paths of an accepted job turn back, and what was not looked at; `found` is what was found about them."""
     good, left = gouge.looked_at(found, ends)
     for line in good:
-        yield (f'{line[0].upper()}{line[1:]}: it moves forward along the margin at every point of the stretch (1 - r·κ > 0), shown in '
-               'exact arithmetic for the polynomials of the loaded curves, without their radii.')
+        yield (f'{line[0].upper()}{line[1:]}: forward along the margin at every point of the stretch (1 - r·κ > 0), shown in exact '
+               'arithmetic for the polynomials of the loaded curves, without their radii.')
     for line in gouge.cautions(found):
         yield f'CAUTION: {line}.'
     if not found:

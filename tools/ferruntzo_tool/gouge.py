@@ -1,8 +1,8 @@
 """Gouging: whether the path of a bur turns back on its stretch, in exact arithmetic.
 
 With margin m, normal n and u under the root the path is p = m + n/√u, and t = (n_y, -n_x) is the direction of travel or its
-opposite. p'·t = a + b/√u with a = m_x'·n_y - m_y'·n_x and b = n_y·n_x' - n_x·n_y'; where n is a constant times m' turned by a
-right angle this is a·(1 - r·κ). So the path does not turn back where a has the sign s of the direction of travel and either
+opposite. p'·t = a + b/√u with a = m_x'·n_y - m_y'·n_x and b = n_y·n_x' - n_x·n_y'; where n is a constant times m' turned by
+a right angle this is a·(1 - r·κ). So the path does not turn back where a has the sign s of the direction of travel and either
 s·b >= 0 or a²·u > b². All three are polynomials of the loaded curves; the radii of the loads play no part."""
 
 from collections import deque, namedtuple
@@ -22,9 +22,9 @@ BISECTIONS = 12                 # for about where a path begins to turn back
 
 FORWARD, TURNS, UNDECIDED, SKEWED = 'forward', 'turns back', 'undecided', 'skewed'
 
-# Places are from -1 to 1. at: where the path turns back, is not shown to go forward, or its normal is not shown to be at nearly a right
-# angle. back: about the stretches on which it turns back. deepest, depth: a place of the path and one of the margin, and by how many
-# units at least they are nearer than the bur's radius. parts: how many of the stretch were looked at.
+# Places are from -1 to 1. at: where the path turns back, is not shown to go forward, or its normal is not shown to be at nearly a
+# right angle. back: about the stretches on which it turns back. deepest, depth: a place of the path and one of the margin, and by
+# how many units at least they are nearer than the bur's radius. parts: how many of the stretch were looked at.
 Finding = namedtuple('Finding', 'path state at back deepest depth parts', defaults=(None, (), None, 0, 1))
 
 
@@ -77,8 +77,8 @@ class Inequality:
 
 
 def search(series, decided, fails):
-    """Cuts -1..1 in halves until lower bounds of the series decide each part, breadth first. Gives the place where it ends, if it does not
-    decide everything, whether it fails there, and the number of parts."""
+    """Cuts -1..1 in halves until lower bounds of the series decide each part, breadth first. Gives the place where it ends, if it
+    does not decide everything, whether it fails there, and the number of parts."""
     # A part: the number of halvings, its middle times 2^halvings, and the Bernstein coefficients of each series on it.
     waiting, parts = deque([(0, 0, [bernstein.lower(s.row) for s in series])]), 0
     while waiting:
@@ -220,8 +220,11 @@ REMARKS = {FORWARD: '', TURNS: '   CAUTION: turns back', UNDECIDED: '   CAUTION:
 
 def remark(found_paths):
     """What stands beside a stretch in a table."""
-    return ''.join(REMARKS[finding.state] + (f', at least {in_micrometres(finding.depth, down=True)} too deep' if finding.depth else '')
-                   for finding in found_paths) or ('' if found_paths else '   gouging not looked at')
+    def deep(finding):
+        return f', at least {in_micrometres(finding.depth, down=True)} too deep' if finding.depth else ''
+    if not found_paths:
+        return '   gouging not looked at'
+    return ''.join(REMARKS[finding.state] + deep(finding) for finding in found_paths)
 
 
 def summary(stretches):
@@ -236,8 +239,8 @@ def summary(stretches):
         return f'stretch{"es" if len(named_ones) > 1 else ""} {covered.numbers_text(named_ones)}'
     if by_state[TURNS]:
         deepest, finding = max(by_state[TURNS], key=lambda pair: pair[1].depth)
-        yield (f'CAUTION: the path turns back on {len(by_state[TURNS])} of {len(stretches)} stretches ({numbers(TURNS)}): the margin is '
-               f'curved more tightly there than the bur, which cuts into it. Stretch {deepest}: {turning(finding)}.')
+        yield (f'CAUTION: the path turns back on {len(by_state[TURNS])} of {len(stretches)} stretches ({numbers(TURNS)}): the '
+               f'margin is curved more tightly there than the bur, which cuts into it. Stretch {deepest}: {turning(finding)}.')
     if by_state[UNDECIDED]:
         yield f'CAUTION: it could not be shown that the path does not turn back on {numbers(UNDECIDED)}.'
     if by_state[SKEWED]:
