@@ -152,7 +152,7 @@ def agreed(cases, counts):
             expect('the depth is not above the true one', finding.depth <= nearer < finding.depth + 2, f'{told}: {float(nearer)}')
         start = next((p for p in range(-STEPS, STEPS + 1, 7) if sampled.forward(p, STEPS)), None)
         if start is not None:
-            state, at, parts = gouge.judged(gouge.Inequality(finding.path), [(start / STEPS, 0.0)])
+            state, at, parts = gouge.judged(gouge.Inequality(finding.path), [start / STEPS])
             expect('the search by itself', state == finding.state and (state == gouge.FORWARD) == (at is None), f'{told}: {state}')
             counts['alone', state, parts > 1] += 1
 

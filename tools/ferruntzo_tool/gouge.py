@@ -18,6 +18,7 @@ from .tables import S, in_micrometres
 HALVINGS = 20                   # of a stretch, at most
 MOST_PARTS = 200                # of a stretch that are looked at, so that every job ends soon
 SKEW = 8                        # the normal must be within 1 to SKEW of the right angle to the margin
+COARSE = 8                      # every so many places of the grid are looked at first
 BISECTIONS = 12                 # for about where a path begins to turn back
 
 FORWARD, TURNS, UNDECIDED, SKEWED = 'forward', 'turns back', 'undecided', 'skewed'
@@ -94,9 +95,10 @@ def search(series, decided, fails):
     return None, False, parts
 
 
-def judged(inequality, samples):
-    """State, place and parts; `samples` are floats along the stretch, and tell where the path most likely turns back."""
-    likely = dyadic(min(samples, key=lambda pair: pair[1])[0]) if samples else None
+def judged(inequality, first):
+    """State, place and parts. `first`: places of which that where the path most likely turns back is looked at first; none if it is
+    known to go forward."""
+    likely = dyadic(min(first, key=inequality.guess)) if first else None
     if likely is None:
         state, at, parts = FORWARD, None, 1
     elif not inequality.forward(likely.numerator, likely.denominator):
@@ -113,14 +115,14 @@ def judged(inequality, samples):
     return state, at, parts
 
 
-def turned(inequality, samples, at):
+def turned(inequality, at):
     """About the stretches on which the path turns back; it does at `at`."""
     def end(inside, outside):
         for _ in range(BISECTIONS):
             middle = (inside + outside) / 2
             inside, outside = (middle, outside) if inequality.guess(middle) <= 0 else (inside, middle)
         return inside
-    points = sorted({**dict(samples), float(at): -1.0}.items())
+    points = sorted({**{x: inequality.guess(x) for x in grid()}, float(at): -1.0}.items())
     found = []
     for i, (x, guess) in enumerate(points):
         if guess > 0:
@@ -134,14 +136,14 @@ def turned(inequality, samples, at):
 def found(path):
     """What is found about one path."""
     inequality = Inequality(path)
-    # None are needed where the coefficients alone show that the path goes forward.
-    samples = [] if inequality.by_coefficients() else [(x, inequality.guess(x)) for x in grid()]
-    state, at, parts = judged(inequality, samples)
+    # No place needs to be looked at first where the coefficients alone show that the path goes forward.
+    first = [] if inequality.by_coefficients() else grid()[::COARSE]
+    state, at, parts = judged(inequality, first)
     if state != TURNS:
         return Finding(path, state, at, parts=parts)
     distance = Distance(path)
     pair = distance.deepest()
-    return Finding(path, state, at, turned(inequality, samples, at), pair, distance.depth(*pair), parts)
+    return Finding(path, state, at, turned(inequality, at), pair, distance.depth(*pair), parts)
 
 
 def findings(job):
