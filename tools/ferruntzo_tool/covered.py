@@ -12,6 +12,7 @@ from .tables import MAX_RESULTS, S, in_micrometres, is_load
 PIECE_DEGREE = 3                # of a piece of a spline, which is exact and may fall slowly
 ROUNDING = 17                   # half a unit for each of 33 coefficients
 NOISE = 16                      # units; larger coefficients are no noise
+PIECE_NOISE = 2                 # the same behind a piece of a spline: short stretches fall as fast
 GAP = 32                        # noise is that many times below what the coefficients before it let expect
 TAIL = 3                        # places; noise reaches at least that far, else a series that falls fast ends there
 
@@ -42,7 +43,7 @@ def beyond(m, piece=False):
     degree, found, behind = max((k for k, a in enumerate(sizes) if a), default=0), 0, 0
     for k in range(degree, 0, -1):
         low = k <= PIECE_DEGREE
-        noise = behind == 0 or (behind <= (2 if low else NOISE) and degree >= k + TAIL)
+        noise = behind == 0 or (behind <= (PIECE_NOISE if low else NOISE) and degree >= k + TAIL)
         if noise and not (low and piece):
             # Before noise the last coefficient itself has to be large: a series that was cut falls at once.
             size_there = min(expected(sizes, k), sizes[k]) if behind else expected(sizes, k)
