@@ -118,7 +118,7 @@ def pieces(folder):
     margin = [[0, S], [S // 8, 0, S // 8]]
     for name, normal, good in (('once', [[0, -S // 2], [S]], True), ('four times', [[0, -2 * S], [4 * S]], True),
                                ('on the other side', [[0, S // 2], [-S]], True), ('half', [[0, -S // 4], [S // 2]], True),
-                               ('three times', [[0, -3 * S // 2], [3 * S]], False),
+                               ('three times', [[0, -3 * S // 2], [3 * S]], False), ('not turned', [[0, S // 2], [S]], False),
                                ("another curve's", [[0, -S // 2, 0, S // 50], [S]], False)):
         found = covered.suspects(job_of(margin + normal, Options.limit_um).ended())
         expect('a normal that is the derivative', bool(found) != good, f'{name}: {found}')

@@ -53,10 +53,9 @@ def beyond(m, piece=False):
 
 
 def is_derivative(normal, slope, factor, allowed):
-    """Whether a normal's curve is a factor, or its opposite, times the derivative of a margin's curve, but for so many units."""
+    """Whether a normal's curve is a factor times the derivative of a margin's curve, but for so many units."""
     scaled = Series([c * factor.numerator for c in slope.row], slope.scale * factor.denominator)
-    differences = (exact.plus(normal, scaled, sign) for sign in (1, -1))
-    return any(size(series) * S <= allowed for series in differences)
+    return size(exact.plus(normal, scaled, -1)) * S <= allowed
 
 
 def size(series):
@@ -80,11 +79,14 @@ def pieces(job):
         if not normal or not any(map(size, slopes)):
             continue
         factor = Fraction(2) ** round(log2(sum(map(size, normal)) / sum(map(size, slopes))))
-        for margin, slope, part, curve in zip(path.margin, slopes, path.normal[::-1], normal[::-1]):
+        # The normal is on the left of the direction of travel, or on the right: in the middle of the stretch this tells.
+        dx, dy, nx, ny = (Fraction(*exact.value(series, 0, 1)) for series in slopes + normal)
+        side = 1 if dx * ny >= dy * nx else -1
+        for sign, margin, slope, part, curve in zip((side, -side), path.margin, slopes, path.normal[::-1], normal[::-1]):
             e_margin, e_normal = (max((radii[i] for i in one.loads), default=0) for one in (margin, part))
             # Half a unit of a coefficient k is up to k²/2 units of the derivative's weight; the first two that were cut count too.
             allowed = e_normal + ROUNDING + factor * (PIECE_DEGREE + 2) ** 2 * (e_margin + 1)
-            if len(margin.series.row) <= PIECE_DEGREE + 1 and is_derivative(curve, slope, factor, allowed):
+            if len(margin.series.row) <= PIECE_DEGREE + 1 and is_derivative(curve, slope, sign * factor, allowed):
                 found |= margin.loads | part.loads
     return found
 
