@@ -85,8 +85,10 @@ def pieces(job):
         for sign, margin, slope, part, curve in zip((side, -side), path.margin, slopes, path.normal[::-1], normal[::-1]):
             e_margin, e_normal = (max((radii[i] for i in one.loads), default=0) for one in (margin, part))
             # Half a unit of a coefficient k is up to k²/2 units of the derivative's weight; the first two that were cut count too.
-            allowed = e_normal + ROUNDING + factor * (PIECE_DEGREE + 2) ** 2 * (e_margin + 1)
-            if len(margin.series.row) <= PIECE_DEGREE + 1 and is_derivative(curve, slope, sign * factor, allowed):
+            degree = len(margin.series.row) - 1
+            allowed = e_normal + ROUNDING + factor * (degree + 2) ** 2 * (e_margin + 1)
+            # A normal of the degree of a piece belongs to a margin of one more.
+            if degree <= PIECE_DEGREE + 1 and is_derivative(curve, slope, sign * factor, allowed):
                 found |= margin.loads | part.loads
     return found
 
