@@ -2,11 +2,12 @@
 
   make.py [folder]        default: the folder of this file
 
-The stretches are made with the reference solver (tools/ferruntzo solve) from margin.json, accident.json
-and machine_time.json; tests/oracle.py, which shares nothing with it, gives the texts.
+The stretches are made with the reference solver (tools/ferruntzo solve) from margin.json, accident.json,
+machine_time.json and groove.txt; tests/oracle.py, which shares nothing with it, gives the texts.
 """
 
 import sys
+from fractions import Fraction
 from pathlib import Path
 
 HERE = Path(__file__).resolve().parent
@@ -107,6 +108,13 @@ def accident_degree_12():
     return solver.solve_stretch(whole, curve.bur, curve.side, ACCIDENT_DEGREE, 0, roots=FORMER).job.ended()
 
 
+def groove():
+    """The third of sixteen stretches beside grooves into which the bur does not fit: accepted, and the path turns back."""
+    run = read_curve(str(HERE / 'groove.txt')).runs[0]
+    low, high = solver.uniform(run, 16)[2:4]
+    return solver.solve_stretch(solver.cut_out(run, low, high), Fraction(6, 10), 'right').job.ended()
+
+
 def must(kept):
     if not kept:
         sys.exit('make: a command of an example would be refused')
@@ -177,7 +185,7 @@ EXAMPLES = {'root_of_4': example_job, 'stretch': stretch, 'stretch32': stretch32
             'most_work': most_work, 'most_quotients': most_quotients, 'refused': refused,
             'between_instants': between_instants, 'stretch_tight': stretch_tight, 'accident_tight': accident_tight,
             'no_radius': no_radius, 'machine_time': machine_time, 'different_intervals': different_intervals,
-            'bad_ends': bad_ends}
+            'bad_ends': bad_ends, 'groove': groove}
 
 
 def main():

@@ -125,8 +125,8 @@ extern "C" {
 
 #define FERRUNTZO_VERSION_MAJOR 4
 #define FERRUNTZO_VERSION_MINOR 0
-#define FERRUNTZO_VERSION_PATCH 1
-#define FERRUNTZO_VERSION "4.0.1"
+#define FERRUNTZO_VERSION_PATCH 2
+#define FERRUNTZO_VERSION "4.0.2"
 
 /* ---- Limits ---- */
 

@@ -38,8 +38,8 @@ def weight(row):
 
 
 def products(a, b):
-    """C(a, b): 2·S² times the product, as 65 numbers."""
-    row = [0] * PLACES
+    """C(a, b): 2·S² times the product, as 65 numbers; more for lists that are longer than those of models."""
+    row = [0] * max(PLACES, len(a) + len(b) - 1)
     for i, u in enumerate(a):
         if u:
             for j, v in enumerate(b):

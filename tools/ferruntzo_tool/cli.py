@@ -5,6 +5,7 @@ import os
 import sys
 
 from . import __version__
+from .program import shown
 from .tables import decimal
 
 DEFAULT_LIMIT = '2'
@@ -56,8 +57,15 @@ def count(low, high):
     return convert
 
 
+class Parser(argparse.ArgumentParser):
+    """Errors in one line, whatever the arguments hold."""
+
+    def error(self, message):
+        super().error(shown(message))
+
+
 def parser():
-    top = argparse.ArgumentParser(
+    top = Parser(
         prog='ferruntzo', description='Jobs of Chebyshev models for crown mills: check, explain, '
         'list, assemble, show and solve them. docs/MEANING.md says what a verdict promises.')
     top.add_argument('--version', action='version', version=f'ferruntzo {__version__}')
@@ -75,13 +83,16 @@ def parser():
                    epilog=STATUSES)
     made.add_argument('jobs', nargs='+', metavar='JOB',
                       help='a job file, a folder of *.job files, or - for standard input')
+    made.add_argument('-r', '--recursive', action='store_true', help='look into the folders of a folder as well')
     made.add_argument('--limit-um', metavar='X', default=DEFAULT_LIMIT,
                       help='the largest radius that is good enough, in micrometres, or none '
                            f'(default: {DEFAULT_LIMIT})')
     made.add_argument('--results', type=results, metavar='I,J',
                       help='the results to judge (default: those that no later command names)')
-    made.add_argument('--strict', action='store_true', help='a caution counts as beyond the limit')
-    made.add_argument('--quiet', action='store_true', help='no line for jobs that are good')
+    made.add_argument('--strict', action='store_true', help='a caution counts as beyond the limit: a load that looks cut off, '
+                      'a path that turns back or is not shown not to')
+    made.add_argument('--quiet', action='store_true', help='no line for jobs that are good; refusals and cautions are '
+                      'printed')
     checker(made)
 
     made = command('explain', 'go through a job command by command, and name likely mistakes',
@@ -152,9 +163,26 @@ def run(options):
     return command(options)
 
 
-def main():
-    for stream in (sys.stdout, sys.stderr):
+def standard_streams():
+    """Whether standard output is there. Closed streams are given to the null device, so that no file takes their place; standard
+    input is then still None."""
+    for number, stream, way in ((0, sys.stdin, os.O_RDONLY), (1, sys.stdout, os.O_WRONLY), (2, sys.stderr, os.O_WRONLY)):
+        if stream is None:
+            opened = os.open(os.devnull, way)
+            if opened != number:
+                os.dup2(opened, number)
+                os.close(opened)
+    if sys.stderr is None:
+        sys.stderr = open(2, 'w', closefd=False)
+    for stream in filter(None, (sys.stdout, sys.stderr)):
         stream.reconfigure(encoding='utf-8', errors='replace')
+    return sys.stdout is not None
+
+
+def main():
+    if not standard_streams():
+        print('ferruntzo: standard output is closed, so that nothing can be said', file=sys.stderr)
+        return 2
     top = parser()
     options = top.parse_args()
     try:

@@ -9,7 +9,7 @@ from math import hypot, lcm
 
 from .arithmetic import ends_fault
 from .exact import Series
-from .program import NotChecked, read_file
+from .program import NotChecked, quoted, read_file, shown
 from .tables import LIMIT, S, Interval, decimal
 
 SPAN = 1 << 20                  # parameters of a run that is one series
@@ -30,7 +30,7 @@ def exact(number, where):
     try:
         return decimal(number)
     except (TypeError, ValueError):
-        raise BadCurve(f'{where}: {str(number)[:40]!r} is no number') from None
+        raise BadCurve(f'{where}: {quoted(number)} is no number') from None
 
 
 def series(numbers, factor, where):
@@ -70,7 +70,7 @@ def from_series(given, factor, where):
             raise BadCurve(f'{at}: "x" and "y" are needed')
         named = [key for key in piece if key.lower().startswith('interval')]
         if named not in ([], [INTERVAL]):
-            raise BadCurve(f'{at}: unknown key {named[0]!r}; its interval is "{INTERVAL}"')
+            raise BadCurve(f'{at}: unknown key {quoted(named[0])}; its interval is "{INTERVAL}"')
         low, high = ends_of(piece[INTERVAL], f'{at}, {INTERVAL}') if named else (0, SPAN)
         runs.append([Piece(low, high, series(piece['x'], factor, f'{at}, x'),
                            series(piece['y'], factor, f'{at}, y'), bool(named))])
@@ -166,7 +166,7 @@ def text_points(text, name):
         words = line.split('#')[0].replace(',', ' ').split()
         if words:
             if len(words) != 2:
-                raise BadCurve(f'{name}, line {i}: x and y in mm are needed, not {line.strip()!r}')
+                raise BadCurve(f'{name}, line {i}: x and y in mm are needed, not {quoted(line.strip())}')
             points.append(tuple(exact(word, f'{name}, line {i}') for word in words))
     return points
 
@@ -178,8 +178,9 @@ KEYS = {'name', 'story', 'bur_mm', 'side', 'closed', 'points_mm', 'series_mm', '
 def read_curve(name):
     try:
         text = read_file(name).decode('utf-8')
+        name = shown(name)
     except UnicodeDecodeError as error:
-        raise BadCurve(f'{name}: byte {error.start} is no UTF-8 text; a curve is JSON or lines of '
+        raise BadCurve(f'{shown(name)}: byte {error.start} is no UTF-8 text; a curve is JSON or lines of '
                        'x y') from error
     except NotChecked as error:
         raise BadCurve(str(error)) from error
@@ -194,7 +195,7 @@ def read_curve(name):
         raise BadCurve(f'{name}: "{INTERVAL}" belongs into a piece of "series_mm" or "series_units", beside its "x" and '
                        '"y"; a curve through points has none')
     if unknown:
-        raise BadCurve(f'{name}: unknown key {unknown[0]!r}; there are {", ".join(sorted(KEYS))}')
+        raise BadCurve(f'{name}: unknown key {quoted(unknown[0])}; there are {", ".join(sorted(KEYS))}')
     kinds = [key for key in ('points_mm', 'series_mm', 'series_units') if key in given]
     if len(kinds) != 1:
         raise BadCurve(f'{name}: exactly one of "points_mm", "series_mm", "series_units" is needed')
@@ -208,12 +209,12 @@ def read_curve(name):
                 raise BadCurve(f'{where}: point {i} is no [x, y]')
             points.append(tuple(exact(c, f'{where}, point {i}') for c in point))
         if given.get('closed', False) not in (True, False):
-            raise BadCurve(f'{name}: "closed" is true or false, not {given["closed"]!r}')
+            raise BadCurve(f'{name}: "closed" is true or false, not {quoted(given["closed"])}')
         runs = from_points(points, given.get('closed', False), where)
     else:
         runs = from_series(given[kinds[0]], S if kinds[0] == 'series_mm' else 1, where)
     bur = exact(given['bur_mm'], f'{name}, bur_mm') if 'bur_mm' in given else None
     side = given.get('side', 'left')
     if side not in ('left', 'right'):
-        raise BadCurve(f'{name}: "side" is "left" or "right", not {side!r}')
+        raise BadCurve(f'{name}: "side" is "left" or "right", not {quoted(side)}')
     return Curve(given.get('name', name), bur, side, runs)

@@ -1,8 +1,9 @@
 """Chebyshev series with exact whole coefficients over a common denominator."""
 
 from collections import namedtuple
+from math import gcd
 
-from .arithmetic import near, up
+from .arithmetic import near, products, up
 
 # The series Σ row[k]·T_k / scale.
 Series = namedtuple('Series', 'row scale')
@@ -49,6 +50,28 @@ def derivative(series, numerator=1, denominator=1):
     made = made[:max(degree, 1)]
     made[0] //= 2
     return Series([c * numerator for c in made], series.scale * denominator)
+
+
+def reduced(row, scale):
+    """The series in lowest terms, zeros at the top left off: equal series have equal rows and scales."""
+    row = list(row)
+    while len(row) > 1 and row[-1] == 0:
+        row.pop()
+    common = gcd(scale, *row)
+    return Series([c // common for c in row], scale // common)
+
+
+def plus(one, two, sign=1):
+    """The sum of two series, the second times sign."""
+    size = max(len(one.row), len(two.row))
+    first = one.row + [0] * (size - len(one.row))
+    second = two.row + [0] * (size - len(two.row))
+    return reduced([u * two.scale + sign * v * one.scale for u, v in zip(first, second)], one.scale * two.scale)
+
+
+def times(one, two):
+    """The product of two series."""
+    return reduced(products(one.row, two.row), 2 * one.scale * two.scale)
 
 
 def distance(one, two):

@@ -4,9 +4,9 @@ import sys
 from itertools import zip_longest
 
 from . import arithmetic as ar
-from . import covered, misfit, misplaced, misread, program
+from . import covered, gouge, misfit, misplaced, misread, program
 from .arithmetic import Refused
-from .program import NotChecked
+from .program import NotChecked, shown
 from .reading import Checked, blocks_of
 from .tables import (DEFAULT_KEPT, LIMIT, REFUSAL, S, STANDARD, in_micrometres, interval_text, is_load,
                      is_root, is_tight)
@@ -131,10 +131,28 @@ def cover_lines(checked):
     for line in covered.cautions(checked.job):
         yield 'CAUTION: ' + line + '.'
     ends = checked.last_results()
+    yield from gouging_lines(gouge.findings(checked.job), ends)
     if checked.accepted and ends:
         worst = max(checked.results[i].radius for i in ends)
         yield (f'Results that no later command names: {covered.numbers_text(ends)}; their largest radius is '
                f'{worst:,} units = {in_micrometres(worst)}.')
+
+
+def gouging_lines(found, ends):
+    """Whether the paths of an accepted job turn back, and what was not looked at; `found` is what was found about them."""
+    good, left = gouge.looked_at(found, ends)
+    for line in good:
+        yield (f'{line[0].upper()}{line[1:]}: forward along the margin at every point of the stretch (1 - r·κ > 0), shown in exact '
+               'arithmetic for the polynomials of the loaded curves, without their radii.')
+    for line in gouge.cautions(found):
+        yield f'CAUTION: {line}.'
+    if not found:
+        yield ('Gouging was not looked at: no two results were recognised as margin + r·normal/|normal|, a path beside a '
+               'margin.')
+    else:
+        if left:
+            yield f'Not looked at for gouging: {covered.plural(left)}.'
+        yield 'Other stretches, and parts of the margin that are not next to each other along it, were not looked at for gouging.'
 
 
 def explanation(job, checked):
@@ -150,7 +168,7 @@ def explanation(job, checked):
     else:
         refusal = REFUSAL[checked.refusal]
         yield f'Refusal {refusal.number}: {refusal.meaning}. What to do: {refusal.advice}.'
-        for line in covered.cautions(job):
+        for line in covered.cautions(job, accepted=False):
             yield 'CAUTION: ' + line + '.'
     lines = list(dict.fromkeys(([] if checked.accepted else misread.causes(job, checked))
                                + misplaced.causes(job, checked) + misfit.causes(job, checked)))
@@ -175,7 +193,7 @@ def main(options):
     if answer.text != checked.text():
         lines = zip_longest(answer.text.split('\n'), checked.text().split('\n'), fillvalue='')
         number, (said, own) = next((i, pair) for i, pair in enumerate(lines, 1) if pair[0] != pair[1])
-        print(f'ferruntzo: {name}: line {number} of jobcheck is "{said}", of this explanation "{own}", so the '
+        print(f'ferruntzo: {shown(name)}: line {number} of jobcheck is "{said}", of this explanation "{own}", so the '
               'explanation is wrong or the program is not the one it was written for. Do not mill.',
               file=sys.stderr)
         return 2

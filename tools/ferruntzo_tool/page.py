@@ -4,8 +4,8 @@ import sys
 from html import escape
 from pathlib import Path
 
-from . import __version__, covered, explain, program, svg
-from .program import NotChecked
+from . import __version__, covered, explain, gouge, program, svg
+from .program import NotChecked, shown
 from .reading import Checked
 from .tables import REFUSAL, S, STANDARD, argument, in_micrometres, is_load
 
@@ -55,7 +55,7 @@ def paragraph(text, kind=''):
     return f'<p{f" class={chr(34)}{kind}{chr(34)}" if kind else ""}>{escape(text)}</p>'
 
 
-def verdict_part(checked, options):
+def verdict_part(checked, cautions, options):
     if not checked.accepted:
         refusal = REFUSAL[checked.refusal]
         yield paragraph(f'Refused with {refusal.number} at command {checked.command}. Do not mill.', 'verdict bad')
@@ -71,12 +71,11 @@ def verdict_part(checked, options):
     good = limit is None or worst * 1000 <= limit * S
     told = ('no limit was set' if limit is None else
             f'{"within" if good else "BEYOND"} the limit of {options.limit_text} µm')
-    suspect = bool(covered.cautions(checked.job))
     yield paragraph(f'Accepted: at most {in_micrometres(worst)} off the loaded curves, {told}.'
-                    + (' Do not mill.' if not good else ' But read the caution below.' if suspect else ''),
-                    f'verdict {"bad" if not good else "warn" if suspect else "good"}')
+                    + (' Do not mill.' if not good else ' But read what is said below.' if cautions else ''),
+                    f'verdict {"bad" if not good else "warn" if cautions else "good"}')
     yield paragraph(f'This is the largest radius of result{"s" if len(ends) > 1 else ""} '
-                    f'{covered.numbers_text(ends)}, which no later command names. It holds at every point of the '
+                    f'{covered.numbers_text(ends)}, which no later command names. It holds at every fraction of the '
                     'stretch, not at sampled ones. It speaks of the curves that were loaded, within the radius that '
                     'each load states: what a solver rounded or cut before loading is covered only as far as '
                     'those radii say so.')
@@ -89,7 +88,7 @@ def table(checked, ends):
            + ('<th scope="col">x</th>' if own else '')
            + '<th scope="col">degree</th><th scope="col">radius, units</th><th scope="col">radius, µm</th>'
            '<th scope="col">remark</th></tr></thead><tbody>')
-    suspects = {i for i, m in covered.loads(checked.job) if covered.cut(m)}
+    suspects = {i for i, _, _ in covered.suspects(checked.job)}
     for outcome in checked.outcomes:
         i, m = outcome.result, outcome.model
         if i is None:
@@ -122,10 +121,13 @@ def figures(checked, ends, options):
 def page(name, job, checked, options):
     """The whole page."""
     title = f'Job {name}'
-    body = [f'<h1>{escape(title)}</h1>', *verdict_part(checked, options)]
-    body += [paragraph('Caution: ' + line + '.', 'caution') for line in covered.cautions(job)]
+    found = gouge.findings(job) if checked.accepted else []
+    cautions = covered.cautions(job, checked.accepted) + gouge.cautions(found)
+    body = [f'<h1>{escape(title)}</h1>', *verdict_part(checked, cautions, options)]
+    body += [paragraph('CAUTION: ' + line + '.', 'caution') for line in cautions]
     if checked.accepted:
         ends = checked.last_results()
+        body += [paragraph(line) for line in explain.gouging_lines(found, ends) if not line.startswith('CAUTION')]
         body += ['<h2>Results</h2>', *table(checked, ends)]
         if len(ends) == 2 and checked.results[ends[0]].interval != checked.results[ends[1]].interval:
             body.append(paragraph(f'Results {ends[0]} and {ends[1]} are on different intervals, so they are not drawn '
@@ -158,14 +160,14 @@ def main(options):
         answer = program.run(program.find(options.jobcheck), job, name)
         checked = Checked(job)
         if answer.text != checked.text():
-            raise NotChecked(f'{name}: jobcheck and this tool differ; it may be of another version')
+            raise NotChecked(f'{shown(name)}: jobcheck and this tool differ; it may be of another version')
         # A file name may be no UTF-8.
-        Path(options.output).write_text(page(Path(name).name, job, checked, options), encoding='utf-8',
+        Path(options.output).write_text(page(shown(Path(name).name), job, checked, options), encoding='utf-8',
                                         errors='replace')
     except NotChecked as error:
         print(f'ferruntzo: {error}. No page was written.', file=sys.stderr)
         return 2
     except OSError as error:
-        print(f'ferruntzo: {options.output}: cannot be written: {error.strerror}', file=sys.stderr)
+        print(f'ferruntzo: {shown(options.output)}: cannot be written: {error.strerror}', file=sys.stderr)
         return 2
     return 0 if answer.accepted else 1

@@ -10,11 +10,11 @@ from collections import namedtuple
 from math import isqrt
 from pathlib import Path
 
-from . import candidates, exact, program, saving
+from . import candidates, exact, gouge, program, saving
 from .arithmetic import Refused, add, model, multiply, near, tested, up, weight
 from .curve import BadCurve, read_curve
 from .exact import Series
-from .program import NotChecked
+from .program import NotChecked, shown
 from .reading import write_step
 from .tables import BY_NAME, LIMIT, MAX_DEGREE, S, STANDARD, Interval, argument, in_micrometres
 
@@ -306,36 +306,38 @@ def write_jobs(folder, stem, jobs):
             if numbered and int(numbered[1]) >= len(jobs):
                 path.unlink()
     except OSError as error:
-        raise NotChecked(f'{folder}: cannot be written: {error.strerror}') from error
+        raise NotChecked(f'{shown(folder)}: cannot be written: {error.strerror}') from error
 
 
 def main(options):
+    name = shown(options.curve)
     try:
         curve = read_curve(options.curve)
         bur = options.bur_mm or curve.bur
         if bur is None or not 0 < bur <= 100:
-            raise BadCurve(f'{options.curve}: the radius of the bur in mm is needed, above 0: "bur_mm", or '
+            raise BadCurve(f'{name}: the radius of the bur in mm is needed, above 0: "bur_mm", or '
                            '--bur-mm')
         checker = program.find(options.jobcheck)
         print(HEAD)
-        worst, jobs, own = 0, [], []
+        worst, jobs, own, found = 0, [], [], []
         for solved in solve(curve, bur, options.side or curve.side or 'left', options):
-            job, name = solved.job.ended(), f'{options.curve}: stretch {len(jobs)}'
-            answer = program.run(checker, job, name)
+            job, at = solved.job.ended(), f'{name}: stretch {len(jobs)}'
+            answer = program.run(checker, job, at)
             if answer.text != solved.job.text():
-                raise NotChecked(f'{name}: jobcheck does not print what was solved for; is it the '
+                raise NotChecked(f'{at}: jobcheck does not print what was solved for; is it the '
                                  'program of this version? (--only-0x21 makes jobs for those older than 3.2.0; an own '
                                  'interval needs 4.0.0)')
             error = verified(solved, options.verify) if options.verify else None
             if error is not None and error > final(solved):
-                raise NotChecked(f'{name}: the error against the margin, {error:.3f} units, is above '
+                raise NotChecked(f'{at}: the error against the margin, {error:.3f} units, is above '
                                  f'the radius {final(solved)}; this must not happen, please report it')
-            print(row(len(jobs), solved, error), flush=True)
+            found.append(gouge.findings(job))
+            print(row(len(jobs), solved, error) + gouge.remark(found[-1]), flush=True)
             worst = max(worst, final(solved))
             jobs.append(job)
             if solved.stretch.interval != STANDARD:
                 own.append(solved)
-        told = list(saving.lines(own, checker, options.curve)) if own else []
+        told = list(saving.lines(own, checker, name)) if own else []
         # Only now: a curve that cannot be solved to its end leaves the folder as it was.
         if options.output:
             write_jobs(Path(options.output), Path(options.curve).stem or 'job', jobs)
@@ -343,11 +345,11 @@ def main(options):
         print(f'ferruntzo: {error}', file=sys.stderr)
         return 2
     except Unsolvable as error:
-        print(f'ferruntzo: {options.curve}: {error}', file=sys.stderr)
+        print(f'ferruntzo: {name}: {error}', file=sys.stderr)
         return 2
     print(f'{len(jobs)} stretch{"es" if len(jobs) > 1 else ""}, accepted by jobcheck; largest radius {worst:,} '
           f'unit{"" if worst == 1 else "s"} = {in_micrometres(worst)}, against the margin itself.')
-    for line in told:
+    for line in [*gouge.summary(found), *told]:
         print(line)
     if options.limit_um is not None and worst * 1000 > options.limit_um * S:
         print(f'BEYOND the limit of {options.limit_text} µm: take more stretches or a higher degree.')

@@ -146,14 +146,14 @@ def argument(units):
     return f'{units / S:.10g}'
 
 
-def in_micrometres(units):
-    """Three figures that are never below the number itself, with their unit."""
+def in_micrometres(units, down=False):
+    """Three figures that are never below the number itself (rounded down: never above), with their unit."""
     if units == 0:
         return '0 µm'
     scale = 0
     while units * 1000 * 10 ** scale < 100 * S:
         scale += 1
-    raised = -(-units * 1000 * 10 ** scale // S)
-    digits = str(raised).rjust(scale + 1, '0')
+    rounded = units * 1000 * 10 ** scale // S if down else -(-units * 1000 * 10 ** scale // S)
+    digits = str(rounded).rjust(scale + 1, '0')
     whole, part = (digits[:-scale], digits[-scale:]) if scale else (digits, '')
     return f'{whole}.{part} µm' if part else f'{whole} µm'

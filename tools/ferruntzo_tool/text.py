@@ -16,7 +16,7 @@ import sys
 from pathlib import Path
 
 from .arithmetic import Model
-from .program import NotChecked, read_file
+from .program import NotChecked, quoted, read_file, shown
 from .reading import split, write_operand
 from .tables import BY_NAME, COEFFICIENTS, DEFAULT_KEPT, Interval
 
@@ -74,7 +74,7 @@ def listing(job):
 
 class Assembler:
     def __init__(self, name):
-        self.name, self.line, self.out = name, 0, bytearray()
+        self.name, self.line, self.out = shown(name), 0, bytearray()
         self.command = None         # row of the table that waits for its blocks
         self.values, self.waiting = {}, []
         self.block, self.row = None, []
@@ -88,7 +88,7 @@ class Assembler:
         except ValueError:
             found = None
         if found is None or not low <= found <= high:
-            self.fail(f'{word!r} is no {what} (a whole number from {low} to {high})')
+            self.fail(f'{quoted(word)} is no {what} (a whole number from {low} to {high})')
         return found
 
     def close_block(self):
@@ -135,7 +135,7 @@ class Assembler:
             else:
                 self.values[name] = self.number(word, 0, 255, name if kind != 'result' else 'result')
         if rest:
-            self.fail(f'{" ".join(rest)!r} does not belong behind {command.name}')
+            self.fail(f'{quoted(" ".join(rest))} does not belong behind {command.name}')
         self.command = command
         self.waiting = [name for kind, name in command.operands if kind == 'block']
 
@@ -150,7 +150,7 @@ class Assembler:
         words = head.split()
         if not self.waiting or len(words) != 3 or words[:2] != [self.waiting[0], 'degree']:
             wanted = f'"{self.waiting[0]} degree N:"' if self.waiting else 'a command'
-            self.fail(f'{head!r} stands where {wanted} is expected')
+            self.fail(f'{quoted(head)} stands where {wanted} is expected')
         self.waiting.pop(0)
         self.block, self.row = (words[0], self.number(words[2], 0, 255, 'degree')), []
         self.coefficients(row.split())
@@ -159,7 +159,7 @@ class Assembler:
         self.close_command()
         for word in words:
             if len(word) != 2 or not set(word) <= set('0123456789abcdefABCDEF'):
-                self.fail(f'{word!r} is no byte of two hexadecimal digits')
+                self.fail(f'{quoted(word)} is no byte of two hexadecimal digits')
             self.out.append(int(word, 16))
 
     def take(self, line):
@@ -177,7 +177,7 @@ class Assembler:
         elif self.block is not None and words[0].lstrip('+-').isdigit():
             self.coefficients(words)
         else:
-            self.fail(f'{words[0]!r} is no command; there are {", ".join(BY_NAME)}, and bytes')
+            self.fail(f'{quoted(words[0])} is no command; there are {", ".join(BY_NAME)}, and bytes')
 
     def job(self, text):
         for line in text.splitlines():
@@ -204,7 +204,7 @@ def write(name, data):
     except BrokenPipeError:
         raise
     except OSError as error:
-        print(f'ferruntzo: {name or "standard output"}: cannot be written: {error.strerror}',
+        print(f'ferruntzo: {shown(name or "standard output")}: cannot be written: {error.strerror}',
               file=sys.stderr)
         return False
 
@@ -223,7 +223,7 @@ def assemble_main(options):
         text = read_file(options.text)
         job = assemble(text.decode('utf-8'), options.text)
     except UnicodeDecodeError as error:
-        print(f'ferruntzo: {options.text}: byte {error.start} is no UTF-8 text; is it a job and not '
+        print(f'ferruntzo: {shown(options.text)}: byte {error.start} is no UTF-8 text; is it a job and not '
               'the text of one?', file=sys.stderr)
         return 2
     except (NotChecked, BadText) as error:
