@@ -45,12 +45,14 @@ class LibraryError(RuntimeError):
 
 def _places() -> Iterator[Path]:
     """Where the library is looked for before the system's loader is asked: in the package (pip), under the prefix of
-    `make install`, and in the repository."""
+    `make install`, and in the repository. No folder counts that only happens to stand above the package."""
     package = Path(__file__).resolve().parent
     yield package / SONAME
-    if len(package.parents) > 2:
-        yield package.parents[2] / SONAME
-        yield package.parents[1] / 'target' / 'staticlib' / SONAME
+    folder = package.parent
+    if folder.name.endswith('-packages') and folder.parent.name.startswith('python'):
+        yield folder.parent.parent / SONAME
+    if (folder / 'build_wheel.py').is_file():
+        yield folder.parent / 'target' / 'staticlib' / SONAME
 
 
 def _open() -> tuple[ctypes.CDLL, str]:
