@@ -1,7 +1,7 @@
 #!/usr/bin/env python3
 """The Python package (python/ferruntzo) over the shared library, against the oracle: every entry, with every refusal that it has, on
-fixed cases and on random ones; the lengths that it lends; wrong operands, which must be named before the library is called; wrong
-packages, each of which must be found; the ways in which the library is found; pip without a network.
+fixed cases and on random ones; the lengths that it lends; wrong operands, which must be named before the library is called; and wrong
+packages, each of which must be found.  python_install.py has how the library is found, and pip.
 
   tests/python_package.py [--cases N] [--seed SEED]     N random cases for each entry, and as many of the fixed ones
 """
@@ -12,9 +12,7 @@ import ctypes
 import doctest
 import os
 import pickle
-import subprocess
 import sys
-import tempfile
 import threading
 import time
 from collections import Counter
@@ -331,7 +329,7 @@ def threads():
     expect('threads', len(seen) == 800 and all(seen))
 
 
-# ---- Examples, version, finding the library, pip ------------------------------------------
+# ---- Examples ---------------------------------------------------------------------------
 
 def examples():
     for job in sorted((ROOT / 'examples').glob('*.job')):
@@ -343,87 +341,6 @@ def examples():
         expect('examples', said == job.with_suffix('.expected').read_text(), job.name)
     for failed, tried in (doctest.testfile(str(ROOT / 'python' / 'README.md'), module_relative=False), doctest.testmod(package)):
         expect('texts of README and package', failed == 0 < tried)
-
-
-def in_python(text, folder, **variables):
-    """What a program says, run elsewhere."""
-    run = subprocess.run([sys.executable, '-c', text], cwd='/', capture_output=True, text=True,
-                         env={**os.environ, 'PYTHONPATH': str(folder), 'PYTHONDONTWRITEBYTECODE': '1', **variables})
-    return run.stdout + run.stderr
-
-
-ASK = 'import ferruntzo; print(ferruntzo.version(), ferruntzo.Model.constant(1).add(ferruntzo.Model.constant(2)).coefficients[0])'
-
-
-def other_library(folder, version, number):
-    """A library with every function, of another version, or with another answer."""
-    source = folder / 'other.c'
-    source.write_text(''.join(f'unsigned ferruntzo_{name}(void) {{ return {version if name == "version" else number}; }}\n'
-                              for name in _library._FUNCTIONS))
-    subprocess.run([os.environ.get('CC', 'gcc'), '-shared', '-fPIC', str(source), '-o', str(folder / 'other.so')], check=True)
-    return str(folder / 'other.so')
-
-
-def finding(folder):
-    right = (4 << 16) + (1 << 8)
-    expect('version', package.version() == tuple(map(int, package.__version__.split('.')))
-           and _library.number_of('version') == right == header_version(), str(package.version()))
-    alone = folder / 'alone'
-    alone.mkdir()
-    (alone / 'ferruntzo').symlink_to(ROOT / 'python' / 'ferruntzo')
-    copied = folder / 'copied'
-    subprocess.run(['cp', '-r', str(ROOT / 'python' / 'ferruntzo'), str(folder / 'ferruntzo')], check=True)
-    copied.mkdir()
-    (folder / 'ferruntzo').rename(copied / 'ferruntzo')
-    spoken = {
-        'in the repository': (alone, {}, '(4, 1, 0) 3\n'),
-        'nowhere': (copied, {}, 'was not found'),
-        'by the system': (copied, {'LD_LIBRARY_PATH': str(SHARED.parent)}, '(4, 1, 0) 3\n'),
-        'by its name': (copied, {'FERRUNTZO_LIBRARY': str(SHARED)}, '(4, 1, 0) 3\n'),
-        'by a wrong name': (alone, {'FERRUNTZO_LIBRARY': str(folder / 'missing.so')}, 'which cannot be loaded'),
-        'an empty name': (alone, {'FERRUNTZO_LIBRARY': ''}, 'which cannot be loaded'),
-        'no library': (alone, {'FERRUNTZO_LIBRARY': str(ROOT / 'README.md')}, 'which cannot be loaded'),
-        'another library': (alone, {'FERRUNTZO_LIBRARY': 'lib/x86_64-linux-gnu/libc.so.6'}, 'has no ferruntzo_'),
-    }
-    for version in ((3 << 16) + 512, 4 << 16, 5 << 16):
-        spoken[f'version {version}'] = (alone, {'FERRUNTZO_LIBRARY': other_library(folder, version, 0)}, 'or later below 5.0.0')
-        check_spoken(spoken.popitem())
-    spoken['answer 77'] = (alone, {'FERRUNTZO_LIBRARY': other_library(folder, right, 77)}, 'ferruntzo_add answered 77')
-    for one in spoken.items():
-        check_spoken(one)
-
-
-def check_spoken(one):
-    name, (place, variables, wanted) = one
-    if name == 'another library' and not Path('/lib/x86_64-linux-gnu/libc.so.6').exists():
-        return
-    said = in_python(ASK, place, **variables)
-    # An error is one of the package, never a failure inside it.
-    expect('finding the library', wanted in said and ('LibraryError' in said) != (wanted[0] == '('), f'{name}: {said}')
-
-
-def header_version():
-    text = header.HEADER.read_text()
-    return eval(f'{text.split("define FERRUNTZO_VERSION_MAJOR ")[1].split()[0]} * 65536 + '
-                f'{text.split("define FERRUNTZO_VERSION_MINOR ")[1].split()[0]} * 256 + '
-                f'{text.split("define FERRUNTZO_VERSION_PATCH ")[1].split()[0]}')
-
-
-def pip(folder):
-    """Installed without a network, it has the library in it and runs from any folder; without pip this is left out."""
-    if subprocess.run([sys.executable, '-m', 'pip', '--version'], capture_output=True).returncode != 0:
-        print('python: pip is not there; it is not tried')
-        return
-    for words in (['--no-build-isolation'], []):
-        target = folder / f'target{len(words)}'
-        run = subprocess.run([sys.executable, '-m', 'pip', 'install', '-q', str(ROOT / 'python'), *words, '--target', str(target)],
-                             capture_output=True, text=True,
-                             env={**os.environ, 'PIP_NO_INDEX': '1', 'PIP_NO_CACHE_DIR': '1', 'PIP_DISABLE_PIP_VERSION_CHECK': '1'})
-        expect('pip install', run.returncode == 0, run.stderr)
-        expect('pip install', in_python(ASK, target) == '(4, 1, 0) 3\n', in_python(ASK, target))
-        expect('typed', (target / 'ferruntzo' / 'py.typed').exists())
-    left = [path for path in (ROOT / 'python').rglob('*') if path.suffix in ('.egg-info', '.whl') or path.name == 'build']
-    expect('pip leaves nothing in the repository', not left, str(left))
 
 
 def main():
@@ -453,9 +370,6 @@ def main():
     values()
     threads()
     examples()
-    with tempfile.TemporaryDirectory() as folder:
-        finding(Path(folder))
-        pip(Path(folder))
     print('python: ' + ', '.join(f'{what} {count}' for what, count in done.items()))
     print(f'python: {sum(map(len, cases.values()))} calls agree with the oracle, {len(SLIPS)} wrong packages found, '
           f'{time.perf_counter() - began:.1f} s')

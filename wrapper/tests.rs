@@ -63,6 +63,13 @@ fn refused(job: &[u8]) -> (u32, u32) {
     (refused.refusal.number(), refused.command)
 }
 
+/// The library's version is that of the crate.
+#[test]
+fn version_at_run_time() {
+    let (major, minor, patch) = crate::version();
+    assert_eq!(std::format!("{major}.{minor}.{patch}"), "4.1.0");
+}
+
 // ---- Document 01's examples ----
 
 #[test]
