@@ -63,11 +63,12 @@ fn refused(job: &[u8]) -> (u32, u32) {
     (refused.refusal.number(), refused.command)
 }
 
-/// The library's version is that of the crate.
+/// The library's version is that of the header.
 #[test]
 fn version_at_run_time() {
     let (major, minor, patch) = crate::version();
-    assert_eq!(std::format!("{major}.{minor}.{patch}"), "4.1.0");
+    let line = std::format!("#define FERRUNTZO_VERSION \"{major}.{minor}.{patch}\"\n");
+    assert!(include_str!("../include/ferruntzo.h").contains(&line), "{line}");
 }
 
 // ---- Document 01's examples ----
