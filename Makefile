@@ -73,12 +73,15 @@ install: all
 	$(INSTALL) -m 644 man/jobcheck.1 man/ferruntzo.1 "$(man)/man1"
 	$(INSTALL) -m 644 man/ferruntzo.3 "$(man)/man3"
 	$(INSTALL) -m 644 $(DOCS) "$(doc)"
-	sed 's/@VERSION@/$(VERSION)/' ferruntzo.pc.in > "$(lib)/pkgconfig/ferruntzo.pc"
+	sed 's/@VERSION@/$(VERSION)/; s/@NAME@/ferruntzo/; s/@LIBS@/-L$${libdir} -lferruntzo/' \
+	    ferruntzo.pc.in > "$(lib)/pkgconfig/ferruntzo.pc"
+	sed 's/@VERSION@/$(VERSION)/; s/@NAME@/ferruntzo-static/; s/@LIBS@/$${libdir}\/libferruntzo.a/' \
+	    ferruntzo.pc.in > "$(lib)/pkgconfig/ferruntzo-static.pc"
 
 uninstall:
 	rm -f "$(lib)/libferruntzo.a" "$(lib)/libferruntzo.so.$(VERSION)" "$(lib)/libferruntzo.so.$(MAJOR)" "$(lib)/libferruntzo.so"
 	rm -rf "$(site)/ferruntzo"
-	rm -f "$(lib)/pkgconfig/ferruntzo.pc" "$(root)/include/ferruntzo.h" \
+	rm -f "$(lib)/pkgconfig/ferruntzo.pc" "$(lib)/pkgconfig/ferruntzo-static.pc" "$(root)/include/ferruntzo.h" \
 	    "$(bin)/jobcheck" "$(bin)/ferruntzo" "$(man)/man1/jobcheck.1" "$(man)/man1/ferruntzo.1" \
 	    "$(man)/man3/ferruntzo.3"
 	rm -rf "$(share)/ferruntzo_tool" "$(doc)"

@@ -4,7 +4,7 @@ from __future__ import annotations
 
 from ctypes import c_int32, c_int64
 from dataclasses import dataclass, field, replace
-from typing import ClassVar, Sequence
+from typing import ClassVar, Iterable, Sequence
 
 from ._library import call
 from ._numbers import (CANDIDATE_SIZE, DEFAULT_KEPT, MODEL_SIZE, S, area, coefficients_of, instance, signed32, sized,
@@ -47,7 +47,7 @@ class Series(_Listed):
     refuses bad ones."""
 
     @classmethod
-    def from_numbers(cls, numbers: Sequence[int]) -> Series:
+    def from_numbers(cls, numbers: Iterable[int]) -> Series:
         """The series in 34 numbers: degree, coefficients."""
         degree, *coefficients = sized(numbers, CANDIDATE_SIZE, 'numbers')
         return cls(degree, coefficients)
@@ -78,7 +78,7 @@ class Candidate(_Listed):
         return cls(0, (c,))
 
     @classmethod
-    def from_numbers(cls, numbers: Sequence[int]) -> Candidate:
+    def from_numbers(cls, numbers: Iterable[int]) -> Candidate:
         """The candidate in 34 numbers: degree, coefficients."""
         degree, *coefficients = sized(numbers, CANDIDATE_SIZE, 'numbers')
         return cls(degree, coefficients)
@@ -130,7 +130,7 @@ class Model:
         return series.model()
 
     @classmethod
-    def from_numbers(cls, numbers: Sequence[int]) -> Model:
+    def from_numbers(cls, numbers: Iterable[int]) -> Model:
         """The model in 37 numbers: degree, coefficients, radius, lower end, upper end."""
         degree, *coefficients, radius, lower, upper = sized(numbers, MODEL_SIZE, 'numbers')
         return cls(degree, coefficients, radius, Interval(lower, upper))
