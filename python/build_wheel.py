@@ -16,8 +16,13 @@ HERE = Path(__file__).resolve().parent
 PACKAGE = HERE / 'ferruntzo'
 
 
+def _project():
+    """The texts of pyproject.toml; Python has no reader of its own for that before 3.11."""
+    return dict(re.findall(r'^([\w-]+) = "(.*)"$', (HERE / 'pyproject.toml').read_text(), re.M))
+
+
 def _version():
-    return re.search(r"^__version__ = '(.*)'$", (PACKAGE / '_library.py').read_text(), re.M)[1]
+    return _project()['version']
 
 
 def _library():
@@ -27,9 +32,10 @@ def _library():
 
 
 def _metadata():
-    return (f'Metadata-Version: 2.1\nName: ferruntzo\nVersion: {_version()}\n'
-            'Summary: The Ferruntzo library from Python: Chebyshev models with proved radii\n'
-            f'Requires-Python: >=3.9\nDescription-Content-Type: text/markdown\n\n{(HERE / "README.md").read_text()}')
+    project = _project()
+    return (f'Metadata-Version: 2.1\nName: {project["name"]}\nVersion: {project["version"]}\nSummary: {project["description"]}\n'
+            f'Requires-Python: {project["requires-python"]}\nDescription-Content-Type: text/markdown\n\n'
+            f'{(HERE / project["readme"]).read_text()}')
 
 
 def _wheel(tag):

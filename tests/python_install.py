@@ -96,14 +96,22 @@ def pip(folder):
     if subprocess.run([sys.executable, '-m', 'pip', '--version'], capture_output=True).returncode != 0:
         print('python: pip is not there; it is not tried')
         return
+    install = [sys.executable, '-m', 'pip', 'install', '-q']
+    offline = {**os.environ, 'PIP_NO_INDEX': '1', 'PIP_NO_CACHE_DIR': '1', 'PIP_DISABLE_PIP_VERSION_CHECK': '1'}
     for words in (['--no-build-isolation'], []):
         target = folder / f'target{len(words)}'
-        run = subprocess.run([sys.executable, '-m', 'pip', 'install', '-q', str(ROOT / 'python'), *words, '--target', str(target)],
-                             capture_output=True, text=True,
-                             env={**os.environ, 'PIP_NO_INDEX': '1', 'PIP_NO_CACHE_DIR': '1', 'PIP_DISABLE_PIP_VERSION_CHECK': '1'})
+        run = subprocess.run([*install, str(ROOT / 'python'), *words, '--target', str(target)], capture_output=True, text=True, env=offline)
         expect('pip install', run.returncode == 0, run.stderr)
         expect('pip install', in_python(ASK, target) == RIGHT, in_python(ASK, target))
         expect('typed', (target / 'ferruntzo' / 'py.typed').exists())
+    # Built where there is no library, the package says so at the first call.
+    bare, target = folder / 'bare', folder / 'without'
+    subprocess.run(['cp', '-r', str(ROOT / 'python'), str(bare)], check=True)
+    run = subprocess.run([*install, str(bare), '--no-build-isolation', '--target', str(target)], capture_output=True, text=True, env=offline)
+    expect('pip install', run.returncode == 0, run.stderr)
+    check_spoken('installed without a library', target, {'FERRUNTZO_LIBRARY': str(SHARED)}, RIGHT)
+    if find_library('ferruntzo') is None:
+        check_spoken('installed without a library', target, {}, 'was not found')
     left = [path for path in (ROOT / 'python').rglob('*') if path.suffix in ('.egg-info', '.whl') or path.name == 'build']
     expect('pip leaves nothing in the repository', not left, str(left))
 

@@ -33,8 +33,8 @@ def _tested(entry: str, models: Sequence[Model], candidates: Sequence[Candidate]
 
 
 def quotient(f: Model, g: Model, h: Candidate, w: Candidate) -> Certificate:
-    """Tests the candidate h for f/g, with the helper w near 1/g. Accepted: at every x of the interval of f and g no value that g
-    allows is zero, and each value of f over one of g is allowed by the model.
+    """Tests the candidate h for f/g, with the helper w near 1/g. Accepted: at every fraction of the interval of f and g no value that
+    g allows is zero, and each value of f over one of g is allowed by the model.
 
     Refusals, in order: of f and of g BAD_MODEL, BAD_ENDS; BAD_MODEL of h or w, DIFFERENT_INTERVALS, NOT_CONTRACTING,
     LARGE_RESIDUAL, LARGE_RESULT."""
@@ -42,8 +42,8 @@ def quotient(f: Model, g: Model, h: Candidate, w: Candidate) -> Certificate:
 
 
 def root(f: Model, h: Candidate, w: Candidate) -> Certificate:
-    """Tests the candidate h for the square root of f, with the helper w near 1/(2h). Accepted: at every x of the interval of f no
-    value that f allows is negative, and the model allows the root of each.
+    """Tests the candidate h for the square root of f, with the helper w near 1/(2h). Accepted: at every fraction of the interval of
+    f each value that f allows is above zero, and its root is within the radius of the value of the model's polynomial.
 
     Refusals, in order: of f BAD_MODEL, BAD_ENDS; BAD_MODEL of h or w, HELPER_NOT_POSITIVE, NOT_CONTRACTING, LARGE_RESIDUAL,
     NEGATIVE_DISCRIMINANT."""
@@ -94,7 +94,8 @@ def proposal(h: Candidate, w: Candidate) -> tuple[int, ...]:
 def quotient_of_two(f: Model, g: Model, first: Sequence[int], second: Sequence[int]) -> Selection:
     """Tests two proposals for f/g, each of 68 numbers, as `proposal` makes them. The one with the smaller radius is chosen, the first
     if the radii are equal; if just one passes, that one. Numbers behind the 68 play no part; of fewer the proposal fails by itself.
-    At every x of the interval of f and g no value that g allows is zero, and each value of f over one of g is allowed by the model.
+    At every fraction of the interval of f and g no value that g allows is zero, and each value of f over one of g is allowed by the
+    model.
 
     Refusals, if neither passes: what the first fails with, in order SHORT_AREA (fewer than 68 numbers), then those of quotient."""
     instance(f, Model, 'f')

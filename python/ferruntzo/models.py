@@ -59,7 +59,7 @@ class Series(_Listed):
 
     def model(self) -> Model:
         """The model of the series, of the same degree, on the standard interval; it allows the exact value of the series at every
-        x from -1 to 1.
+        fraction from -1 to 1.
 
         Refusals, in order: BAD_SERIES, LARGE_RESULT (rounding can take a weight near 2^28 above it)."""
         out = (c_int32 * MODEL_SIZE)()
@@ -173,7 +173,7 @@ class Model:
         """The integral from l/S. Its radius bounds the exact primitive of every list of coefficients within radius units of this
         model's in total. Of any values that the model allows, left-end value times width summed over k >= 1 equal strips from l/S to
         x differs from the integral's polynomial at x by at most its radius plus L (u - l)/(S k) units, where L is the sum of
-        |a_k| k^2, at every x of the interval.
+        |a_k| k^2, at every fraction x of the interval.
 
         Refusals, in order: BAD_MODEL, BAD_ENDS, LARGE_RESULT (degree 32 always)."""
         out = (c_int32 * MODEL_SIZE)()
