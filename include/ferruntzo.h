@@ -78,10 +78,9 @@
 
    ANSWERS
 
-   Each function but ferruntzo_version returns FERRUNTZO_ACCEPTED (0) or the number of a
-   refusal.  It
-   lists its refusals in the order in which they are tested; the first that
-   applies is returned.  FERRUNTZO_SHORT_AREA (1), an area shorter than needed,
+   Each function but ferruntzo_version returns FERRUNTZO_ACCEPTED (0) or the number of
+   a refusal.  It lists its refusals in the order in which they are tested; the first
+   that applies is returned.  FERRUNTZO_SHORT_AREA (1), an area shorter than needed,
    comes before everything else.  A short proposal is not such an area: it fails
    with 1 by itself, and the other proposal is tested nonetheless.  "2 or 18 (f, g)"
    is 2 of f, 18 of f, 2 of g and 18 of g, in this order.

@@ -40,8 +40,11 @@ def whole(value: Any, what: str, low: int, high: int) -> int:
     return number
 
 
+LOWEST, HIGHEST = -(1 << 31), (1 << 31) - 1
+
+
 def signed32(value: Any, what: str) -> int:
-    return whole(value, what, -(1 << 31), (1 << 31) - 1)
+    return whole(value, what, LOWEST, HIGHEST)
 
 
 def unsigned32(value: Any, what: str) -> int:
@@ -60,7 +63,11 @@ def listed(values: Any, what: str) -> tuple[Any, ...]:
 
 def wholes(values: Any, what: str) -> tuple[int, ...]:
     """Whole numbers of 32 bits, as many as there are."""
-    return tuple(signed32(value, f'{what}[{k}]') for k, value in enumerate(listed(values, what)))
+    row = listed(values, what)
+    # A call is several times as fast if its lists are not looked at number by number.
+    if set(map(type, row)) == {int} and LOWEST <= min(row) and max(row) <= HIGHEST:
+        return row
+    return tuple(signed32(value, f'{what}[{k}]') for k, value in enumerate(row))
 
 
 def coefficients_of(values: Any) -> tuple[int, ...]:
