@@ -9,7 +9,7 @@
    these tests to judge; and a whole job of such commands is checked.
 
    Link with libferruntzo.a, which scripts/build_library makes (x86-64, System V
-   calling convention):
+   calling convention), or with libferruntzo.so, which is linked from it:
 
      cc -Iinclude program.c target/staticlib/libferruntzo.a
 
@@ -78,9 +78,9 @@
 
    ANSWERS
 
-   Each function returns FERRUNTZO_ACCEPTED (0) or the number of a refusal.  It
-   lists its refusals in the order in which they are tested; the first that
-   applies is returned.  FERRUNTZO_SHORT_AREA (1), an area shorter than needed,
+   Each function but ferruntzo_version returns FERRUNTZO_ACCEPTED (0) or the number of
+   a refusal.  It lists its refusals in the order in which they are tested; the first
+   that applies is returned.  FERRUNTZO_SHORT_AREA (1), an area shorter than needed,
    comes before everything else.  A short proposal is not such an area: it fails
    with 1 by itself, and the other proposal is tested nonetheless.  "2 or 18 (f, g)"
    is 2 of f, 18 of f, 2 of g and 18 of g, in this order.
@@ -124,9 +124,12 @@ extern "C" {
 /* ---- Version ---- */
 
 #define FERRUNTZO_VERSION_MAJOR 4
-#define FERRUNTZO_VERSION_MINOR 0
-#define FERRUNTZO_VERSION_PATCH 2
-#define FERRUNTZO_VERSION "4.0.2"
+#define FERRUNTZO_VERSION_MINOR 1
+#define FERRUNTZO_VERSION_PATCH 0
+#define FERRUNTZO_VERSION "4.1.0"
+/* What ferruntzo_version of a library of this version answers. */
+#define FERRUNTZO_VERSION_NUMBER \
+    (65536 * FERRUNTZO_VERSION_MAJOR + 256 * FERRUNTZO_VERSION_MINOR + FERRUNTZO_VERSION_PATCH)
 
 /* ---- Limits ---- */
 
@@ -222,6 +225,13 @@ enum ferruntzo_refusal {
     FERRUNTZO_BAD_ENDS = 18,              /* a model's ends: l >= u, or |l| or |u| above 2^28 */
     FERRUNTZO_DIFFERENT_INTERVALS = 19    /* two operands on different intervals */
 };
+
+/* ---- The version at run time ----
+
+   The version of the library that is linked or loaded, as 65536 times the first
+   number, 256 times the second, and the third.  A library of the same first number and
+   no smaller a second one has every function of this header. */
+uint32_t ferruntzo_version(void);
 
 /* ---- Plain operations on models ----
 

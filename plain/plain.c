@@ -613,3 +613,10 @@ uint32_t plain_check(const uint8_t *job, size_t job_len, int32_t *work, size_t w
     }
     return number;
 }
+
+/* ---- The version ---- */
+
+uint32_t plain_version(void)
+{
+    return 4 << 16 | 1 << 8;
+}

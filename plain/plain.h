@@ -66,6 +66,9 @@ uint32_t plain_make_quotient(const int32_t *f, size_t f_len, const int32_t *g, s
 uint32_t plain_to_units(const double *values, size_t values_len,
                         int32_t *units, size_t units_len);
 
+/* 65536 times the first number of the version, 256 times the second, and the third. */
+uint32_t plain_version(void);
+
 /* answer: count and 0 when accepted, 0 and the command when refused. */
 uint32_t plain_check(const uint8_t *job, size_t job_len,
                      int32_t *work, size_t work_len,

@@ -16,3 +16,4 @@
 #define plain_make_reciprocal PREFIXED(PREFIX, make_reciprocal)
 #define plain_make_quotient PREFIXED(PREFIX, make_quotient)
 #define plain_to_units PREFIXED(PREFIX, to_units)
+#define plain_version PREFIXED(PREFIX, version)

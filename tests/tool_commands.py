@@ -307,7 +307,8 @@ def numbers():
     version = re.search(r'#define FERRUNTZO_VERSION "(.*)"', header)[1]
     parts = [re.search(rf'#define FERRUNTZO_VERSION_{part} (\d+)', header)[1] for part in ('MAJOR', 'MINOR', 'PATCH')]
     expect('one version', version == __version__ == '.'.join(parts)
-           and f'version = "{version}"' in (ROOT / 'wrapper/Cargo.toml').read_text()
+           and all(f'version = "{version}"' in (ROOT / path).read_text() for path in ('wrapper/Cargo.toml', 'python/pyproject.toml'))
+           and f"__version__ = '{version}'" in (ROOT / 'python/ferruntzo/_library.py').read_text()
            and f'## {version}\n' in (ROOT / 'CHANGELOG.md').read_text()
            and all(f'Ferruntzo {version}' in page.read_text() for page in (ROOT / 'man').iterdir()), version)
     named = dict(re.findall(r'FERRUNTZO_([A-Z_]+) = (\d+)', header))

@@ -84,6 +84,13 @@ const RADIUS: usize = 34;
 const LOWER: usize = 35;
 const UPPER: usize = 36;
 
+/// The version of the library that is linked: its three numbers.
+pub fn version() -> (u32, u32, u32) {
+    // SAFETY: it takes nothing.
+    let number = unsafe { raw::ferruntzo_version() };
+    (number >> 16, number >> 8 & 255, number & 255)
+}
+
 /// The numbered refusals of document 01, and numbers 14 to 19 of document 02.
 #[derive(Clone, Copy, Debug, PartialEq, Eq, Hash)]
 #[repr(u32)]
@@ -837,6 +844,7 @@ pub mod areas {
 mod raw {
     #[link(name = "ferruntzo", kind = "static")]
     extern "C" {
+        pub fn ferruntzo_version() -> u32;
         pub fn ferruntzo_add(
             a: *const i32, a_len: usize, b: *const i32, b_len: usize, out: *mut i32, out_len: usize,
         ) -> u32;

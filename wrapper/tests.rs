@@ -63,6 +63,14 @@ fn refused(job: &[u8]) -> (u32, u32) {
     (refused.refusal.number(), refused.command)
 }
 
+/// The library's version is that of the header.
+#[test]
+fn version_at_run_time() {
+    let (major, minor, patch) = crate::version();
+    let line = std::format!("#define FERRUNTZO_VERSION \"{major}.{minor}.{patch}\"\n");
+    assert!(include_str!("../include/ferruntzo.h").contains(&line), "{line}");
+}
+
 // ---- Document 01's examples ----
 
 #[test]

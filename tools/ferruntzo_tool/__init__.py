@@ -1,3 +1,3 @@
 """The tool of Ferruntzo: check, explain, list, assemble, show and solve jobs."""
 
-__version__ = '4.0.2'
+__version__ = '4.1.0'

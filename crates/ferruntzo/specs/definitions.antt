@@ -4,3 +4,4 @@ pub mod Certificates
 pub mod Jobs
 pub mod Conversions
 pub mod Selections
+pub mod Version

@@ -7,3 +7,4 @@ pub mod jobs;
 pub mod makers;
 pub mod operations;
 pub mod selections;
+pub mod version;

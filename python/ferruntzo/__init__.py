@@ -1,0 +1,31 @@
+"""The Ferruntzo library from Python: Chebyshev models with proved radii.
+
+Every number that a call gives is libferruntzo's; this package lends it areas of the right size and raises its refusals
+(`Refused`). It adds no proof: include/ferruntzo.h says what is proved of each function, README.md how the library is found.
+
+>>> from ferruntzo import Candidate, Model, Refused, S, check, root
+>>> root(Model.constant(4 * S), Candidate.constant(2 * S), Candidate.constant(S // 4)).model.radius
+0
+>>> try:
+...     check(b'')
+... except Refused as refused:
+...     print(refused.refusal.value, refused.command)
+10 0
+"""
+
+from ._library import LibraryError, __version__, version
+from ._numbers import (CANDIDATE_SIZE, COEFFICIENTS, DEFAULT_KEPT, LIMIT, MAX_DEGREE, MAX_RESULTS, MODEL_SIZE, PROPOSAL_SIZE,
+                       S)
+from .certificates import Certificate, Chosen, Selection, proposal, quotient, quotient_of_two, root, tight_root
+from .jobs import CheckedJob, check
+from .models import Bounds, Candidate, Interval, Model, Series
+from .proposals import (MadeQuotient, MadeReciprocal, Outcome, QuotientRecord, ReciprocalRecord, make_quotient,
+                        make_reciprocal, to_units)
+from .refusals import Refusal, Refused
+
+__all__ = [
+    'Bounds', 'CANDIDATE_SIZE', 'COEFFICIENTS', 'Candidate', 'Certificate', 'CheckedJob', 'Chosen', 'DEFAULT_KEPT', 'Interval',
+    'LIMIT', 'LibraryError', 'MAX_DEGREE', 'MAX_RESULTS', 'MODEL_SIZE', 'MadeQuotient', 'MadeReciprocal', 'Model', 'Outcome',
+    'PROPOSAL_SIZE', 'QuotientRecord', 'ReciprocalRecord', 'Refusal', 'Refused', 'S', 'Selection', 'Series', '__version__', 'check',
+    'make_quotient', 'make_reciprocal', 'proposal', 'quotient', 'quotient_of_two', 'root', 'tight_root', 'to_units', 'version',
+]
