@@ -7,6 +7,7 @@ pub mod ConvertedFollows
 pub mod ConvertedSame
 pub mod ConvertedReads
 pub mod ConvertedTwice
+pub mod ConvertedCopied
 pub mod ConvertedOutput
 pub mod WalkLaws
 pub mod OutputLaws

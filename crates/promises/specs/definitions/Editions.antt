@@ -8,13 +8,14 @@ use lib.ListN.{length, set, take, drop, replicate}
 use Rattle.model.specs.definitions.Multiply.{multiplication}
 use Rattle.model.specs.declared.types.Model.{Model}
 use Rattle.job.specs.definitions.Bytes.{byteAt}
-use Rattle.job.specs.definitions.Decode.{editionOf, keptIn, makerAt}
+use Rattle.job.specs.definitions.Decode.{keptIn, shapeOf, makerAt}
 use Rattle.job.specs.definitions.Operations.{multiply, resultAt, operation}
 use Rattle.job.specs.definitions.Outcomes.{JobOutcome, accepted, refused, resultCount, refusedCommand}
 use Rattle.job.specs.definitions.Reader.{ill, jobReading, ReadsWell}
 use Rattle.job.specs.definitions.Run.{jobOutcome}
+use Rattle.job.specs.declared.types.Kind.the-variants.{Result}
 use Rattle.job.specs.declared.types.Operation.the-variants.{Multiply}
-use Rattle.survey.specs.definitions.Editions.{converted, StatedFrom, ConvertedJob, editionConversion, outputAfter}
+use Rattle.survey.specs.definitions.Editions.{converted, StandsAt, StatedFrom, ConvertedJob, editionConversion, outputAfter}
 
 -- ---- the kinder default
 
@@ -46,6 +47,10 @@ pub record Conversions : Type 0 where
   pub from-2-to-1 : (job : List ℕ) → ReadsWell job → byteAt job 1 ≡ 2 → byteAt (converted job) 1 ≡ 1
   pub converted-reads : (job : List ℕ) → ReadsWell job → ReadsWell (converted job)
   pub converted-length : (job : List ℕ) → length (converted job) ≡ length job
+  -- "all else is copied": byte i, unless it is the edition's, or the kept degree of a multiply command and 0xFF
+  pub all-else-copied : (job : List ℕ) → ReadsWell job → (i : ℕ) → ¬ (i ≡ 1)
+      → ((at : ℕ) → StandsAt job at → shapeOf (byteAt job at) .kind ≡ Result Multiply → i ≡ at + 3 → ¬ (byteAt job i ≡ 0xFF))
+      → byteAt (converted job) i ≡ byteAt job i
   -- "0xFF is replaced": none is left as a kept degree
   pub converted-stated : (job : List ℕ) → ReadsWell job → StatedFrom (length job + 1) (converted job) 0
   -- what is converted twice is the first conversion's job but for its edition byte
@@ -72,3 +77,6 @@ pub record Conversions : Type 0 where
       → (jobOutcome other ≡ jobOutcome job) × ReadsWell other × (length other ≡ length job)
       × ((byteAt job 1 ≡ 1 → byteAt other 1 ≡ 2) × (byteAt job 1 ≡ 2 → byteAt other 1 ≡ 1))
       × StatedFrom (length other + 1) other 0
+      × ((i : ℕ) → ¬ (i ≡ 1)
+      → ((at : ℕ) → StandsAt job at → shapeOf (byteAt job at) .kind ≡ Result Multiply → i ≡ at + 3 → ¬ (byteAt job i ≡ 0xFF))
+      → byteAt other i ≡ byteAt job i)

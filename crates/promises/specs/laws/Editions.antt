@@ -1,11 +1,15 @@
 -- The default and the converter of 02, S-27, are kept.
 use mathlib.Core.Path.{_≡_, refl, sym, ap, _∙_}
 use mathlib.Core.List.{List}
-use Prim.Native.Nat.{ℕ}
+use Prim.Native.Nat.{ℕ, _+_}
 use Rattle.model.specs.laws.MultiplicationLaws as products
 use Rattle.job.specs.definitions.Bytes.{byteAt}
 use Rattle.job.specs.laws.EditionLaws as editions
-use Rattle.survey.specs.definitions.Editions.{otherEdition}
+use Rattle.job.specs.definitions.Decode.{shapeOf}
+use Rattle.job.specs.declared.types.Kind.the-variants.{Result}
+use Rattle.job.specs.declared.types.Operation.the-variants.{Multiply}
+use Rattle.survey.specs.definitions.Editions.{otherEdition, StandsAt, OpenAt}
+use Rattle.survey.specs.laws.ConvertedCopied as copied
 use Rattle.survey.specs.laws.ConvertedOutput as outputs
 use Rattle.survey.specs.laws.ConvertedReads as reads
 use Rattle.survey.specs.laws.ConvertedSame as outcomes
@@ -32,6 +36,11 @@ to-2 o e = o ∙ ap otherEdition e
 to-1 : {e f : ℕ} → f ≡ otherEdition e → e ≡ 2 → f ≡ 1
 to-1 o e = o ∙ ap otherEdition e
 
+-- a byte that is no open kept degree, in so many words
+closed : {job : List ℕ} {i : ℕ}
+    → ((at : ℕ) → StandsAt job at → shapeOf (byteAt job at) .kind ≡ Result Multiply → i ≡ at + 3 → ¬ (byteAt job i ≡ 0xFF)) → ¬ OpenAt job i
+closed h o = h (o .at) (o .stands) (o .multiplies) (o .place) (o .left-open)
+
 pub conversions-kept : Conversions
 conversions-kept = record {
   converted-same = λ job r. outcomes.converted-same job (r .1);
@@ -39,6 +48,7 @@ conversions-kept = record {
   from-2-to-1 = λ job r e. to-1 (twice.converted-edition job r) e;
   converted-reads = reads.converted-reads;
   converted-length = twice.converted-length;
+  all-else-copied = λ job r i b h. copied.converted-copied job r i b (closed h);
   converted-stated = twice.all-stated;
   converted-twice = twice.converted-twice;
   reading-first = λ job room n k e. conversions.conversion-ill job room e;
@@ -54,5 +64,6 @@ conversions-kept = record {
     c .as-long,
     (to-2 (c .other-edition), to-1 (c .other-edition)),
     c .stated,
+    λ i b h. c .all-else-copied i b (closed h),
   );
 }

@@ -13,6 +13,8 @@ use Rattle.job.specs.definitions.Outcomes.{JobOutcome, accepted, refused}
 use Rattle.job.specs.definitions.Reading.{isEnd}
 use Rattle.job.specs.definitions.Reader.{JobReading, well, ill, jobReading, ReadsWell}
 use Rattle.job.specs.definitions.Run.{jobOutcome}
+use Rattle.job.specs.declared.types.Kind.the-variants.{Result}
+use Rattle.job.specs.declared.types.Operation.the-variants.{Multiply}
 use Rattle.survey.specs.definitions.Degrees.{degreeAt, degreesAfter}
 
 -- "the edition byte changes": 1 to 2, and 2 to 1
@@ -60,14 +62,28 @@ StatedFrom (suc f) job at =
 abbrev pub Stated : List ℕ → Type 0
 Stated job = StatedFrom (length job + 1) job 0
 
+-- a command stands at a position
+pub data StandsAt (job : List ℕ) : ℕ → Type 0 where
+  first : StandsAt job 0
+  next : {at : ℕ} → StandsAt job at → StandsAt job (at + 1 + shapeOf (byteAt job at) .width)
+
+-- byte i is the kept degree of a multiply command, and left open
+pub record OpenAt (job : List ℕ) (i : ℕ) : Type 0 where
+  pub at : ℕ
+  pub stands : StandsAt job at
+  pub multiplies : shapeOf (byteAt job at) .kind ≡ Result Multiply
+  pub place : i ≡ at + 3
+  pub left-open : byteAt job i ≡ 0xFF
+
 -- what the converted job has to do with its source: "Source and converted job have equal results, refusals of operations
--- included"; it is of the other edition, reads well, is as long, and states every kept degree
+-- included"; it is of the other edition, reads well, is as long, and states every kept degree; "all else is copied"
 pub record ConvertedJob (job other : List ℕ) : Type 0 where
   pub same-outcome : jobOutcome other ≡ jobOutcome job
   pub other-edition : editionOf other ≡ otherEdition (editionOf job)
   pub reads-well : ReadsWell other
   pub as-long : length other ≡ length job
   pub stated : Stated other
+  pub all-else-copied : (i : ℕ) → ¬ (i ≡ 1) → ¬ OpenAt job i → byteAt other i ≡ byteAt job i
 
 -- ---- the entry
 

@@ -12,6 +12,7 @@ use Rattle.job.specs.definitions.Decode.{Command}
 use Rattle.job.specs.definitions.Outcomes.{JobOutcome, accepted, refused}
 use Rattle.job.specs.definitions.Reader.{JobReading, well, ill, jobReading, ReadsWell}
 use Rattle.survey.specs.definitions.Editions.{converted, ConvertedJob, conversionBy, editionConversion, outputBy, outputAfter}
+use Rattle.survey.specs.laws.ConvertedCopied.{converted-copied}
 use Rattle.survey.specs.laws.ConvertedReads.{converted-reads}
 use Rattle.survey.specs.laws.ConvertedSame.{converted-same}
 use Rattle.survey.specs.laws.ConvertedTwice.{converted-length, converted-edition, converted-stated}
@@ -23,6 +24,7 @@ converted-job job r = record {
   reads-well = converted-reads job r;
   as-long = converted-length job;
   stated = converted-stated job r;
+  all-else-copied = converted-copied job r;
 }
 
 refused-not : {m k n : ℕ} → ¬ (_≡_ {A = JobOutcome ℕ} (refused m k) (accepted n))
