@@ -16,7 +16,7 @@
    count, time and stack first compare all answers and areas of the versions.  count and
    alone have the tests of every degree from 4 to 32, time and stack of 4, 8, 16 and 32.
    The last JOB must hold a load and 31 roots; its first 1, 4 and 16 results are cases too, and
-   so is the first JOB with its loads on another interval. */
+   so are the first JOB with its loads on another interval, and its conversion to the other edition. */
 #define _POSIX_C_SOURCE 200809L
 #include "ferruntzo.h"
 #include "former.h"
@@ -48,6 +48,7 @@ typedef uint32_t make_reciprocal_entry(const int32_t *, size_t, double *, size_t
                                        uint32_t *, size_t);
 typedef uint32_t make_quotient_entry(const int32_t *, size_t, const int32_t *, size_t, double *, size_t,
                                      int32_t *, size_t, int32_t *, size_t, uint32_t *, size_t);
+typedef uint32_t convert_edition_entry(const uint8_t *, size_t, uint8_t *, size_t, uint32_t *, size_t);
 multiply_entry plain2_multiply, plain3_multiply;
 integrate_entry plain2_integrate, plain3_integrate;
 evaluate_entry plain2_evaluate, plain3_evaluate;
@@ -56,6 +57,7 @@ root_entry plain2_root, plain3_root, plain2_tight_root, plain3_tight_root;
 check_entry plain2_check, plain3_check;
 from_series_entry plain2_from_series, plain3_from_series;
 quotient_of_two_entry plain2_quotient_of_two, plain3_quotient_of_two;
+convert_edition_entry plain2_convert_edition, plain3_convert_edition;
 make_reciprocal_entry plain2_make_reciprocal, plain3_make_reciprocal, passes_make_reciprocal;
 make_quotient_entry plain2_make_quotient, plain3_make_quotient, passes_make_quotient;
 
@@ -71,6 +73,9 @@ make_quotient_entry plain2_make_quotient, plain3_make_quotient, passes_make_quot
 #ifdef WITHOUT_MAKE_QUOTIENT
 #define ferruntzo_make_quotient NULL
 #endif
+#ifdef WITHOUT_CONVERT_EDITION
+#define ferruntzo_convert_edition NULL
+#endif
 
 struct version {
     const char *name;
@@ -84,6 +89,7 @@ struct version {
     quotient_of_two_entry *quotient_of_two;
     make_reciprocal_entry *make_reciprocal;
     make_quotient_entry *make_quotient;
+    convert_edition_entry *convert_edition;
 };
 
 enum { LIBRARY, PLAIN_O2, PLAIN_O3, PASSES, FORMER, VERSIONS };
@@ -91,29 +97,30 @@ enum { LIBRARY, PLAIN_O2, PLAIN_O3, PASSES, FORMER, VERSIONS };
 static const struct version versions[VERSIONS] = {
     {"library", ferruntzo_multiply, ferruntzo_integrate, ferruntzo_evaluate, ferruntzo_quotient,
      ferruntzo_root, ferruntzo_tight_root, ferruntzo_check, ferruntzo_from_series,
-     ferruntzo_quotient_of_two, ferruntzo_make_reciprocal, ferruntzo_make_quotient},
+     ferruntzo_quotient_of_two, ferruntzo_make_reciprocal, ferruntzo_make_quotient, ferruntzo_convert_edition},
     {"O2", plain2_multiply, plain2_integrate, plain2_evaluate, plain2_quotient, plain2_root,
      plain2_tight_root, plain2_check, plain2_from_series, plain2_quotient_of_two,
-     plain2_make_reciprocal, plain2_make_quotient},
+     plain2_make_reciprocal, plain2_make_quotient, plain2_convert_edition},
     {"O3", plain3_multiply, plain3_integrate, plain3_evaluate, plain3_quotient, plain3_root,
      plain3_tight_root, plain3_check, plain3_from_series, plain3_quotient_of_two,
-     plain3_make_reciprocal, plain3_make_quotient},
+     plain3_make_reciprocal, plain3_make_quotient, plain3_convert_edition},
     {.name = "passes", .make_reciprocal = passes_make_reciprocal, .make_quotient = passes_make_quotient},
     {.name = "former"},
 };
 
 enum kind {
     MULTIPLY, INTEGRATE, EVALUATE, QUOTIENT, ROOT, TIGHT_ROOT, CHECK, FROM_SERIES, QUOTIENT_OF_TWO,
-    MAKE_RECIPROCAL, MAKE_QUOTIENT
+    MAKE_RECIPROCAL, MAKE_QUOTIENT, CONVERT_EDITION
 };
 
 static const char *const kind_names[] = {"multiply", "integrate", "evaluate", "quotient", "root", "tight_root",
                                          "check", "from_series", "quotient_of_two", "make_reciprocal",
-                                         "make_quotient"};
+                                         "make_quotient", "convert_edition"};
 
 struct bench_case {
     enum kind kind;
     char name[48];
+    uint32_t kept;
     int32_t f[FERRUNTZO_MODEL_SIZE], g[FERRUNTZO_MODEL_SIZE];
     int32_t h[FERRUNTZO_CANDIDATE_SIZE], w[FERRUNTZO_CANDIDATE_SIZE];
     int32_t series[FERRUNTZO_SERIES_SIZE];
@@ -153,6 +160,7 @@ static struct bench_case *new_case(enum kind kind, const char *name, int number)
     if (case_count == MAX_CASES)
         fail("too many cases", name);
     one->kind = kind;
+    one->kept = FERRUNTZO_MAX_DEGREE;
     put_ends(one->f, &standard);
     put_ends(one->g, &standard);
     snprintf(one->name, sizeof one->name, number < 0 ? "%s" : "%s %d", name, number);
@@ -267,6 +275,15 @@ static void add_degree(int degree)
     geometric(series->series, degree, 4.0, 0.8, -0.7);
 }
 
+/* Multiply with the kept degree left open. */
+static void add_open(int degree)
+{
+    struct bench_case *product = new_case(MULTIPLY, "multiply_open", degree);
+    geometric(product->f, degree, 2.0, 0.5, 0.8);
+    geometric(product->g, degree, 4.0, 0.8, -0.7);
+    product->kept = FERRUNTZO_DEFAULT_KEPT;
+}
+
 /* Integrate and evaluate on another interval. */
 static void add_degree_on(int degree)
 {
@@ -356,6 +373,51 @@ static void add_job_on(const struct bench_case *job)
     changed->job_len = (size_t)(to - bytes);
 }
 
+static uint8_t *new_bytes(size_t length)
+{
+    uint8_t *bytes = calloc(length, 1);
+    if (bytes == NULL)
+        fail("no memory", "a conversion");
+    return bytes;
+}
+
+/* Conversions of a job, of the longest one that there is, and of one with as many open multiplies as there can be. */
+static void add_conversions(const struct bench_case *job)
+{
+    struct bench_case *realistic = new_case(CONVERT_EDITION, "convert realistic", -1);
+    realistic->job = job->job;
+    realistic->job_len = job->job_len;
+
+    struct bench_case *longest = new_case(CONVERT_EDITION, "convert longest", -1);
+    uint8_t *bytes = new_bytes(FERRUNTZO_MAX_JOB_BYTES), *to = bytes;
+    *to++ = FERRUNTZO_COMMAND_EDITION;
+    *to++ = 2;
+    *to = FERRUNTZO_COMMAND_LOAD_ON;
+    to += 1 + FERRUNTZO_BLOCK_BYTES + 12;
+    for (int i = 1; i < FERRUNTZO_MAX_RESULTS; i++) {
+        *to = FERRUNTZO_COMMAND_QUOTIENT;
+        to += command_bytes(FERRUNTZO_COMMAND_QUOTIENT);
+    }
+    longest->job = bytes;
+    longest->job_len = FERRUNTZO_MAX_JOB_BYTES;
+
+    struct bench_case *open = new_case(CONVERT_EDITION, "convert open", -1);
+    size_t load = command_bytes(FERRUNTZO_COMMAND_LOAD);
+    open->job_len = 2 + load + 4 * (FERRUNTZO_MAX_RESULTS - 1) + 1;
+    open->job = bytes = new_bytes(open->job_len);
+    bytes[0] = FERRUNTZO_COMMAND_EDITION;
+    bytes[1] = 2;
+    bytes[2] = FERRUNTZO_COMMAND_LOAD;
+    bytes[3] = 7;
+    to = bytes + 2 + load;
+    for (uint8_t i = 0; i < FERRUNTZO_MAX_RESULTS - 1; i++) {
+        *to++ = FERRUNTZO_COMMAND_MULTIPLY;
+        *to++ = i;
+        *to++ = 0;
+        *to++ = 0xFF;
+    }
+}
+
 /* The first results of a job of a load and roots, and an end. */
 static void add_prefix(const struct bench_case *job, int results)
 {
@@ -388,6 +450,7 @@ static struct areas {
     double record[FERRUNTZO_QUOTIENT_RECORD_SIZE];
     int32_t h[FERRUNTZO_CANDIDATE_SIZE], w[FERRUNTZO_CANDIDATE_SIZE];
     uint32_t outcome[FERRUNTZO_OUTCOME_SIZE];
+    uint8_t output[FERRUNTZO_MAX_JOB_BYTES];
 } lent;
 static volatile double deviation;
 static int logged;              /* whether each call is written down, for mode count */
@@ -407,8 +470,7 @@ static void call(int v, const struct bench_case *c)
     }
     switch (c->kind) {
     case MULTIPLY:
-        lent.number = version->multiply(WHOLE(c->f), WHOLE(c->g), FERRUNTZO_DEFAULT_KEPT,
-                                        WHOLE(lent.out));
+        lent.number = version->multiply(WHOLE(c->f), WHOLE(c->g), c->kept, WHOLE(lent.out));
         break;
     case INTEGRATE:
         lent.number = version->integrate(WHOLE(c->f), WHOLE(lent.out));
@@ -448,6 +510,9 @@ static void call(int v, const struct bench_case *c)
         lent.number = version->check(c->job, c->job_len, WHOLE(lent.work), WHOLE(lent.scratch),
                                      WHOLE(lent.answer));
         break;
+    case CONVERT_EDITION:
+        lent.number = version->convert_edition(c->job, c->job_len, WHOLE(lent.output), WHOLE(lent.answer));
+        break;
     }
 }
 
@@ -460,6 +525,7 @@ static int has_version(int v, const struct bench_case *c)
     case QUOTIENT_OF_TWO: return versions[v].quotient_of_two != NULL;
     case MAKE_RECIPROCAL: return versions[v].make_reciprocal != NULL;
     case MAKE_QUOTIENT: return versions[v].make_quotient != NULL;
+    case CONVERT_EDITION: return versions[v].convert_edition != NULL;
     default: return v != PASSES;
     }
 }
@@ -654,6 +720,11 @@ int main(int argc, char **argv)
         for (int degree = 4; degree <= FERRUNTZO_MAX_DEGREE; degree *= 2)
             add_degree_on(degree);
         add_job_on(job);
+    }
+    if (versions[LIBRARY].convert_edition != NULL) {        /* before it, 255 was another kept degree */
+        for (int degree = 4; degree <= FERRUNTZO_MAX_DEGREE; degree *= 2)
+            add_open(degree);
+        add_conversions(job);
     }
     if (!alone)
         compare_versions();

@@ -62,6 +62,12 @@ def stretch32():
     return job.ended()
 
 
+def stretch_edition_2():
+    """The same stretch as a job of edition 2, its kept degrees left open: each product has the larger degree of its factors."""
+    stretches, curve = margin_stretches()
+    return solver.solve_stretch(stretches[0], curve.bur, curve.side, edition=2).job.ended()
+
+
 def first_piece(name):
     curve = read_curve(str(HERE / name))
     run = curve.runs[0]
@@ -185,7 +191,7 @@ EXAMPLES = {'root_of_4': example_job, 'stretch': stretch, 'stretch32': stretch32
             'most_work': most_work, 'most_quotients': most_quotients, 'refused': refused,
             'between_instants': between_instants, 'stretch_tight': stretch_tight, 'accident_tight': accident_tight,
             'no_radius': no_radius, 'machine_time': machine_time, 'different_intervals': different_intervals,
-            'bad_ends': bad_ends, 'groove': groove}
+            'bad_ends': bad_ends, 'groove': groove, 'stretch_edition_2': stretch_edition_2}
 
 
 def main():

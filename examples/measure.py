@@ -6,11 +6,18 @@ docs/MEANING.md. Nothing here is a test.
                                           stretches of the margin
   measure.py --intervals [curve.json]     instead: a curve on its own interval (machine_time.json) beside the same rescaled
                                           to -1..1: radii of the path and of an integral, evaluation at points of the interval
+  measure.py --editions [--library=FILE] [margin.json]
+                                          instead: degrees, radii and instructions of a check in edition 1 and in edition 2, of
+                                          the example jobs with every kept degree left open and of the stretches of the margin;
+                                          instructions by gcc and callgrind, of target/staticlib/libferruntzo.a unless named
 
 Numbers are units of 2^-20 mm, of the worst stretch; errors are against the margin, at 13 points of each stretch.
 """
 
+import re
+import subprocess
 import sys
+import tempfile
 from pathlib import Path
 from random import Random
 
@@ -23,7 +30,7 @@ from ferruntzo_tool import solve as solver                              # noqa: 
 from ferruntzo_tool.arithmetic import Refused, model, up                # noqa: E402
 from ferruntzo_tool.curve import read_curve                             # noqa: E402
 from ferruntzo_tool.reading import Checked, split                       # noqa: E402
-from ferruntzo_tool.tables import BY_NAME, MAX_DEGREE, S, Interval, is_root     # noqa: E402
+from ferruntzo_tool.tables import BY_NAME, DEFAULT_KEPT, EDITIONS, MAX_DEGREE, S, Interval, is_root     # noqa: E402
 
 NAMED = [word for word in sys.argv[1:] if not word.startswith('--')]
 USUAL = 'machine_time.json' if '--intervals' in sys.argv else 'margin.json'
@@ -240,7 +247,93 @@ def extents():
         print(f'| 2^{k} | {own} | {other} |')
 
 
+# ---- Editions 1 and 2 ----
+
+LIBRARY = next((word.split('=', 1)[1] for word in sys.argv if word.startswith('--library=')),
+               str(HERE.parent / 'target' / 'staticlib' / 'libferruntzo.a'))
+
+
+def opened(job, edition):
+    """The job as one of the edition, every kept degree left open."""
+    made = bytearray(job)
+    made[1] = edition
+    for step in split(job)[0]:
+        if 'kept' in step.values:
+            made[step.offsets['kept']] = DEFAULT_KEPT
+    return bytes(made)
+
+
+def build_counter(folder):
+    subprocess.run(['gcc', '-O2', f'-I{HERE.parent / "include"}', str(HERE / 'check_job.c'), LIBRARY, '-o', f'{folder}/check_job'],
+                   check=True)
+
+
+def instructions(job, folder):
+    """Instructions of ferruntzo_check."""
+    Path(folder, 'one.job').write_bytes(job)
+    subprocess.run(['valgrind', '--tool=callgrind', '--toggle-collect=ferruntzo_check', f'--callgrind-out-file={folder}/counts',
+                    f'{folder}/check_job', f'{folder}/one.job'], stdout=subprocess.DEVNULL, stderr=subprocess.DEVNULL, check=False)
+    return int(re.search(r'^totals: (\d+)', Path(folder, 'counts').read_text(), re.M)[1])
+
+
+def degrees(checked, chosen):
+    return ', '.join(str(m.degree) for i, m in enumerate(checked.results) if chosen(i))
+
+
+def products_of(checked):
+    return degrees(checked, lambda i: checked.makers[i].command.name == 'multiply')
+
+
+def ends_of(checked):
+    return degrees(checked, lambda i: i in checked.last_results())
+
+
+def pair(values):
+    one, two = values
+    return f'{one} | {two}' if isinstance(one, str) else f'{one:,} | {two:,} | {share(two, one)}'
+
+
+def editions_of_examples(folder):
+    """A row for each accepted example job of edition 1 with a product; its candidates as they are."""
+    print('| job | degrees of the products, edition 1 | edition 2 | degrees of the last results, edition 1 | edition 2 | '
+          'their largest radius, edition 1 | edition 2 | ratio | instructions, edition 1 | edition 2 | ratio |')
+    print('|-|-|-|-|-|-|-|-|-|-|-|')
+    for path in sorted(HERE.glob('*.job')):
+        job = path.read_bytes()
+        both = [Checked(opened(job, edition)) for edition in EDITIONS]
+        if job[1] != 1 or not Checked(job).accepted or not products_of(both[0]):
+            continue
+        if not both[1].accepted:
+            print(f'| `{path.name}` | {products_of(both[0])} | refused with {both[1].refusal} at command {both[1].command} |')
+            continue
+        rows = (list(map(products_of, both)), list(map(ends_of, both)), list(map(largest_end, both)),
+                [instructions(checked.job, folder) for checked in both])
+        print(f'| `{path.name}` | {" | ".join(map(pair, rows))} |')
+
+
+def editions_of_stretches(folder):
+    """The stretches as `solve` makes them for each edition, kept degrees of edition 1 stated: the worst path and sums."""
+    print('| stretches | largest degree of a square, edition 1 | edition 2 | ratio | worst path, edition 1 | edition 2 | ratio | '
+          'instructions of all, edition 1 | edition 2 | ratio |')
+    print('|-|-|-|-|-|-|-|-|-|-|')
+    for n in (1, 2, 4, 8, 16):
+        made = [[plain(s, edition=edition) for s in stretches(n)] for edition in EDITIONS]
+        rows = ([max(m.degree for one in solved for m in one.results[5:7]) for solved in made], list(map(path, made)),
+                [sum(instructions(one.job.ended(), folder) for one in solved) for solved in made])
+        print(f'| {len(made[0])} | {" | ".join(map(pair, rows))} |')
+
+
+def editions():
+    with tempfile.TemporaryDirectory() as folder:
+        build_counter(folder)
+        editions_of_examples(folder)
+        print()
+        editions_of_stretches(folder)
+
+
 def main():
+    if '--editions' in sys.argv:
+        return editions()
     if '--intervals' in sys.argv:
         intervals()
         print()

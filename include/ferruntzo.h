@@ -6,7 +6,8 @@
    proposed quotient or square root is accepted with a proved radius or refused, a
    root by either of two tests; of two proposals for one quotient the tighter is
    chosen; proposals for reciprocals and quotients are made in double arithmetic, for
-   these tests to judge; and a whole job of such commands is checked.
+   these tests to judge; and a whole job of such commands is checked, or converted from
+   one edition of the format to the other.
 
    Link with libferruntzo.a, which scripts/build_library makes (x86-64, System V
    calling convention), or with libferruntzo.so, which is linked from it:
@@ -16,8 +17,9 @@
    examples/check_job.c, examples/two_proposals.c and examples/make_proposal.c are
    programs to copy, docs/FORMAT.md the format of jobs.  "01" below is the scope
    document that fixes every number but those of power series, of ties, of two
-   proposals, of the scratch, of made proposals, of the tighter root test and of
-   intervals, which change requests S-3, S-11, S-14, S-17, S-19, S-22 and S-24 fix.
+   proposals, of the scratch, of made proposals, of the tighter root test, of
+   intervals and of editions, which change requests S-3, S-11, S-14, S-17, S-19, S-22,
+   S-24 and S-27 fix.
 
    NUMBERS
 
@@ -28,8 +30,9 @@
    a_0 .. a_32, the radius e, and the ends of its interval, the lower l and the
    upper u.  Coefficients beyond the degree are zero.  The weight,
    |a_0| + .. + |a_32|, the radius, |l| and |u| are each at most 2^28, and l < u.
-   The interval is every x with l <= S x <= u.  There the model allows the value v
-   when, with y = (2 S x - l - u) / (u - l), which is from -1 to 1,
+   The interval is every fraction x with l <= S x <= u; every x and every value below is
+   a fraction.  At x the model allows the value v when, with
+   y = (2 S x - l - u) / (u - l), which is from -1 to 1,
 
      | v - (a_0 T_0(y) + .. + a_n T_n(y)) / S |  <=  e / S.
 
@@ -90,12 +93,24 @@
    - An area that is itself shorter than needed is not touched.
    - out, bounds and numbers, the answer of ferruntzo_quotient_of_two, and all that
      ferruntzo_make_reciprocal, ferruntzo_make_quotient and ferruntzo_to_units
-     write, are zero after every refusal, 1 included.  A zero out is no good model:
+     write, are zero after every refusal, 1 included.  A zero model is no good one:
      its ends are 0 and 0, and as an operand it is refused with 18.
    - The first 16 numbers of scratch are zero after every call of
      ferruntzo_quotient, ferruntzo_root, ferruntzo_tight_root and
      ferruntzo_quotient_of_two.
-   ferruntzo_check says what holds of its work, scratch and answer.
+   ferruntzo_check says what holds of its work, scratch and answer, and
+   ferruntzo_convert_edition of its out, which has no size, and its answer.
+
+   FROM 4.x TO 5.0.0: WHAT A CALLER CHANGES
+
+   - ferruntzo_multiply with the kept degree 255 (FERRUNTZO_DEFAULT_KEPT) keeps the larger
+     degree of a and b, where it kept 32: the same call can answer a smaller degree and a
+     larger radius, and nothing in its answer says so.  A caller who left the choice open
+     states 32 to get the former results.
+   - Jobs of edition 2, which were refused with 9, are checked.  In them the multiply byte
+     0xFF stands for the larger degree of the two factors.  Jobs of edition 1 stay as they
+     are: there it stands for 32.
+   - ferruntzo_convert_edition and refusal 20 are new.
 
    FROM 3.x TO 4.0.0: WHAT A CALLER CHANGES
 
@@ -123,10 +138,10 @@ extern "C" {
 
 /* ---- Version ---- */
 
-#define FERRUNTZO_VERSION_MAJOR 4
-#define FERRUNTZO_VERSION_MINOR 1
+#define FERRUNTZO_VERSION_MAJOR 5
+#define FERRUNTZO_VERSION_MINOR 0
 #define FERRUNTZO_VERSION_PATCH 0
-#define FERRUNTZO_VERSION "4.1.0"
+#define FERRUNTZO_VERSION "5.0.0"
 /* What ferruntzo_version of a library of this version answers. */
 #define FERRUNTZO_VERSION_NUMBER \
     (65536 * FERRUNTZO_VERSION_MAJOR + 256 * FERRUNTZO_VERSION_MINOR + FERRUNTZO_VERSION_PATCH)
@@ -152,7 +167,7 @@ extern "C" {
 #define FERRUNTZO_NUMBERS_SIZE 3      /* uint64_t: m, N, b */
 #define FERRUNTZO_REPORT_SIZE FERRUNTZO_NUMBERS_SIZE  /* its former name */
 #define FERRUNTZO_WORK_SIZE 1184      /* int32_t: 32 models; 1120 before version 4.0.0 */
-#define FERRUNTZO_ANSWER_SIZE 2       /* uint32_t: count, command */
+#define FERRUNTZO_ANSWER_SIZE 2       /* uint32_t: count (of a conversion the length), command */
 #define FERRUNTZO_SELECTION_SIZE 2    /* uint32_t: chosen, radius */
 #define FERRUNTZO_VALUES_SIZE 33             /* double: values, of T_0 .. T_32 */
 #define FERRUNTZO_RECIPROCAL_RECORD_SIZE 34  /* double: w_0 .. w_32, the change */
@@ -168,7 +183,8 @@ extern "C" {
 #define FERRUNTZO_PLACE_UPPER 36        /* u */
 #define FERRUNTZO_COEFFICIENTS 33       /* how many there are */
 
-/* A kept degree of a product that leaves the choice open: 32. */
+/* A kept degree of a product that leaves the choice open: the larger degree of the two
+   factors; 32 before version 5.0.0, and in jobs of edition 1. */
 #define FERRUNTZO_DEFAULT_KEPT 255
 
 /* ---- Which of two proposals is chosen ---- */
@@ -196,7 +212,7 @@ extern "C" {
 #define FERRUNTZO_COMMAND_TIGHT_ROOT 0x22
 #define FERRUNTZO_BLOCK_BYTES 133       /* degree byte and 33 coefficients */
 
-/* No longer job is ever accepted: edition, a load with its ends, 31 quotients, end. */
+/* No longer job is ever accepted or converted: edition, a load with its ends, 31 quotients, end. */
 #define FERRUNTZO_MAX_JOB_BYTES 8488
 /* The program jobcheck prints "too long" above this; the library has no limit. */
 #define FERRUNTZO_PROGRAM_JOB_BYTES 65536
@@ -223,7 +239,8 @@ enum ferruntzo_refusal {
     FERRUNTZO_LARGE_PROPOSAL = 16,        /* the weight of a list turned into units is above 2^28 */
     FERRUNTZO_NO_RADIUS = 17,             /* tighter root test: no whole r from 0 to S has 2 M r^2 + b S^2 <= (S - m) S r */
     FERRUNTZO_BAD_ENDS = 18,              /* a model's ends: l >= u, or |l| or |u| above 2^28 */
-    FERRUNTZO_DIFFERENT_INTERVALS = 19    /* two operands on different intervals */
+    FERRUNTZO_DIFFERENT_INTERVALS = 19,   /* two operands on different intervals */
+    FERRUNTZO_SHORT_OUTPUT = 20           /* a conversion's output is shorter than the job */
 };
 
 /* ---- The version at run time ----
@@ -251,8 +268,9 @@ uint32_t ferruntzo_subtract(const int32_t *a, size_t a_len,
                             int32_t *out, size_t out_len);
 
 /* a times b.  Coefficients beyond the kept degree are dropped and paid for in
-   the radius.  kept is 0 to 32, or FERRUNTZO_DEFAULT_KEPT for 32; the
-   result's degree is the smaller of kept and the sum of the degrees.
+   the radius.  kept is 0 to 32, or FERRUNTZO_DEFAULT_KEPT (255) for the larger degree
+   of a and b; the result's degree is the smaller of the kept degree and the sum of the
+   degrees.  Before version 5.0.0 255 stood for 32; 32 gives the former results.
    Refusals: 1 (a, b or out), 2 or 18 (a, b), 19, 9 (kept), 3. */
 uint32_t ferruntzo_multiply(const int32_t *a, size_t a_len,
                             const int32_t *b, size_t b_len,
@@ -318,8 +336,10 @@ uint32_t ferruntzo_quotient(const int32_t *f, size_t f_len,
                             uint64_t *numbers, size_t numbers_len);
 
 /* h for the square root of f, w near 1/(2h).  Accepted: at every x of f's interval
-   no value that f allows is negative, and out allows the root of each; the
-   radius is at most 2^27.
+   every value v that f allows is above 0.  Its root is allowed by out where it is a
+   fraction; otherwise it lies within the radius, which is said of its square: with c the
+   value of out's polynomial and r its radius / S, c + r >= 0, v <= (c + r)^2, and
+   c - r <= 0 or (c - r)^2 <= v.  The radius is at most 2^27.
    Refusals: 1 (any area), 2 or 18 (f), 2 (h or w), 7, 5, 6, 8. */
 uint32_t ferruntzo_root(const int32_t *f, size_t f_len,
                         const int32_t *h, size_t h_len,
@@ -443,7 +463,11 @@ uint32_t ferruntzo_to_units(const double *values, size_t values_len,
 
 /* ---- Jobs ----
 
-   Checks the job_len bytes at job, of any length and content.
+   A job is of edition 1 or 2.  They differ in one thing: where a multiply command leaves
+   the kept degree open (0xFF), it is 32 in edition 1, and in edition 2 the larger degree
+   of the two factors. */
+
+/* Checks the job_len bytes at job, of any length and content.
    Sizes: work 1184, scratch 16, answer 2.
 
    Accepted: answer[0] is the count of results, 0 to 32, and answer[1] is 0.
@@ -464,7 +488,7 @@ uint32_t ferruntzo_to_units(const double *values, size_t values_len,
    Refusals: 1 (answer, work or scratch); then, for each command in turn,
      9   unknown byte, no edition first, or edition again
      10  the job ends before the command or inside it
-     9   edition not 1; kept degree from 33 to 254
+     9   edition neither 1 nor 2; kept degree from 33 to 254
      12  a named result that is not there yet
      13  a 33rd result
      2   the loaded model; h or w
@@ -476,6 +500,36 @@ uint32_t ferruntzo_check(const uint8_t *job, size_t job_len,
                          int32_t *work, size_t work_len,
                          int64_t *scratch, size_t scratch_len,
                          uint32_t *answer, size_t answer_len);
+
+/* Converts the job_len bytes at job, a job of either edition, to the other one.  Its check
+   and that of the converted job answer the same: the same results, or the same refusal at
+   the same command.
+   Sizes: answer 2; out may have any length.
+
+   Only a job that reads well is converted: one of which no command gives 9 to 13 in the
+   list of ferruntzo_check, whatever its models are.  No model is looked at: a load of
+   degree 33 reads well, and a byte 0x7F behind it is refused with 9 at command 2, where
+   ferruntzo_check refuses the load with 2 at command 1.
+
+   Accepted: answer is the length and 0.  The length is job_len.  The first job_len bytes of
+   out are the converted job: the second byte, the edition, becomes the other of 1 and 2;
+   the kept degree of each multiply command that is 0xFF becomes what it stood for, 32 in
+   edition 1, in edition 2 the larger degree of the two factors; every other byte is copied.
+   The bytes of out behind them stay.  The degrees come from the commands alone: of a load
+   or a test the degree byte of the model or of h, one above 32 counting as 32; of a sum or
+   difference the larger of the two; of a product the smaller of the kept degree and the
+   sum of the two.  No kept degree of a converted job is 0xFF, so converting it back does
+   not restore one: it changes the edition alone.
+
+   Refused, 1 included: every one of the out_len bytes of out is zero.  answer is 0 and the
+   number of the refused command, counted from 0, with 20 it is 0 and 0; it is left as it
+   was if it is itself too short.
+
+   Refusals: 1 (answer); then the first of 9 to 13 that reading the whole job gives; 20 (out
+   is shorter than the job). */
+uint32_t ferruntzo_convert_edition(const uint8_t *job, size_t job_len,
+                                   uint8_t *out, size_t out_len,
+                                   uint32_t *answer, size_t answer_len);
 
 #ifdef __cplusplus
 }

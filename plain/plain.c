@@ -1,8 +1,9 @@
 /* Plain C99 version of the library and job checker of document 01. */
 #include "plain.h"
 
-#include "areas.h"
 #include "expansion_table.h"
+#include "models.h"
+#include "reading.h"
 
 #define PROPOSAL_SIZE (2 * CANDIDATE_SIZE)
 #define SERIES_SIZE 34
@@ -10,18 +11,13 @@
 #define PRODUCT_SIZE 65          /* the list C */
 #define SCRATCH_SIZE 16
 #define NUMBERS_SIZE 3
-#define MAX_RESULTS 32
 #define WORK_SIZE (MAX_RESULTS * MODEL_SIZE)
-#define ANSWER_SIZE 2
 #define SELECTION_SIZE 2
-#define DEFAULT_KEPT 255
 #define EXPANSION_UNIT ((int64_t)1 << 32)
 
 enum {
     LARGE_RESULT = 3, POINT_OUTSIDE = 4, NOT_CONTRACTING = 5, LARGE_RESIDUAL = 6,
-    HELPER_NOT_POSITIVE = 7, NEGATIVE_DISCRIMINANT = 8, BAD_VALUE = 9, JOB_ENDS = 10,
-    BYTES_AFTER_END = 11, NOT_A_RESULT = 12, TOO_MANY_RESULTS = 13, BAD_SERIES = 14,
-    NO_RADIUS = 17
+    HELPER_NOT_POSITIVE = 7, NEGATIVE_DISCRIMINANT = 8, BAD_SERIES = 14, NO_RADIUS = 17
 };
 
 enum { CHOSEN_FIRST = 1, CHOSEN_SECOND = 2 };
@@ -109,7 +105,7 @@ static uint32_t multiply(const int32_t *a, const int32_t *b, uint32_t kept, int3
     if (number != 0)
         return number;
     if (kept == DEFAULT_KEPT)
-        kept = MAX_DEGREE;
+        kept = (uint32_t)(a[0] > b[0] ? a[0] : b[0]);
     if (kept > MAX_DEGREE)
         return BAD_VALUE;
     product_list(a, b, c);
@@ -492,8 +488,6 @@ uint32_t plain_quotient_of_two(const int32_t *f, size_t f_len, const int32_t *g,
 
 /* ---- Jobs ---- */
 
-#define BLOCK_BYTES (1 + 4 * COEFFICIENTS)
-
 static uint32_t read_u32(const uint8_t *p)
 {
     return p[0] | (uint32_t)p[1] << 8 | (uint32_t)p[2] << 16 | (uint32_t)p[3] << 24;
@@ -514,26 +508,8 @@ static void read_block(const uint8_t *p, int32_t *candidate)
         candidate[1 + k] = read_i32(p + 1 + 4 * k);
 }
 
-/* Operand bytes and result bytes of a command; 0 for an unknown one. */
-static int known(uint8_t byte, size_t *width, size_t *names)
-{
-    switch (byte) {
-    case 0x00: *width = 0;             *names = 0; return 1;
-    case 0x01: *width = 1;             *names = 0; return 1;
-    case 0x10: *width = BLOCK_BYTES + 4;     *names = 0; return 1;
-    case 0x14: *width = BLOCK_BYTES + 12;    *names = 0; return 1;
-    case 0x11:
-    case 0x12: *width = 2;             *names = 2; return 1;
-    case 0x13: *width = 3;             *names = 2; return 1;
-    case 0x20: *width = 2 + 2 * BLOCK_BYTES; *names = 2; return 1;
-    case 0x21:
-    case 0x22: *width = 1 + 2 * BLOCK_BYTES; *names = 1; return 1;
-    default: return 0;
-    }
-}
-
 /* One command that makes a result; out is its own 37 numbers of the work area, zero so far. */
-static uint32_t operate(uint8_t byte, const uint8_t *operands, size_t names,
+static uint32_t operate(uint8_t edition, uint8_t byte, const uint8_t *operands, size_t names,
                         const int32_t *work, int32_t *out)
 {
     int32_t h[CANDIDATE_SIZE], w[CANDIDATE_SIZE];
@@ -550,7 +526,7 @@ static uint32_t operate(uint8_t byte, const uint8_t *operands, size_t names,
     if (byte == 0x11 || byte == 0x12)
         return termwise(a, b, byte == 0x11 ? 1 : -1, out);
     if (byte == 0x13)
-        return multiply(a, b, operands[2], out);
+        return multiply(a, b, edition == 1 && operands[2] == DEFAULT_KEPT ? MAX_DEGREE : operands[2], out);
     read_block(operands + names, h);
     read_block(operands + names + BLOCK_BYTES, w);
     if (byte == 0x20)
@@ -564,32 +540,15 @@ static uint32_t operate(uint8_t byte, const uint8_t *operands, size_t names,
 static uint32_t run(const uint8_t *job, size_t job_len, int32_t *work,
                     uint32_t *count, uint32_t *command)
 {
-    size_t position = 0, width, names;
+    size_t position = 0;
+    struct command read;
     for (*count = 0, *command = 0;; ++*command) {
-        if (position == job_len)
-            return JOB_ENDS;
-        uint8_t byte = job[position];
-        if (!known(byte, &width, &names) || (byte == 0x01) != (*command == 0))
-            return BAD_VALUE;
-        if (job_len - position - 1 < width)
-            return JOB_ENDS;
-        const uint8_t *operands = job + position + 1;
-        position += 1 + width;
-        if (byte == 0x01) {
-            if (operands[0] != 1)
-                return BAD_VALUE;
+        uint32_t number = read_command(job, job_len, &position, *command, *count, &read);
+        if (number != 0 || read.byte == 0x00)
+            return number;
+        if (read.byte == 0x01)
             continue;
-        }
-        if (byte == 0x00)
-            return position < job_len ? BYTES_AFTER_END : 0;
-        if (byte == 0x13 && operands[2] > MAX_DEGREE && operands[2] != DEFAULT_KEPT)
-            return BAD_VALUE;
-        for (size_t i = 0; i < names; i++)
-            if (operands[i] >= *count)
-                return NOT_A_RESULT;
-        if (*count == MAX_RESULTS)
-            return TOO_MANY_RESULTS;
-        uint32_t number = operate(byte, operands, names, work, work + MODEL_SIZE * *count);
+        number = operate(job[1], read.byte, read.operands, read.names, work, work + MODEL_SIZE * *count);
         if (number != 0)
             return number;
         ++*count;
@@ -618,5 +577,5 @@ uint32_t plain_check(const uint8_t *job, size_t job_len, int32_t *work, size_t w
 
 uint32_t plain_version(void)
 {
-    return 4 << 16 | 1 << 8;
+    return 5 << 16;
 }

@@ -66,6 +66,11 @@ uint32_t plain_make_quotient(const int32_t *f, size_t f_len, const int32_t *g, s
 uint32_t plain_to_units(const double *values, size_t values_len,
                         int32_t *units, size_t units_len);
 
+/* editions.c: a job of edition 1 or 2 becomes one of the other, with the same results.  answer: the
+   length and 0, or 0 and the command when refused. */
+uint32_t plain_convert_edition(const uint8_t *job, size_t job_len, uint8_t *out, size_t out_len,
+                               uint32_t *answer, size_t answer_len);
+
 /* 65536 times the first number of the version, 256 times the second, and the third. */
 uint32_t plain_version(void);
 

@@ -1,4 +1,4 @@
-/* Gives the entries of plain.c and proposals.c another prefix, so that several builds of them can
+/* Gives the entries of plain.c, proposals.c and editions.c another prefix, so that several builds of them can
    be linked into one program:  gcc -DPREFIX=plain2_ -include plain/prefix.h -c plain/plain.c */
 #define PREFIXED_(prefix, name) prefix##name
 #define PREFIXED(prefix, name) PREFIXED_(prefix, name)
@@ -16,4 +16,5 @@
 #define plain_make_reciprocal PREFIXED(PREFIX, make_reciprocal)
 #define plain_make_quotient PREFIXED(PREFIX, make_quotient)
 #define plain_to_units PREFIXED(PREFIX, to_units)
+#define plain_convert_edition PREFIXED(PREFIX, convert_edition)
 #define plain_version PREFIXED(PREFIX, version)

@@ -5,7 +5,7 @@
    numbers in the same order. */
 #include "plain.h"
 
-#include "areas.h"
+#include "models.h"
 
 #include <float.h>
 

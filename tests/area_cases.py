@@ -12,15 +12,15 @@ from header import (
     ACCEPTED, ANSWER_SIZE, BAD_ENDS, BAD_MODEL, BAD_SERIES, BAD_VALUE, BOUNDS_SIZE, BYTES_AFTER_END,
     CANDIDATE_SIZE, DIFFERENT_INTERVALS, HELPER_NOT_POSITIVE, JOB_ENDS, LARGE_RESIDUAL, LARGE_RESULT, MAX_DEGREE,
     MAX_RESULTS, MODEL_SIZE, NEGATIVE_DISCRIMINANT, NO_RADIUS, NOT_A_RESULT, NOT_CONTRACTING, NUMBERS_SIZE, OUTCOME_SIZE,
-    POINT_OUTSIDE, QUOTIENT_RECORD_SIZE, RECIPROCAL_RECORD_SIZE, SCRATCH_SIZE, SELECTION_SIZE, SERIES_SIZE, TOO_MANY_RESULTS,
-    VALUES_SIZE, WORK_SIZE)
+    POINT_OUTSIDE, QUOTIENT_RECORD_SIZE, RECIPROCAL_RECORD_SIZE, SCRATCH_SIZE, SELECTION_SIZE, SERIES_SIZE, SHORT_OUTPUT,
+    TOO_MANY_RESULTS, VALUES_SIZE, WORK_SIZE)
 from oracle import LIMIT, S, constant, model, power, series, term
 from power_basis import PRODUCT_SIZE
 from selection_cases import DIVIDEND, DIVISOR, TESTED
 from series_cases import GROWN
 
-# Areas of each entry: array type code, size in numbers, and what it is.  A job and a proposal are never too short an area.
-ANY_LENGTH = ('job', 'proposal')
+# Areas of each entry: array type code, size in numbers, and what it is.  A job, a proposal and an output are never too short an area.
+ANY_LENGTH = ('job', 'proposal', 'output')
 PROPOSAL = ('i', 0, 'proposal')
 MODEL_IN, CANDIDATE_IN = ('i', MODEL_SIZE, 'in'), ('i', CANDIDATE_SIZE, 'in')
 SERIES_IN = ('i', SERIES_SIZE, 'in')
@@ -44,12 +44,13 @@ AREAS = {
     'make_quotient': (MODEL_IN, MODEL_IN, ('Q', QUOTIENT_RECORD_SIZE, 'record'), H, W, OUTCOME),
     'to_units': (('Q', VALUES_SIZE, 'values'), ('i', CANDIDATE_SIZE, 'units')),
     'tight_root': (MODEL_IN, CANDIDATE_IN, CANDIDATE_IN, SCRATCH, OUT, NUMBERS),
+    'convert_edition': (('B', 0, 'job'), ('B', 0, 'output'), ('I', ANSWER_SIZE, 'answer')),
 }
 # Numbers that a long enough area has beyond its size; a scratch half of the time none, else up to those of the list C and one more.
 MORE = {what: (0, 0, 1, 3) for areas in AREAS.values() for _, _, what in areas}
 MORE['scratch'] = (0, 0, 0, 0, 1, *(PRODUCT_SIZE + more - SCRATCH_SIZE for more in (-1, 0, 1)))
 # What an entry answers in; each is zero after every refusal if it is itself long enough.
-ANSWERS = ('out', 'bounds', 'numbers', 'answer', 'record', 'h', 'w', 'outcome', 'units')
+ANSWERS = ('out', 'bounds', 'numbers', 'answer', 'record', 'h', 'w', 'outcome', 'units', 'output')
 
 # ---- One call for each answer of each entry, where every area is long enough
 
@@ -112,10 +113,15 @@ WITNESSES['tight_root'] = {NO_RADIUS if number == NEGATIVE_DISCRIMINANT else num
                            for number, inputs in WITNESSES['root'].items()}
 
 
+# A job is converted where it reads well: each refusal of its reading, and 20 with an output one byte too short.
+WITNESSES['convert_edition'] = {number: (WITNESSES['check'][number][0], 1) for number in (
+    ACCEPTED, BAD_VALUE, JOB_ENDS, BYTES_AFTER_END, NOT_A_RESULT, TOO_MANY_RESULTS)} | {SHORT_OUTPUT: (example_job(), -1)}
+
+
 def witness(entry, number):
     """The call that is answered with the number."""
     operands = WITNESSES[entry][number]
-    if entry in ('multiply', 'evaluate'):
+    if entry in ('multiply', 'evaluate', 'convert_edition'):
         return Case(entry, operands[:-1], operands[-1])
     return Case(entry, operands)
 

@@ -16,7 +16,8 @@ LOWEST, HIGHEST = -(1 << 31), (1 << 31) - 1
 
 class Case(NamedTuple):
     """One call.  inputs: models and candidates in operand order, or the job's
-    bytes alone, or values alone.  lengths: pairs of area number and length; other
+    bytes alone, or values alone.  scalar: kept degree or point; of a conversion by how
+    many bytes the output is longer than the job, or shorter.  lengths: pairs of area number and length; other
     areas are long enough.  made: of a test, the maker whose proposal it judges."""
     entry: str
     inputs: tuple
@@ -202,7 +203,7 @@ def fixed_multiply():
     half = constant(S // 2)
     yield Case('multiply', (t1, t1), 2)                                 # P1
     yield Case('multiply', (t1, t1), 1)                                 # P2
-    yield Case('multiply', (constant(1), half), DEFAULT_KEPT)           # P3
+    yield Case('multiply', (constant(1), half), MAX_DEGREE)             # P3
     yield Case('multiply', (constant(-1), half), MAX_DEGREE)            # P4
     full = model([(-1) ** k * (S // 3 + k) for k in range(COEFFICIENTS)], 5)
     for kept in KEPT_BORDERS:
@@ -216,7 +217,7 @@ def fixed_multiply():
         yield Case('multiply', (t1, m), 7)
     for extra in (-1, 0, 1):
         yield Case('multiply', (constant(LIMIT), constant(S + extra)), 0)
-        yield Case('multiply', (constant(-LIMIT), constant(S + extra)), DEFAULT_KEPT)
+        yield Case('multiply', (constant(-LIMIT), constant(S + extra)), MAX_DEGREE)
         yield Case('multiply', (constant(0, LIMIT), constant(S + extra)), 0)
         yield Case('multiply', (constant(0, LIMIT + extra), constant(S)), 0)
     # Radius exactly one above the limit: the limit, and two halves rounded.
@@ -230,7 +231,7 @@ def fixed_multiply():
     for odd in (*ODD, LIMIT - 1, 1 - LIMIT):        # odd/2 at several places, from either factor
         yield Case('multiply', (model([odd, odd, -odd]), model([S // 2, S, S // 2])), MAX_DEGREE)
         for place in (0, 1, MAX_DEGREE - 1, MAX_DEGREE):
-            yield Case('multiply', (term(place, odd), half), DEFAULT_KEPT)
+            yield Case('multiply', (term(place, odd), half), MAX_DEGREE)
             yield Case('multiply', (half, term(place, odd)), MAX_DEGREE)
 
 

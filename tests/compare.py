@@ -30,6 +30,9 @@ from random import Random
 
 import cases
 import certificate_cases
+import edition_cases
+import edition_jobs
+import edition_oracle
 import faults
 import interval_cases
 import interval_jobs
@@ -45,7 +48,8 @@ import tight_root_cases
 import tight_root_jobs
 import unit_cases
 from area_cases import ANSWERS, ANY_LENGTH, AREAS, DOUBLES, MORE, WITNESSES, area_cases, sized, witness
-from counts import WHOLE, check_intervals, check_pairs, check_proposals, check_scratches, check_tight_roots, check_ties
+from counts import (WHOLE, check_editions, check_intervals, check_pairs, check_proposals, check_scratches, check_tight_roots,
+                    check_ties)
 from examples_of_01 import check_examples
 from group_cases import group_cases
 from header import CANDIDATE_SIZE, MODEL_SIZE, PLACE_RADIUS, SCRATCH_SIZE, SHORT_AREA, WORK_SIZE, check_header
@@ -53,18 +57,18 @@ from header import CANDIDATE_SIZE, MODEL_SIZE, PLACE_RADIUS, SCRATCH_SIZE, SHORT
 HERE = Path(__file__).resolve().parent
 ROOT = HERE.parent
 PLAIN = ROOT / 'plain'
-SOURCES = ('plain.c', 'proposals.c')
+SOURCES = ('plain.c', 'proposals.c', 'editions.c')
 ENTRIES = list(AREAS)
 # Shares of the random cases.
 SHARE = {'add': 2, 'subtract': 2, 'multiply': 3, 'integrate': 3, 'evaluate': 3,
          'quotient': 4, 'root': 4, 'check': 5, 'from_series': 3, 'quotient_of_two': 3,
-         'make_reciprocal': 1, 'make_quotient': 1, 'to_units': 60, 'tight_root': 4}
+         'make_reciprocal': 1, 'make_quotient': 1, 'to_units': 60, 'tight_root': 4, 'convert_edition': 2}
 BATCH = 2000
 SOUNDNESS_SAMPLE = 0.04
 SAMPLE_ON_INTERVALS = 0.3   # of the accepted cases on another interval than the standard one, and of jobs with 0x14
 SAMPLE_OF_16 = 0.25         # of the accepted cases that have a scratch, of 16 numbers
 ANSWERED = ('from_series', 'quotient_of_two', 'tight_root')     # checked for soundness as the library answered, each of them
-UNVOUCHED = tuple(proposal_cases.WRITTEN)           # nothing holds of what they answer but its bits
+UNVOUCHED = (*proposal_cases.WRITTEN, 'convert_edition')     # nothing holds of what they answer but its bits
 
 
 def stop(message):
@@ -78,6 +82,11 @@ def flat(m):
 
 
 # ---- What the oracle says ---------------------------------------------------------
+
+def room_of(case):
+    """The length of a conversion's output."""
+    return max(0, len(case.inputs[0]) + case.scalar)
+
 
 def oracle_answer(case):
     """Number, and the new contents of each area that is written to, all being long enough."""
@@ -101,6 +110,9 @@ def oracle_answer(case):
             contents['work'][:MODEL_SIZE * first] = [c for m in second for c in flat(m)]
             return 0, {**contents, 'answer': [first, 0]}
         return first, {**contents, 'answer': [0, second]}
+    if entry == 'convert_edition':
+        number, answer, output = edition_oracle.convert_edition(*inputs, room_of(case))
+        return number, {'output': output, 'answer': answer}
     if entry in proposal_cases.WRITTEN:
         number, *answered = getattr(proposal_oracle, entry)(*inputs)
         return number, dict(zip(proposal_cases.WRITTEN[entry], answered))
@@ -110,14 +122,15 @@ def oracle_answer(case):
 
 def answer_to(case, lengths):
     """Number, and the new contents of each area that is written to.  Refusal 1 leaves zeros in
-    what the entry answers in and in the scratch of a test; of work and scratch of a job document
-    01 says "neither is touched".  An area that is itself too short is never touched."""
+    what the entry answers in, in an output of its whole length, and in the scratch of a test; of
+    work and scratch of a job document 01 says "neither is touched".  An area that is itself too
+    short is never touched."""
     areas = AREAS[case.entry]
     short = {what for length, (_, size, what) in zip(lengths, areas) if length < size}
     if short:
         zeroed = ANSWERS if case.entry == 'check' else (*ANSWERS, 'scratch')
         number = SHORT_AREA
-        contents = {what: [0] * size for _, size, what in areas if what in zeroed}
+        contents = {what: [0] * (room_of(case) if what == 'output' else size) for _, size, what in areas if what in zeroed}
     else:
         number, contents = oracle_answer(case)
     return number, {what: numbers for what, numbers in contents.items() if what not in short}
@@ -138,10 +151,10 @@ def lent_areas(case, rng, guards):
     areas = []
     for i, (code, size, what) in enumerate(AREAS[case.entry]):
         width = array(code).itemsize
-        if what in ANY_LENGTH:
+        if what in ANY_LENGTH and what != 'output':
             content, length = array(code, case.inputs[i]), len(case.inputs[i])
         else:
-            length = told.get(i, size + rng.choice(MORE[what]))
+            length = room_of(case) if what == 'output' else told.get(i, size + rng.choice(MORE[what]))
             content = array(code, rng.randbytes(width * length))
             if what in DOUBLES:                     # NaNs are rare among random bits
                 content[::3] = array(code, rng.choices(unit_cases.NANS, k=len(content[::3])))
@@ -210,20 +223,22 @@ def perhaps_shortened(rng, case):
     """Some cases with one or two areas too short."""
     if rng.random() >= 0.02:
         return case
-    chosen = rng.sample(sized(case.entry), rng.choice((1, 1, 2)))
+    areas = sized(case.entry)
+    chosen = rng.sample(areas, min(rng.choice((1, 1, 2)), len(areas)))
     return case._replace(lengths=tuple((i, rng.choice((size - 1, rng.randrange(size)))) for i, size in chosen))
 
 
 def make_cases(entries, wanted, rng):
     """All fixed cases of the entries, then random ones up to the number wanted."""
     fixed = {**cases.FIXED, **certificate_cases.FIXED, **job_cases.FIXED, **series_cases.FIXED, **selection_cases.FIXED,
-             **proposal_cases.FIXED, **unit_cases.FIXED, **tight_root_cases.FIXED}
+             **proposal_cases.FIXED, **unit_cases.FIXED, **tight_root_cases.FIXED, **edition_cases.FIXED}
     drawn = {**cases.RANDOM, **certificate_cases.RANDOM, 'check': job_cases.RandomJobs(), **series_cases.RANDOM,
-             **selection_cases.RANDOM, **proposal_cases.RANDOM, **unit_cases.RANDOM, **tight_root_cases.RANDOM}
+             **selection_cases.RANDOM, **proposal_cases.RANDOM, **unit_cases.RANDOM, **tight_root_cases.RANDOM,
+             'convert_edition': edition_cases.RandomConversions()}
     made = 0
     for entry in entries:
         for case in (*area_cases(entry), *scratch_cases.scratch_cases(entry), *group_cases(entry), *fixed[entry](),
-                     *interval_cases.interval_cases(entry)):
+                     *interval_cases.interval_cases(entry), *edition_cases.products(entry)):
             made += 1
             yield case
     shares = [SHARE[entry] for entry in entries]
@@ -234,14 +249,16 @@ def make_cases(entries, wanted, rng):
 
 
 def with_tests(drawn, entries):
-    """Each case, behind one that makes a proposal the quotient test of that, and behind a tighter root test the root test of the
-    same candidates."""
+    """Each case, behind one that makes a proposal the quotient test of that, behind a tighter root test the root test of the same
+    candidates, and behind a conversion the checks of the two jobs and the conversion back."""
     for case in drawn:
         yield case
         if 'root' in entries and case.entry == 'tight_root' and not case.lengths:
             yield case._replace(entry='root')
         if 'quotient' in entries and case.entry in proposal_cases.MAKERS and not case.lengths:
             yield from proposal_cases.tests_of(case)
+        if 'check' in entries and case.entry == 'convert_edition':
+            yield from edition_cases.behind(case)
 
 
 def run_harness(program, calls, runner):
@@ -341,11 +358,13 @@ def main():
     proposal_cases.check_makers()
     unit_cases.check_units()
     tight_root_cases.check_tight()
+    edition_cases.check_conversions()
 
     rng, sound_rng = Random(options.seed), Random(options.seed)
     began = time.perf_counter()
     oracle_time, differences, planted = 0.0, 0, False
-    pairs, made, units, sound, sound_of_16, tight, tight_jobs, placed, placed_jobs = (Counter() for _ in range(9))
+    pairs, made, units, sound, sound_of_16, tight, tight_jobs, placed, placed_jobs, conversions, second_jobs = (
+        Counter() for _ in range(11))
     scratches = {entry: Counter() for entry in entries if entry in scratch_cases.PLACES}
     counts, ties = ({entry: Counter() for entry in entries} for _ in range(2))
     with tempfile.TemporaryDirectory() as folder:
@@ -396,6 +415,8 @@ def main():
                 made.update(proposal_cases.kinds(case, lengths, number))
             if case.entry == 'to_units' and number != SHORT_AREA:
                 units.update(unit_cases.kinds(case, number))
+            if case.entry in ('convert_edition', 'multiply'):
+                conversions.update(edition_cases.kinds(case, lengths, number))
             if case.entry == 'tight_root':
                 tight.update(tight_root_cases.kinds(case, lengths, number))
             tight['0x21 behind it'] += case.entry == 'root' and previous == case._replace(entry='tight_root')
@@ -403,7 +424,7 @@ def main():
             placed.update(interval_cases.kinds(case, lengths, number))
             of_job = []                             # the counters that count this job
             if case.entry == 'check' and number != SHORT_AREA:
-                for counter, of in ((tight_jobs, tight_root_jobs), (placed_jobs, interval_jobs)):
+                for counter, of in ((tight_jobs, tight_root_jobs), (placed_jobs, interval_jobs), (second_jobs, edition_jobs)):
                     found = of.job_kinds(*case.inputs, number, *answered_job(case, areas, expected))
                     counter.update(found)
                     of_job += [counter] * ('jobs' in found)
@@ -429,7 +450,8 @@ def main():
         print('scratches:', check_scratches(scratches, sound_of_16, entries, total))
     for text in (*check_proposals(made, units, entries, total),
                  *check_tight_roots(tight, tight_jobs, sound['tight_root'], entries, total),
-                 *check_intervals(placed, placed_jobs, entries, total)):
+                 *check_intervals(placed, placed_jobs, entries, total),
+                 *check_editions(conversions, second_jobs, entries, total)):
         print(text)
     print(f'{total} cases, {differences} differences, {time.perf_counter() - began:.1f} s '
           f'(oracle {oracle_time:.1f} s), '

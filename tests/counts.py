@@ -1,5 +1,7 @@
 """What compare.py counts, each check in words: every kind must be there, and of the whole comparison enough."""
 
+import edition_cases
+import edition_jobs
 import interval_cases
 import interval_jobs
 import proposal_cases
@@ -11,13 +13,15 @@ import unit_cases
 from area_cases import AREAS
 
 ENTRIES = list(AREAS)
-WHOLE = 240000              # calls of the whole comparison; at least so many of them
+WHOLE = 255000              # calls of the whole comparison; at least so many of them
 TIED = 2000                 # are accepted where some near rounds a tie
 PAIRS, CHOSEN = 7000, 4000  # have two proposals; have one chosen and put to random fractions
 TIGHT, TIGHT_JOBS = 4000, 3000      # are tighter root tests on areas long enough; are jobs with 0x22
 SOUND_TIGHT, SOUND_TIGHT_JOBS = 2000, 100       # are such tests, such jobs checked for soundness
 PLACED, PLACED_JOBS = 20000, 8000   # have a model on another interval than the standard one; are jobs with 0x14
 SOUND_PLACED, SOUND_PLACED_JOBS = 5000, 500     # are such calls, such jobs checked for soundness
+CONVERSIONS, SECOND_JOBS = 4000, 4000   # are conversions with an answer long enough; are jobs of edition 2
+SOUND_SECOND_JOBS = 300     # are such jobs checked for soundness
 SOUND_OF_16 = 50            # of each entry with a scratch are checked for soundness with one of 16
 MODELS, PATTERNS = 3000, 100000     # different ones are put to the makers; to the step to units, each alone
 ROUNDING = ('multiply', 'integrate', 'evaluate', 'from_series', 'check')        # the entries that use near
@@ -94,3 +98,17 @@ def check_intervals(calls, jobs, entries, total):
             ('jobs with 0x14 checked for soundness', SOUND_PLACED_JOBS, jobs['checked for soundness'])):
         assert not whole or count * WHOLE >= wanted * min(total, WHOLE), f'{count} {what}'
     return texts
+
+
+def check_editions(conversions, jobs, entries, total):
+    """The counts of conversions, products with 255 and jobs of edition 2, in words: each kind, enough in the whole comparison."""
+    if 'convert_edition' in entries:
+        yield f'conversions: {edition_cases.counted(conversions)}'
+    if 'multiply' in entries:
+        yield edition_cases.counted_products(conversions)
+    if 'check' in entries:
+        yield f'editions in jobs: {edition_jobs.counted_jobs(jobs, "convert_edition" in entries)}'
+    for what, wanted, count in (
+            ('conversions', CONVERSIONS, conversions['conversions']), ('jobs of edition 2', SECOND_JOBS, jobs['jobs']),
+            ('jobs of edition 2 checked for soundness', SOUND_SECOND_JOBS, jobs['checked for soundness'])):
+        assert set(entries) != set(ENTRIES) or count * WHOLE >= wanted * min(total, WHOLE), f'{count} {what}'

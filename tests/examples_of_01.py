@@ -139,6 +139,22 @@ def interval_jobs():
     yield start + b'\x15' + four[1:] + b'\x00', 'refused 9 1\n'
 
 
+def edition_jobs():
+    """Jobs with the multiply byte 0xFF in both editions, by hand, with what the program prints for them: T_1 times T_2 is
+    T_1/2 + T_3/2, of which the larger degree keeps T_1/2."""
+    t1, t2 = (bytes([0x10, k]) + bytes(4 * k) + S.to_bytes(4, 'little') + bytes(4 * (33 - k)) for k in (1, 2))
+    for product in (b'\x13\x00\x01', b'\x13\x01\x00'):
+        yield b'\x01\x01' + t1 + t2 + product + b'\xff\x00', '0 1 0\n1 2 0\n2 3 0\naccepted 3\n'
+        yield b'\x01\x02' + t1 + t2 + product + b'\xff\x00', '0 1 0\n1 2 0\n2 2 524288\naccepted 3\n'
+        for edition in (b'\x01\x01', b'\x01\x02'):
+            yield edition + t1 + t2 + product + b'\x02\x00', '0 1 0\n1 2 0\n2 2 524288\naccepted 3\n'
+            yield edition + t1 + t2 + product + b'\x20\x00', '0 1 0\n1 2 0\n2 3 0\naccepted 3\n'
+            yield edition + t1 + t2 + product + b'\xfe\x00', 'refused 9 3\n'
+            yield edition + b'\x00', 'accepted 0\n'
+            yield edition + edition + b'\x00', 'refused 9 1\n'
+    yield from ((bytes([1, edition, 0]), 'refused 9 0\n') for edition in (0, 3, 4, 255))
+
+
 def root_job(command, f, radius, h, w, subtracted=0):
     """Edition 1, load of a constant, so many times the load less itself, its root by a command byte, end; by hand."""
     return (b'\x01\x01' + b'\x10' + block(f) + radius.to_bytes(4, 'little') + b'\x12\x00\x00' * subtracted
@@ -204,8 +220,8 @@ def check_examples():
     one = constant(S)
     number, result, m, n, b = o.quotient(model([S, 0, 0, 0, 0, S]), one, one, one)
     assert (number, m, n, b, result.radius) == (0, 0, S, S, S)
-    # Jobs of roots, jobs on intervals and their texts.
-    for job, text in (*root_jobs(), *interval_jobs()):
+    # Jobs of roots, on intervals and of both editions, and their texts.
+    for job, text in (*root_jobs(), *interval_jobs(), *edition_jobs()):
         assert o.printed(job) == text, text
     # The example job and its text.
     job = example_job()

@@ -3,14 +3,14 @@ gives the places of the altered ones in the batch, none if the batch has no answ
 
 from array import array
 
-from area_cases import ANSWERS, AREAS
+from area_cases import ANSWERS, AREAS, sized
 from header import MODEL_SIZE, PLACE_LOWER, PLACE_RADIUS, PLACE_UPPER, SCRATCH_SIZE, SHORT_AREA
 
 # Which numbers of an area are spoiled, each in an answer of its own: the radius and the ends, of the first result in a job, the
-# high bound, m; of a proposal the first value or coefficient, the change and the outcome.
+# high bound, m; of a proposal the first value or coefficient, the change and the outcome; of a converted job its first two bytes.
 MODEL_PLACES = PLACE_RADIUS, PLACE_LOWER, PLACE_UPPER
-SPOILED = {'out': MODEL_PLACES, 'work': MODEL_PLACES, 'bounds': (1,), 'answer': (1,), 'numbers': (0,),
-           'record': (0, -1), 'h': (1,), 'w': (1,), 'units': (1,), 'outcome': (0,)}
+SPOILED = {'out': MODEL_PLACES, 'work': MODEL_PLACES, 'bounds': (1,), 'answer': (0, 1), 'numbers': (0,),
+           'record': (0, -1), 'h': (1,), 'w': (1,), 'units': (1,), 'outcome': (0,), 'output': (0, 1)}
 
 
 # The entries that answer models.
@@ -43,7 +43,7 @@ def plant(batch, answers, entry):
         case, areas, _, _ = batch[i]
         code, size, _ = AREAS[entry][area]
         start, = (start for start, number in places_of(case, areas, SPOILED) if number == area)
-        spoil(answers, i, start + array(code).itemsize * (place % size), 1)
+        spoil(answers, i, start + array(code).itemsize * (place % size if size else place), 1)
     return set(chosen)
 
 
@@ -84,7 +84,9 @@ def leave(batch, answers, entry):
                 taken = area in chosen or any(i == one for one, _, _ in chosen.values())
                 if not taken and not expected.startswith(before, start):
                     chosen[area] = i, start, before
-    if set(chosen) != {area for area, (_, _, what) in enumerate(AREAS[entry]) if what in ANSWERS}:
+    # An area that is itself the only one that can be too short is never cleared by 1.
+    if set(chosen) != {area for area, (_, _, what) in enumerate(AREAS[entry])
+                       if what in ANSWERS and any(i != area for i, _ in sized(entry))}:
         return set()
     for i, start, before in chosen.values():
         answers[i] = answers[i][:start] + before + answers[i][start + len(before):]

@@ -44,6 +44,7 @@ uint32_t ENTRY(make_reciprocal)(const int32_t *, size_t, double *, size_t, int32
 uint32_t ENTRY(make_quotient)(const int32_t *, size_t, const int32_t *, size_t, double *, size_t,
                               int32_t *, size_t, int32_t *, size_t, uint32_t *, size_t);
 uint32_t ENTRY(to_units)(const double *, size_t, int32_t *, size_t);
+uint32_t ENTRY(convert_edition)(const uint8_t *, size_t, uint8_t *, size_t, uint32_t *, size_t);
 
 #define MAX_AREAS 8
 
@@ -133,6 +134,9 @@ static uint32_t call(int entry, struct area *x, uint32_t scalar)
 #endif
 #ifdef WITH_TIGHT_ROOT
     case 13: return ENTRY(tight_root)(AREA(0), AREA(1), AREA(2), AREA(3), AREA(4), AREA(5));
+#endif
+#ifdef WITH_CONVERT_EDITION
+    case 14: return ENTRY(convert_edition)(AREA(0), AREA(1), AREA(2));
 #endif
     default: fail("an entry that was not compiled in");
     }

@@ -14,7 +14,7 @@ S = 1 << 20                             # one unit is 1/S
 MAX_DEGREE = 32
 MAX_WEIGHT = MAX_RADIUS = MAX_END = MAX_RESIDUAL = 1 << 28
 MAX_RESULTS = 32
-DEFAULT_KEPT = 255                      # a kept degree that means 32
+DEFAULT_KEPT = 255                      # a kept degree that means the larger degree of the factors; in jobs of edition 1 it is 32
 PROGRAM_JOB_BYTES = 65536
 
 # ---- Sizes, in numbers
@@ -29,7 +29,7 @@ BOUNDS_SIZE = 2                         # low, high
 SCRATCH_SIZE = 16
 NUMBERS_SIZE = 3                        # m, N, b
 WORK_SIZE = MAX_RESULTS * MODEL_SIZE
-ANSWER_SIZE = 2                         # count, command
+ANSWER_SIZE = 2                         # count, of a conversion the length; command
 SELECTION_SIZE = 2                      # chosen, radius
 VALUES_SIZE = COEFFICIENTS              # of T_0 .. T_32
 RECIPROCAL_RECORD_SIZE = COEFFICIENTS + 1               # w, change
@@ -52,7 +52,7 @@ GIVEN_UP, SETTLED = range(2)
 (ACCEPTED, SHORT_AREA, BAD_MODEL, LARGE_RESULT, POINT_OUTSIDE, NOT_CONTRACTING, LARGE_RESIDUAL,
  HELPER_NOT_POSITIVE, NEGATIVE_DISCRIMINANT, BAD_VALUE, JOB_ENDS, BYTES_AFTER_END, NOT_A_RESULT,
  TOO_MANY_RESULTS, BAD_SERIES, NOT_FINITE, LARGE_PROPOSAL, NO_RADIUS, BAD_ENDS,
- DIFFERENT_INTERVALS) = range(20)
+ DIFFERENT_INTERVALS, SHORT_OUTPUT) = range(21)
 
 # Every name above, with its number.
 NAMES = {name: value for name, value in globals().items() if isinstance(value, int)}

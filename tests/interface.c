@@ -137,7 +137,7 @@ static void same_inputs(void)
 {
     EXPECT(ferruntzo_add(WHOLE(one), WHOLE(one), WHOLE(out)) == 0 && out[1] == 2 * S);
     EXPECT(ferruntzo_subtract(WHOLE(one), WHOLE(one), WHOLE(out)) == 0 && out[1] == 0);
-    EXPECT(ferruntzo_multiply(WHOLE(one), WHOLE(one), FERRUNTZO_DEFAULT_KEPT, WHOLE(out)) == 0);
+    EXPECT(ferruntzo_multiply(WHOLE(one), WHOLE(one), FERRUNTZO_MAX_DEGREE, WHOLE(out)) == 0);
     EXPECT(out[1] == S);
     EXPECT(ferruntzo_quotient(WHOLE(one), WHOLE(one), CANDIDATE(one), CANDIDATE(one), WHOLE(scratch),
                               WHOLE(out), WHOLE(numbers)) == 0);

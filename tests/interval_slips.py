@@ -1,4 +1,4 @@
-"""Slips of intervals, for slips.py: wrong versions of plain/plain.c and plain/areas.h.
+"""Slips of intervals, for slips.py: wrong versions of plain/plain.c, plain/models.h and plain/reading.h.
 
 Left out, since no answer differs: u - l, 2p - l - u and each product of an end in 32 bits (none leaves them), 19 after 9 in a job
 (there 9 stands among the operand values, before any model), and whether the ends of a result are those of f or of g.
@@ -54,7 +54,7 @@ OF_OPERANDS = [
 KEPT = '    if (kept > MAX_DEGREE)\n        return BAD_VALUE;\n'
 LIST = '    int64_t c[PRODUCT_SIZE], row[COEFFICIENTS], error = 0;\n'
 TESTS_KEPT = ('    uint32_t number = operands_fault(a, b);\n    if (number != 0)\n        return number;\n'
-              f'    if (kept == DEFAULT_KEPT)\n        kept = MAX_DEGREE;\n{KEPT}')
+              f'    if (kept == DEFAULT_KEPT)\n        kept = (uint32_t)(a[0] > b[0] ? a[0] : b[0]);\n{KEPT}')
 # The quotient test: h and w, 19, 5, 6, 3.
 CANDIDATES = '    if (!good_candidate(h) || !good_candidate(w))\n        return BAD_MODEL;\n'
 H, W = (f'    if (!good_candidate({c}))\n        return BAD_MODEL;\n' for c in 'hw')

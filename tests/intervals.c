@@ -25,7 +25,7 @@ static void names(void)
     /* The three numbers, the text, and what the library answers at run time are one version. */
     char version[32];
     sprintf(version, "%d.%d.%d", FERRUNTZO_VERSION_MAJOR, FERRUNTZO_VERSION_MINOR, FERRUNTZO_VERSION_PATCH);
-    EXPECT(strcmp(FERRUNTZO_VERSION, version) == 0 && FERRUNTZO_VERSION_MAJOR == 4);
+    EXPECT(strcmp(FERRUNTZO_VERSION, version) == 0 && FERRUNTZO_VERSION_MAJOR == 5);
     EXPECT(ferruntzo_version() == FERRUNTZO_VERSION_NUMBER);
     EXPECT(FERRUNTZO_MODEL_SIZE == 37 && FERRUNTZO_WORK_SIZE == 37 * FERRUNTZO_MAX_RESULTS);
     EXPECT(FERRUNTZO_CANDIDATE_SIZE == 34 && FERRUNTZO_PROPOSAL_SIZE == 68 && FERRUNTZO_BLOCK_BYTES == 133);

@@ -3,6 +3,7 @@ competing refusals, cut and altered jobs, and bytes that mean nothing."""
 
 from random import Random
 
+import edition_jobs
 import interval_jobs
 import jobs
 import oracle as o
@@ -36,8 +37,8 @@ def faulty_commands(count):
     for each pair of them that can compete; result 0 is the constant 4S."""
     last, missing = max(count - 1, 0), count
     yield from (bytes([b]) for b in range(256) if b not in o.OPERAND_WIDTH)  # 9
-    yield EDITION_1                                                     # 9, again
-    yield bytes([o.EDITION, 2])
+    yield from jobs.EDITIONS                                            # 9, again
+    yield bytes([o.EDITION, 3])
     yield bytes([o.EDITION])                                            # 9 before 10
     for d in (MAX_DEGREE + 1, MAX_DEGREE + 2, 100, DEFAULT_KEPT - 2, DEFAULT_KEPT - 1):
         yield jobs.multiply(0, last, d)                                 # 9, values
@@ -91,7 +92,7 @@ def too_large_commands():
     for m, other in ((most, constant(1)), (constant(0, LIMIT), constant(0, 1)),
                      (most, most), (constant(S, LIMIT), constant(-LIMIT, LIMIT))):
         head = EDITION_1 + jobs.load(m) + jobs.load(other)
-        for command in (jobs.add(0, 1), jobs.subtract(0, 1), jobs.multiply(0, 0, DEFAULT_KEPT),
+        for command in (jobs.add(0, 1), jobs.subtract(0, 1), jobs.multiply(0, 0, MAX_DEGREE),
                         jobs.multiply(0, 1, 0)):
             yield head + command + END
     # A quotient whose test passes and whose radius is above the limit.
@@ -140,7 +141,7 @@ def fixed_check():
         yield case(EDITION_1 + jobs.load(model([S // 2] * 20, 3)) + jobs.multiply(0, 0, d) + END)
     for odd in ODD:                                 # a tie, alone and doubled
         yield case(EDITION_1 + jobs.load(constant(odd)) + jobs.load(constant(S // 2))
-                   + jobs.multiply(0, 1, DEFAULT_KEPT) + jobs.add(2, 2) + END)
+                   + jobs.multiply(0, 1, MAX_DEGREE) + jobs.add(2, 2) + END)
     # Every fault after 1, 3 and 32 results, with and without more behind.
     few = EDITION_1 + jobs.load(constant(4 * S))
     more = few + jobs.multiply(0, 0, 4) + jobs.root(0, TWO, QUARTER)
@@ -167,6 +168,7 @@ def fixed_check():
     yield case(work.prefix() + jobs.root(0, TWO, QUARTER) + END)
     yield from map(case, tight_root_jobs.fixed_jobs())
     yield from map(case, interval_jobs.fixed_jobs())
+    yield from map(case, edition_jobs.fixed_jobs())
 
 
 # ---- Random cases ---------------------------------------------------------------------
@@ -218,7 +220,7 @@ def faulty(rng, builder):
         jobs.load(h._replace(radius=rng.choice((*UNSET_RADIUS, 0)))), interval_jobs.faulty_load(rng),
         jobs.load(constant(LOWEST)), bytes([rng.randrange(256)]), EDITION_1, END,
         jobs.load(constant(LIMIT)) + jobs.add(count, count),
-        jobs.load(constant(1, LIMIT)) + jobs.multiply(count, count, DEFAULT_KEPT)))
+        jobs.load(constant(1, LIMIT)) + jobs.multiply(count, count, MAX_DEGREE)))
     if rng.random() < 0.15:
         command = command[:rng.randrange(len(command) + 1)]
     return builder.prefix() + command + rng.choice((END, END, b'', END + END, EDITION_1))
@@ -262,7 +264,7 @@ class RandomJobs:
             return case(builder.job())
         builder = rng.choice(self.kept)
         if kind < 0.4:
-            return case(rng.choice((tight_root_jobs, interval_jobs)).random_job(rng))
+            return case(rng.choice((tight_root_jobs, interval_jobs, edition_jobs)).random_job(rng))
         if kind < 0.53:
             return case(mutated(rng, builder.job()))
         if kind < 0.65:

@@ -14,7 +14,7 @@ def block(m):
         c.to_bytes(4, 'little', signed=True) for c in m.coefficients)
 
 
-EDITION_1 = bytes([o.EDITION, 1])
+EDITION_1, EDITION_2 = EDITIONS = [bytes([o.EDITION, edition]) for edition in o.EDITIONS]
 END = bytes([o.END])
 
 
@@ -74,8 +74,9 @@ def read_commands(job):
 class Builder:
     """A job so far: its commands as separate bytes, the results' models, and the intervals that grow() draws from."""
 
-    def __init__(self, intervals=(o.STANDARD,)):
-        self.commands = [EDITION_1]
+    def __init__(self, intervals=(o.STANDARD,), edition=1):
+        self.edition = edition
+        self.commands = [bytes([o.EDITION, edition])]
         self.results = []
         self.intervals = intervals
 
@@ -100,9 +101,9 @@ class Builder:
     def subtract(self, i, j):
         return self._keep(subtract(i, j), *o.subtract(self.results[i], self.results[j]))
 
-    def multiply(self, i, j, kept=DEFAULT_KEPT):
+    def multiply(self, i, j, kept=MAX_DEGREE):
         return self._keep(multiply(i, j, kept),
-                          *o.multiply(self.results[i], self.results[j], kept))
+                          *o.multiply(self.results[i], self.results[j], o.kept_by(self.edition, kept)))
 
     def quotient(self, i, j, degree=MAX_DEGREE, found=None):
         f, g = self.results[i], self.results[j]
@@ -166,9 +167,9 @@ def grow(rng, builder, wanted):
 
 
 def drawn_builder(rng):
-    """An empty job on the standard interval, on another, or on some."""
+    """An empty job of either edition, on the standard interval, on another, or on some."""
     return Builder(rng.choice(((o.STANDARD,), (random_interval(rng),), (o.STANDARD, random_interval(rng)),
-                               [random_interval(rng) for _ in range(3)])))
+                               [random_interval(rng) for _ in range(3)])), rng.choice(o.EDITIONS))
 
 
 def random_builder(rng, wanted=None):

@@ -96,7 +96,7 @@ def job_parts(job):
     """The bytes of the edition; the commands that make a result, as far as they are whole and name results that are there; the
     bytes behind."""
     commands, position = [], len(jobs.EDITION_1)
-    for byte, operands in list(jobs.read_commands(job))[1:] if job.startswith(jobs.EDITION_1) else ():
+    for byte, operands in list(jobs.read_commands(job))[1:] if job[:2] in jobs.EDITIONS else ():
         names = operands[:o.RESULT_BYTES.get(byte, 0)]
         if (byte not in o.RESULT_BYTES or len(operands) < o.OPERAND_WIDTH[byte]
                 or any(name >= len(commands) for name in names)):

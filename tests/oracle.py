@@ -7,7 +7,8 @@ them.  Power series (document 02, S-3) are expanded by binomials, not by the
 rule of the product's table.  The least radius of the tighter root test (S-22) comes
 from a whole square root, not from a search.  Integrals on an interval (S-24) are the
 power basis' primitives times half the extent, and every evaluation is put beside the exact
-value at its point.  Only the rounding is taken over from document 01 as it stands
+value at its point.  Editions of jobs (S-27) are read here; edition_oracle.py converts them.
+Only the rounding is taken over from document 01 as it stands
 there, with the ties of document 02 (S-11) and the mapped point of S-24.
 Areas, and refusal 1 for a short one, are compare.py's; a short proposal (S-14) is tested here.
 
@@ -177,7 +178,7 @@ def multiply(a, b, kept):
     if number := first_fault((a, b)):
         return refused(number)
     if kept == DEFAULT_KEPT:
-        kept = MAX_DEGREE
+        kept = max(a.degree, b.degree)
     if not 0 <= kept <= MAX_DEGREE:
         return refused(BAD_VALUE)
     full = product_list(a.coefficients, b.coefficients)
@@ -424,6 +425,7 @@ OPERAND_WIDTH = {END: 0, EDITION: 1, LOAD: BLOCK_BYTES + 4, ADD: 2, SUBTRACT: 2,
                  ROOT: 1 + 2 * BLOCK_BYTES, TIGHT_ROOT: 1 + 2 * BLOCK_BYTES}
 RESULT_BYTES = {LOAD: 0, ADD: 2, SUBTRACT: 2, MULTIPLY: 2, LOAD_ON: 0, QUOTIENT: 2, ROOT: 1, TIGHT_ROOT: 1}
 LOADS = LOAD, LOAD_ON
+EDITIONS = 1, 2
 TESTS = {QUOTIENT: quotient, ROOT: root, TIGHT_ROOT: tight_root}
 
 
@@ -447,7 +449,12 @@ def read_load(byte, operands):
     return Model(degree, row, read_number(operands, BLOCK_BYTES, signed=False), *read_ends(byte, operands))
 
 
-def _operation(byte, operands, named):
+def kept_by(edition, kept):
+    """What the library is told where a multiply command of a job of this edition has the byte kept."""
+    return MAX_DEGREE if edition == 1 and kept == DEFAULT_KEPT else kept
+
+
+def _operation(edition, byte, operands, named):
     """Number and model of one command that makes a result."""
     if byte in LOADS:
         loaded = read_load(byte, operands)
@@ -458,46 +465,62 @@ def _operation(byte, operands, named):
     if byte == SUBTRACT:
         return subtract(*named)
     if byte == MULTIPLY:
-        return multiply(*named, operands[2])
+        return multiply(*named, kept_by(edition, operands[2]))
     blocks = RESULT_BYTES[byte]
     h = read_block(operands, blocks)
     w = read_block(operands, blocks + BLOCK_BYTES)
     return TESTS[byte](*named, h, w)[:2]
 
 
-def check_job(job):
-    """('accepted', count, models) or ('refused', number, command)."""
-    results, position, command = [], 0, 0
+class Unread(Exception):
+    """The refusal of a command's reading, and its number."""
+
+
+def reading(job):
+    """Byte and operands of each command in turn, the end's last.  Raises Unread at a command that does not read well; whether
+    the models before it are good plays no part."""
+    position, command, results = 0, 0, 0
     while True:
         if position == len(job):
-            return 'refused', JOB_ENDS, command
+            raise Unread(JOB_ENDS, command)
         byte = job[position]
         if byte not in OPERAND_WIDTH or (byte == EDITION) != (command == 0):
-            return 'refused', BAD_VALUE, command
+            raise Unread(BAD_VALUE, command)
         operands = job[position + 1:position + 1 + OPERAND_WIDTH[byte]]
         if len(operands) < OPERAND_WIDTH[byte]:
-            return 'refused', JOB_ENDS, command
+            raise Unread(JOB_ENDS, command)
         position += 1 + len(operands)
-        if byte == EDITION and operands[0] != 1:
-            return 'refused', BAD_VALUE, command
+        if byte == EDITION and operands[0] not in EDITIONS:
+            raise Unread(BAD_VALUE, command)
         if byte == MULTIPLY and MAX_DEGREE < operands[2] < DEFAULT_KEPT:
-            return 'refused', BAD_VALUE, command
+            raise Unread(BAD_VALUE, command)
+        if byte == END and position < len(job):
+            raise Unread(BYTES_AFTER_END, command)
+        if byte in RESULT_BYTES:
+            if any(name >= results for name in operands[:RESULT_BYTES[byte]]):
+                raise Unread(NOT_A_RESULT, command)
+            if results == MAX_RESULTS:
+                raise Unread(TOO_MANY_RESULTS, command)
+            results += 1
+        yield byte, operands
         if byte == END:
-            if position < len(job):
-                return 'refused', BYTES_AFTER_END, command
-            return 'accepted', len(results), results
-        if byte != EDITION:
-            names = operands[:RESULT_BYTES[byte]]
-            if any(name >= len(results) for name in names):
-                return 'refused', NOT_A_RESULT, command
-            if len(results) == MAX_RESULTS:
-                return 'refused', TOO_MANY_RESULTS, command
-            number, result = _operation(byte, operands,
-                                        [results[name] for name in names])
-            if number:
-                return 'refused', number, command
-            results.append(result)
+            return
         command += 1
+
+
+def check_job(job):
+    """('accepted', count, models) or ('refused', number, command)."""
+    results = []
+    try:
+        for command, (byte, operands) in enumerate(reading(job)):
+            if byte in RESULT_BYTES:
+                number, result = _operation(job[1], byte, operands, [results[name] for name in operands[:RESULT_BYTES[byte]]])
+                if number:
+                    return 'refused', number, command
+                results.append(result)
+    except Unread as unread:
+        return 'refused', *unread.args
+    return 'accepted', len(results), results
 
 
 def printed(job):

@@ -28,7 +28,7 @@ from typing import Callable, NamedTuple
 
 import jobs
 import oracle as o
-from examples_of_01 import check_examples, example_job, interval_jobs, root_job, root_jobs
+from examples_of_01 import check_examples, edition_jobs, example_job, interval_jobs, root_job, root_jobs
 from header import MAX_RESULTS, PROGRAM_JOB_BYTES as LONGEST
 from job_cases import RandomJobs, fixed_check
 
@@ -242,6 +242,22 @@ def interval_runs(feed):
             yield Run('interval', way, job, text.encode())
 
 
+def edition_runs(feed):
+    """Jobs of both editions, with texts that are written out and not the oracle's; then T_1·T_1 = (T_0 + T_2)/2 and
+    T_1·T_3 = (T_2 + T_4)/2: 0xFF keeps both terms in edition 1, and drops the second in edition 2."""
+    for job, text in edition_jobs():
+        yield Run('edition', feed.at_once, job, text.encode())
+    loads = b''.join(jobs.load(o.model([0] * k + [o.S])) for k in (1, 3))
+    whole, cut = '2 2 0\n3 4 0\naccepted 4\n', '2 1 524288\n3 3 524288\naccepted 4\n'
+    for edition, kept, end in ((1, (255, 255), whole), (2, (255, 255), cut), (1, (1, 3), cut), (2, (32, 4), whole)):
+        job = bytes([o.EDITION, edition]) + loads + jobs.multiply(0, 0, kept[0]) + jobs.multiply(1, 0, kept[1]) + jobs.END
+        yield Run('edition', feed.at_once, job, f'0 1 0\n1 3 0\n{end}'.encode())
+    for job, text in ((b'\1\2\0', 'accepted 0'), (b'\1\3\0', 'refused 9 0'), (b'\1\0\0', 'refused 9 0'), (b'\1\2', 'refused 10 1'),
+                      (b'\1\2\1\2', 'refused 9 1'), (b'\1\2' + loads + jobs.multiply(0, 1, 33), 'refused 9 3'),
+                      (b'\1\2' + loads + jobs.multiply(0, 2, 255), 'refused 12 3')):
+        yield Run('edition', feed.from_file, job, f'{text}\n'.encode())
+
+
 def failing_runs(feed):
     """A read fails: nothing is said of the job, unless it was too long before."""
     example, empty = example_job(), b'\x01\x01\x00'
@@ -292,7 +308,8 @@ def main():
     feed = Feed(str(options.program.resolve()))
     rng = Random(options.seed)
     began, differences, missed, kinds = time.perf_counter(), 0, 0, Counter()
-    runs = [*fixed_runs(feed), *root_runs(feed), *interval_runs(feed), *random_runs(feed, options.cases, rng), *failing_runs(feed)]
+    runs = [*fixed_runs(feed), *root_runs(feed), *interval_runs(feed), *edition_runs(feed),
+            *random_runs(feed, options.cases, rng), *failing_runs(feed)]
     for i, (name, way, job, expected) in enumerate(runs):
         kinds[expected.split(b'\n')[-2].split()[0].decode()] += 1
         status, output = way(job)

@@ -32,6 +32,8 @@ import ferruntzo as package
 from ferruntzo import Candidate, Interval, Model, Refusal, Refused, Series, _library
 
 S = header.S
+OF_JOBS = 'check', 'convert_edition'
+GIVEN = [what for what in ANY_LENGTH if what != 'output']     # as long as the caller has them
 done = Counter()
 
 
@@ -92,6 +94,9 @@ def contents(case):
                 'h': list(made.h.numbers), 'w': list(made.w.numbers), 'outcome': [int(made.outcome)]}
     if entry == 'to_units':
         return {'units': list(package.to_units([proposal_oracle.value_of(pattern) for pattern in inputs[0]]).numbers)}
+    if entry == 'convert_edition':
+        converted = package.convert_edition(*inputs)
+        return {'output': list(converted), 'answer': [len(converted), 0]}
     checked = package.check(*inputs)
     work = [number for result in checked.results for number in result.numbers]
     return {'work': work + [0] * (header.WORK_SIZE - len(work)), 'answer': [checked.count, 0]}
@@ -102,15 +107,15 @@ def answered(case):
     try:
         return 0, contents(case)
     except Refused as refused:
-        expect('a command goes with a job alone', (refused.command is None) == (case.entry != 'check'), case.entry)
-        return int(refused.refusal), {'answer': [0, refused.command]} if case.entry == 'check' else {}
+        expect('a command goes with a job alone', (refused.command is None) == (case.entry not in OF_JOBS), case.entry)
+        return int(refused.refusal), {'answer': [0, refused.command]} if case.entry in OF_JOBS else {}
 
 
 def expected(case):
     number, areas = compare.oracle_answer(case)
     wanted = {what: list(row) for what, row in areas.items() if what != 'scratch'}
     if number:
-        wanted = {'answer': wanted['answer']} if case.entry == 'check' else {}
+        wanted = {'answer': wanted['answer']} if case.entry in OF_JOBS else {}
     elif case.entry == 'quotient_of_two':
         f, _, *proposals = case.inputs
         chosen, radius = wanted['answer']
@@ -123,17 +128,20 @@ def lent_rightly(real):
     def number_of(entry, *arguments):
         lengths = [len(a) for a in arguments if isinstance(a, ctypes.Array)]
         for length, (_, size, what) in zip(lengths, AREAS.get(entry, ())):
-            expect('lengths of areas', what in ANY_LENGTH or length == size, f'{entry}, {what}: {length}')
+            size = lengths[0] if what == 'output' else size
+            expect('lengths of areas', what in GIVEN or length == size, f'{entry}, {what}: {length}')
         return real(entry, *arguments)
     return number_of
 
 
 def drawn_cases(entry, count, rng):
-    """A call for each answer, some of the fixed cases, and random ones; short areas cannot be lent from Python."""
+    """A call for each answer, some of the fixed cases, and random ones; short areas cannot be lent from Python, and an output is
+    as long as its job."""
     fixed = list(compare.make_cases([entry], 0, rng))
     some = rng.sample([c for c in fixed if not c.lengths], count)
     more = [c for c in list(compare.make_cases([entry], len(fixed) + count, rng))[len(fixed):] if not c.lengths]
-    return [*(witness(entry, number) for number in WITNESSES[entry]), *some, *more]
+    drawn = [*(witness(entry, number) for number in WITNESSES[entry]), *some, *more]
+    return [c._replace(scalar=0) for c in drawn] if entry == 'convert_edition' else drawn
 
 
 # ---- Wrong packages ---------------------------------------------------------------------
@@ -193,6 +201,11 @@ def fewer(number, arguments):
     return number
 
 
+def converted_not(job, real=package.convert_edition):
+    real(job)
+    return bytes(job)
+
+
 SLIPS = {
     'f and g of a quotient exchanged': ('quotient', lambda: exchanged('quotient')),
     'f and g of two proposals exchanged': ('quotient_of_two', lambda: exchanged('quotient_of_two')),
@@ -217,6 +230,12 @@ SLIPS = {
     'a refusal taken for accepted': ('to_units', lambda: after('to_units', turned(16, 0))),
     'a refused job without its command': ('check', lambda: after('check', no_command)),
     'a result of a job left out': ('check', lambda: after('check', fewer)),
+    'the job itself for the converted one': ('convert_edition', lambda: (package, 'convert_edition', converted_not)),
+    'a byte of a converted job left out': ('convert_edition', lambda: after('convert_edition', fewer)),
+    'a refused conversion without its command': ('convert_edition', lambda: after('convert_edition', no_command)),
+    'a conversion refused with 13 as 12': ('convert_edition', lambda: after('convert_edition', turned(13, 12))),
+    'the former 32 for 255': ('multiply', lambda: (Model, 'multiply', lambda a, b, kept, real=Model.multiply: real(
+        a, b, header.MAX_DEGREE if kept == header.DEFAULT_KEPT else kept))),
 }
 
 
@@ -257,7 +276,7 @@ def wrong_operands():
             lambda: package.quotient_of_two(good, good, 'text', []), lambda: package.quotient_of_two(good, good, [1.5], []),
             lambda: package.make_reciprocal(h), lambda: package.make_quotient(good, h), lambda: package.to_units(['1']),
             lambda: package.to_units([None]), lambda: package.to_units(1.0), lambda: package.check('text'), lambda: package.check(5),
-            lambda: package.check([1, 2])],
+            lambda: package.check([1, 2]), lambda: package.convert_edition('text'), lambda: package.convert_edition([1, 2, 0])],
     }
     real, _library.number_of = _library.number_of, never
     try:
@@ -299,7 +318,7 @@ def values():
     expect('equal by content', m == Model.from_numbers(m.numbers) == pickle.loads(pickle.dumps(m)) == copy.deepcopy(m)
            and len({m, Model.from_numbers(m.numbers)}) == 1 and Candidate(0, [1]) != Series(0, [1]))
     names = {name: number for name, number in header.NAMES.items() if name in Refusal.__members__}
-    expect('refusals as in the header', {r.name: r.value for r in Refusal} == names and len(names) == header.DIFFERENT_INTERVALS)
+    expect('refusals as in the header', {r.name: r.value for r in Refusal} == names and len(names) == header.SHORT_OUTPUT)
     refused = pickle.loads(pickle.dumps(Refused(Refusal.JOB_ENDS, 4)))
     expect('a refusal in words', str(refused) == 'refused 10: the job ends inside a command or without an end (command 4)', str(refused))
     expect('a text for each refusal', all(r.text for r in Refusal))
@@ -339,7 +358,7 @@ def examples():
         except Refused as refused:
             said = f'refused {refused.refusal.value} {refused.command}\n'
         expect('examples', said == job.with_suffix('.expected').read_text(), job.name)
-    for failed, tried in (doctest.testfile(str(ROOT / 'python' / 'README.md'), module_relative=False), doctest.testmod(package)):
+    for failed, tried in (doctest.testfile(str(ROOT / 'python' / 'README.md'), module_relative=False), doctest.testmod(package), doctest.testmod(package.jobs)):
         expect('texts of README and package', failed == 0 < tried)
 
 
@@ -363,7 +382,7 @@ def main():
             found = answered(case)
             expect(entry, found == wanted, f'{str(found)[:300]} instead of {str(wanted)[:300]} for {str(case)[:300]}')
         met = {number for name, number in numbers if name == entry}
-        expect('every refusal of an entry', met >= set(WITNESSES[entry]), f'{entry}: {met}')
+        expect('every refusal of an entry', met >= set(WITNESSES[entry]) - {header.SHORT_OUTPUT}, f'{entry}: {met}')
     _library.number_of = real
     wrong_packages(cases)
     wrong_operands()

@@ -11,6 +11,7 @@ import sys
 import tempfile
 from pathlib import Path
 
+from edition_slips import EDITION_SLIPS
 from interval_slips import INTERVAL_SLIPS
 from proposal_slips import PROPOSAL_SLIPS
 
@@ -137,15 +138,14 @@ SLIPS = [
     ('job: scratch left', 'check', '    memset(scratch, 0, SCRATCH_SIZE * sizeof *scratch);\n    if', '    if'),
     ('job: work left on refusal', 'check', '        memset(work, 0, WORK_SIZE * sizeof *work);\n', ''),
     ('job: work not cleared', 'check', '    memset(work, 0, WORK_SIZE * sizeof *work);\n    uint32_t', '    uint32_t'),
-    ('job: count before name', 'check', '        for (size_t i = 0; i < names; i++)',
-     '        if (*count == MAX_RESULTS)\n            return TOO_MANY_RESULTS;\n        for (size_t i = 0; i < names; i++)'),
-    ('job: 32nd result refused', 'check', 'if (*count == MAX_RESULTS)', 'if (*count == MAX_RESULTS - 1)'),
-    ('job: name of itself', 'check', 'operands[i] >= *count', 'operands[i] > *count'),
+    ('job: count before name', 'check', '    for (size_t i = 0; i < names; i++)',
+     '    if (count == MAX_RESULTS)\n        return TOO_MANY_RESULTS;\n    for (size_t i = 0; i < names; i++)'),
+    ('job: 32nd result refused', 'check', 'return count == MAX_RESULTS ?', 'return count == MAX_RESULTS - 1 ?'),
+    ('job: name of itself', 'check', 'operands[i] >= count', 'operands[i] > count'),
     ('job: name before d', 'check', "operands[2] != DEFAULT_KEPT)",
-     "operands[2] != DEFAULT_KEPT && operands[0] < *count)"),
-    ('job: edition again', 'check', '(byte == 0x01) != (*command == 0)', '(byte != 0x01 && *command == 0)'),
-    ('job: edition 2', 'check', 'if (operands[0] != 1)', 'if (operands[0] == 0 || operands[0] > 2)'),
-    ('job: after end ignored', 'check', 'position < job_len ? BYTES_AFTER_END : 0', '0'),
+     "operands[2] != DEFAULT_KEPT && operands[0] < count)"),
+    ('job: edition again', 'check', '(byte == 0x01) != (command == 0)', '(byte != 0x01 && command == 0)'),
+    ('job: after end ignored', 'check', '*position < job_len ? BYTES_AFTER_END : 0', '0'),
     ('job: radius as signed', 'check', '|| a[RADIUS] < 0 || a', '|| a'),
     ('job: d 254', 'check', 'operands[2] != DEFAULT_KEPT)', 'operands[2] < DEFAULT_KEPT - 1)'),
     ('job: later tests waved through', 'check', '    if (byte == 0x20)\n',
@@ -351,10 +351,10 @@ SLIPS += [(f'walk: {name}, {entry}', entry, P_LINE, new)
                             ('last pair left out', P_LINE[:-1] + ' * !(i == a[0] && j == b[0]);'))
           for entry in ('multiply', 'quotient', *ROOTS)]
 
-SLIPS += INTERVAL_SLIPS
+SLIPS += INTERVAL_SLIPS + EDITION_SLIPS
 
 
-def spoiled_plain(folder, old, new, sources=('plain.c', 'areas.h')):
+def spoiled_plain(folder, old, new, sources=('plain.c', 'editions.c', 'reading.h', 'models.h', 'areas.h')):
     """The folder, with a copy of the plain C version: a text is altered at its first place in the first source that has it."""
     texts = {path.name: path.read_text() for path in PLAIN.iterdir() if path.suffix in ('.c', '.h')}
     altered = next((name for name in sources if old in texts[name]), None)

@@ -1,5 +1,6 @@
 """Tests of tools/ferruntzo by its command line and modules: exit statuses, explain against the program over
-the whole corpus of job tests, list and assemble round trips, the page, the least radius of 0x22, versions.
+the whole corpus of job tests, list and assemble round trips, the page, the least radius of 0x22, versions;
+intervals (tool_intervals.py) and editions (tool_editions.py). Libraries and program must be built.
 
   tool_commands.py [--tool tools/ferruntzo] [--jobcheck target/bin/jobcheck] [--cases N] [--plant]
 """
@@ -28,6 +29,7 @@ from ferruntzo_tool.tables import (BY_NAME, COMMANDS, LIMIT, MAX_DEGREE, MAX_JOB
                                    in_micrometres, is_load, is_tight)
 from ferruntzo_tool.text import assemble, listing                       # noqa: E402
 from job_cases import RandomJobs, fixed_check                           # noqa: E402
+import tool_editions                                                    # noqa: E402
 import tool_intervals                                                   # noqa: E402
 
 EXAMPLES = sorted((ROOT / 'examples').glob('*.job'))
@@ -47,6 +49,8 @@ def corpus(cases, rng):
     found += [case.inputs[0] for case in fixed_check()]
     found += [draw(rng).inputs[0] for _ in range(cases)]
     found += [rng.randbytes(rng.randrange(500)) for _ in range(cases // 4)]
+    # Jobs of edition 1 with a product, as jobs of edition 2.
+    found += [b'\1\2' + job[2:] for job in found if job[:2] == b'\1\1' and any('kept' in step.values for step in split(job)[0])]
     return [job for job in dict.fromkeys(found) if len(job) <= 65536]
 
 
@@ -206,7 +210,7 @@ def statuses(run, folder, checker):
         (2, 'assemble', folder / 'nosuch'),
         (2, 'show', example, '-o', folder / 'no' / 'page'), (2, 'show', folder / 'nosuch', '-o', folder / 'p'),
         (2, 'show', example, '-o', folder / 'p', '--jobcheck', folder / 'liar'), (0, '--help'), (0, '--version'),
-        *((0, name, '--help') for name in ('check', 'explain', 'list', 'assemble', 'show', 'solve')),
+        *((0, name, '--help') for name in ('check', 'explain', 'convert', 'list', 'assemble', 'show', 'solve')),
     ]
     with ThreadPoolExecutor(os.cpu_count() or 1) as pool:
         for row, done in zip(rows, pool.map(lambda row: run(*row[1:]), rows)):
@@ -330,9 +334,9 @@ def main():
     options = parser.parse_args()
     environment = {**os.environ, 'FERRUNTZO_JOBCHECK': options.jobcheck, 'PYTHONDONTWRITEBYTECODE': '1'}
 
-    def run(*words, stdout=subprocess.PIPE, **more):
-        return subprocess.run([options.tool, *map(str, words)], stdin=subprocess.DEVNULL, stdout=stdout,
-                              stderr=subprocess.PIPE, env=environment, check=False, encoding='utf-8', errors='replace',
+    def run(*words, stdin=subprocess.DEVNULL, stdout=subprocess.PIPE, variables=None, **more):
+        return subprocess.run([options.tool, *map(str, words)], stdin=stdin, stdout=stdout, stderr=subprocess.PIPE,
+                              env={**environment, **(variables or {})}, check=False, encoding='utf-8', errors='replace',
                               **more)
 
     rng = Random(options.seed)
@@ -350,6 +354,12 @@ def main():
             tool_intervals.places(expect, options.jobcheck)
             tool_intervals.words(expect, run, folder)
             tool_intervals.pages(expect, run, folder)
+            tool_editions.conversions(expect)
+            tool_editions.corpus(expect, jobs)
+            tool_editions.opened(expect)
+            for test in (tool_editions.libraries, tool_editions.command):
+                with tempfile.TemporaryDirectory() as own:
+                    test(expect, run, Path(own))
             round_trips(jobs)
             statuses(run, folder, options.jobcheck)
             lacks(run, folder)

@@ -76,7 +76,7 @@ def explained(expect, jobs, rng):
         if checked.refusal in (18, 19):
             kinds[checked.refusal] += 1
         for outcome in checked.outcomes:
-            lines = [found for found in map(SHOWN.fullmatch, explain.outcome_lines(outcome)) if found]
+            lines = [found for found in map(SHOWN.fullmatch, explain.outcome_lines(outcome, checked)) if found]
             ends = [tuple(int(word.replace(',', '')) for word in found.groups()[:2]) for found in lines]
             wanted = [outcome.model.interval] if outcome.model and outcome.model.interval != STANDARD else []
             expect('the interval of a result', ends == wanted, f'{ends} {wanted}')

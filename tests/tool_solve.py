@@ -1,7 +1,7 @@
 """Tests of `ferruntzo solve`: every radius covers the error against the margin itself, sampled in exact
 arithmetic, for each shipped stretch and for random margins; mirrored margins give mirrored paths; a root is the command with
-the smaller radius; a curve on its own interval gives stretches on it (tool_intervals.py); and curves that cannot be used are
-named.
+the smaller radius; a curve on its own interval gives stretches on it (tool_intervals.py); edition 2 leaves kept degrees open
+(tool_editions.py); and curves that cannot be used are named.
 
   tool_solve.py [--tool tools/ferruntzo] [--jobcheck target/bin/jobcheck] [--samples K] [--seed N]
 """
@@ -21,6 +21,7 @@ ROOT = Path(__file__).resolve().parent.parent
 sys.path.insert(0, str(ROOT / 'tools'))
 
 import oracle                                                           # noqa: E402
+import tool_editions                                                    # noqa: E402
 import tool_intervals                                                   # noqa: E402
 from ferruntzo_tool import arithmetic as ar                             # noqa: E402
 from ferruntzo_tool import covered, exact                               # noqa: E402
@@ -145,6 +146,7 @@ def load_error(solved, samples):
 class Options:
     degree = scale = stretches = None
     only_0x21 = False
+    edition = 1
     limit_um = Fraction(1, 2)
 
 
@@ -362,6 +364,7 @@ def main():
         mirrored_margins(rng, Path(name), options.margins // 2)
         cautions(rng, 14, Path(name), options.margins // 2)
         tool_intervals.curves(expect, run, Path(name), Random(options.seed), random_series, 14, Options, options.margins)
+        tool_editions.solved(expect, run, Path(name))
         commands(run, Path(name))
         written(run, Path(name))
     print(f'solve: {len(wrong)} wrong')

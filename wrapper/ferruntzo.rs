@@ -7,9 +7,10 @@
 //! ```
 //!
 //! The typed functions ([`Model::add`], [`Model::from_series`], [`quotient`], [`quotient_of_two`],
-//! [`make_quotient`], [`check`], ...) lend the library areas of the right size. The functions in
-//! [`areas`] take the caller's own slices of every length.
-//! The crate needs `core` alone, allocates nothing and has no state.
+//! [`make_quotient`], [`check`], [`convert_edition`], ...) lend the library areas of the right size.
+//! The functions in [`areas`] take the caller's own slices of every length.
+//! The crate needs `core` alone, allocates nothing and has no state. Every x and every value of which
+//! something is said below is a fraction.
 //!
 //! ```
 //! use ferruntzo::{check, root, Candidate, Model, S};
@@ -30,7 +31,9 @@ extern crate std;
 
 use core::fmt;
 
+mod editions;
 mod proposals;
+pub use editions::convert_edition;
 pub use proposals::{
     make_quotient, make_reciprocal, to_units, MadeQuotient, MadeReciprocal, Outcome,
     QuotientRecord, ReciprocalRecord,
@@ -46,7 +49,8 @@ pub const MAX_DEGREE: usize = 32;
 pub const COEFFICIENTS: usize = 33;
 /// Results of a job at most.
 pub const MAX_RESULTS: usize = 32;
-/// The kept degree of a product that leaves the choice open: 32.
+/// The kept degree of a product that leaves the choice open: the larger degree of the two factors.
+/// Before version 5.0.0 it stood for 32.
 pub const DEFAULT_KEPT: u32 = 255;
 
 /// Numbers in a model area: degree, coefficients, radius, lower end, upper end.
@@ -67,8 +71,10 @@ pub const NUMBERS_SIZE: usize = 3;
 pub const REPORT_SIZE: usize = NUMBERS_SIZE;
 /// Numbers in the work area of a job: 32 models.
 pub const WORK_SIZE: usize = 1184;
-/// Numbers in the answer of a job: count, command.
+/// Numbers in the answer of a job: count (of a conversion the length), command.
 pub const ANSWER_SIZE: usize = 2;
+/// Bytes of the longest job that can be accepted or converted.
+pub const MAX_JOB_BYTES: usize = 8488;
 /// Numbers in the answer of two proposals: chosen, radius.
 pub const SELECTION_SIZE: usize = 2;
 /// Numbers in an area of values: those of T_0 to T_32.
@@ -91,7 +97,7 @@ pub fn version() -> (u32, u32, u32) {
     (number >> 16, number >> 8 & 255, number & 255)
 }
 
-/// The numbered refusals of document 01, and numbers 14 to 19 of document 02.
+/// The numbered refusals of document 01, and numbers 14 to 20 of document 02.
 #[derive(Clone, Copy, Debug, PartialEq, Eq, Hash)]
 #[repr(u32)]
 pub enum Refusal {
@@ -133,11 +139,13 @@ pub enum Refusal {
     BadEnds = 18,
     /// Two operands are on different intervals.
     DifferentIntervals = 19,
+    /// The output of a conversion is shorter than the job.
+    ShortOutput = 20,
 }
 
 impl Refusal {
     /// All refusals, by rising number.
-    pub const ALL: [Refusal; 19] = [
+    pub const ALL: [Refusal; 20] = [
         Refusal::ShortArea,
         Refusal::BadModel,
         Refusal::LargeResult,
@@ -157,9 +165,10 @@ impl Refusal {
         Refusal::NoRadius,
         Refusal::BadEnds,
         Refusal::DifferentIntervals,
+        Refusal::ShortOutput,
     ];
 
-    /// Its number, 1 to 19.
+    /// Its number, 1 to 20.
     pub fn number(self) -> u32 {
         self as u32
     }
@@ -192,6 +201,7 @@ impl fmt::Display for Refusal {
             Refusal::NoRadius => "no radius satisfies the tighter root test",
             Refusal::BadEnds => "wrong ends of a model",
             Refusal::DifferentIntervals => "operands on different intervals",
+            Refusal::ShortOutput => "the output is too short",
         };
         write!(f, "refused {}: {}", self.number(), reason)
     }
@@ -208,7 +218,7 @@ fn accepted(number: u32) -> Result<(), Refusal> {
     }
 }
 
-/// The ends of a model's interval, in units: x goes from lower/S to upper/S.
+/// The ends of a model's interval, in units: every fraction x from lower/S to upper/S.
 #[derive(Clone, Copy, Debug, PartialEq, Eq, Hash)]
 pub struct Interval {
     /// The lower end l.
@@ -328,8 +338,9 @@ impl Model {
         areas::subtract(&self.0, &other.0, &mut out.0).map(|()| out)
     }
 
-    /// The product, on the interval of both, cut to the kept degree (0 to 32, or [`DEFAULT_KEPT`]); what
-    /// is dropped is paid for in the radius.
+    /// The product, on the interval of both, cut to the kept degree: 0 to 32, or [`DEFAULT_KEPT`] for the
+    /// larger degree of the two. What is dropped is paid for in the radius. Before version 5.0.0
+    /// `DEFAULT_KEPT` stood for 32: state 32 for the former results.
     ///
     /// Refusals, in order: of each model `BadModel`, `BadEnds`; `DifferentIntervals`, `BadValue` (the
     /// kept degree), `LargeResult`.
@@ -574,6 +585,11 @@ fn chosen_of<'a>(number: u32, first: &'a [i32], second: &'a [i32]) -> (Chosen, &
 
 /// Tests the candidate h for the square root of f, with the helper w near 1/(2h), on the interval of f.
 ///
+/// Accepted: at every x of the interval every value v that f allows is above 0. Its root is allowed by
+/// the model where it is a fraction; otherwise it lies within the radius, which is said of its square:
+/// with c the value of the model's polynomial and r its radius over S, c + r ≥ 0, v ≤ (c + r)², and
+/// c − r ≤ 0 or (c − r)² ≤ v.
+///
 /// Refusals, in order: of f `BadModel`, `BadEnds`; `BadModel` of h or w, `HelperNotPositive`,
 /// `NotContracting`, `LargeResidual`, `NegativeDiscriminant`.
 pub fn root(f: &Model, h: &Candidate, w: &Candidate) -> Result<Certificate, Refusal> {
@@ -587,7 +603,8 @@ pub fn root(f: &Model, h: &Candidate, w: &Candidate) -> Result<Certificate, Refu
 
 /// The tighter root test: [`root`] up to N and b, with the least whole radius r from 0 to S for
 /// which 2·M·r² + b·S² ≤ (S − m)·S·r, where M is the weight of w. Where it accepts, `root`
-/// accepts too, with a radius that is never smaller; it can refuse what `root` accepts.
+/// accepts too, with a radius that is never smaller; it can refuse what `root` accepts. What is
+/// accepted is vouched for as by `root`, with this radius.
 ///
 /// Refusals, in order: of f `BadModel`, `BadEnds`; `BadModel` of h or w, `HelperNotPositive`,
 /// `NotContracting`, `LargeResidual`, `NoRadius`.
@@ -656,7 +673,7 @@ impl fmt::Display for RefusedJob {
 
 impl core::error::Error for RefusedJob {}
 
-/// Checks a job (docs/FORMAT.md) of any bytes and any length.
+/// Checks a job (docs/FORMAT.md) of either edition, of any bytes and any length.
 pub fn check(job: &[u8]) -> Result<CheckedJob, RefusedJob> {
     let mut work = [0; WORK_SIZE];
     let mut scratch = [0; SCRATCH_SIZE];
@@ -673,11 +690,13 @@ pub fn check(job: &[u8]) -> Result<CheckedJob, RefusedJob> {
 /// afterwards depends on its own length: one that is itself too short is not touched; `out`,
 /// `bounds` and `numbers` are zero in their sizes after every refusal, `ShortArea` included; the
 /// `scratch` of a test is zero in its 16 numbers after every call. [`areas::quotient_of_two`],
-/// [`areas::check`] and the makers say what holds of their areas. Numbers behind the sizes stay.
+/// [`areas::check`], [`areas::convert_edition`] and the makers say what holds of their areas. Numbers
+/// behind the sizes stay.
 #[rustfmt::skip]
 pub mod areas {
     use super::{accepted, chosen_of, raw, Refusal, CANDIDATE_SIZE};
 
+    pub use super::editions::lent::convert_edition;
     pub use super::proposals::lent::{make_quotient, make_reciprocal, to_units};
 
     /// a + b; `a`, `b` and `out` have 37 numbers.
@@ -888,6 +907,10 @@ mod raw {
         pub fn ferruntzo_check(
             job: *const u8, job_len: usize, work: *mut i32, work_len: usize,
             scratch: *mut i64, scratch_len: usize, answer: *mut u32, answer_len: usize,
+        ) -> u32;
+        pub fn ferruntzo_convert_edition(
+            job: *const u8, job_len: usize, out: *mut u8, out_len: usize,
+            answer: *mut u32, answer_len: usize,
         ) -> u32;
         pub fn ferruntzo_make_reciprocal(
             g: *const i32, g_len: usize, record: *mut f64, record_len: usize,

@@ -4,6 +4,8 @@ use std::format;
 use std::vec;
 use std::vec::Vec;
 
+#[path = "edition_tests.rs"]
+mod editions;
 #[path = "interval_tests.rs"]
 mod intervals;
 #[path = "proposal_tests.rs"]
@@ -80,8 +82,8 @@ fn p1_to_p4_products() {
     assert_eq!(t1.multiply(&t1, 1), Ok(model(&[HALF, 0], HALF)));
     let half = Model::constant(HALF);
     // P3 as change request S-11 has it: a tie goes to the even number.
-    assert_eq!(Model::constant(1).multiply(&half, DEFAULT_KEPT), Ok(model(&[0], 1)));
-    assert_eq!(Model::constant(-1).multiply(&half, DEFAULT_KEPT), Ok(model(&[0], 1)));
+    assert_eq!(Model::constant(1).multiply(&half, 32), Ok(model(&[0], 1)));
+    assert_eq!(Model::constant(-1).multiply(&half, 32), Ok(model(&[0], 1)));
 }
 
 /// Half an odd number goes to the even number, on both sides of zero.
@@ -89,8 +91,8 @@ fn p1_to_p4_products() {
 fn ties_to_even() {
     for (odd, even) in [(1, 0), (3, 2), (5, 2), (7, 4), (-1, 0), (-3, -2), (-5, -2), (-7, -4)] {
         let half = Model::constant(HALF);
-        assert_eq!(Model::constant(odd).multiply(&half, DEFAULT_KEPT), Ok(model(&[even], 1)));
-        assert_eq!(half.multiply(&Model::constant(odd), DEFAULT_KEPT), Ok(model(&[even], 1)));
+        assert_eq!(Model::constant(odd).multiply(&half, 32), Ok(model(&[even], 1)));
+        assert_eq!(half.multiply(&Model::constant(odd), 32), Ok(model(&[even], 1)));
         assert_eq!(term(1, 2 * odd).integrate(), Ok(model(&[-even, 0, even], 2)));
         assert_eq!(Model::from_series(&series(2, &[(2, odd)])), Ok(model(&[even, 0, even], 1)));
     }
@@ -284,7 +286,7 @@ fn numbers_of_refusals() {
     for refusal in Refusal::ALL {
         assert_eq!(Refusal::from_number(refusal.number()), Some(refusal));
     }
-    for number in [0, 20, 255, u32::MAX] {
+    for number in [0, 21, 255, u32::MAX] {
         assert_eq!(Refusal::from_number(number), None);
     }
 }
@@ -322,6 +324,7 @@ fn header_agrees() {
         ("NUMBERS_SIZE", NUMBERS_SIZE),
         ("WORK_SIZE", WORK_SIZE),
         ("ANSWER_SIZE", ANSWER_SIZE),
+        ("MAX_JOB_BYTES", MAX_JOB_BYTES),
         ("SELECTION_SIZE", SELECTION_SIZE),
         ("VALUES_SIZE", VALUES_SIZE),
         ("RECIPROCAL_RECORD_SIZE", RECIPROCAL_RECORD_SIZE),
@@ -402,8 +405,12 @@ fn refusals_of_jobs() {
     let four = load(4 * S, 0);
     assert_eq!(refused(&[0x10]), (9, 0));
     assert_eq!(refused(&[0x01]), (10, 0));
-    assert_eq!(refused(&[0x01, 2]), (9, 0));
-    assert_eq!(refused(&[0x01, 1]), (10, 1));
+    for edition in [0, 3] {
+        assert_eq!(refused(&[0x01, edition]), (9, 0));
+    }
+    for edition in [1, 2] {
+        assert_eq!(refused(&[0x01, edition]), (10, 1));
+    }
     assert_eq!(refused(&job(&[&[0x01, 1]])), (9, 1));
     assert_eq!(refused(&job(&[&[0x23]])), (9, 1));
     assert_eq!(refused(&example()[..300]), (10, 2));

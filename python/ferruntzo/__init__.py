@@ -17,7 +17,7 @@ from ._library import LibraryError, __version__, version
 from ._numbers import (CANDIDATE_SIZE, COEFFICIENTS, DEFAULT_KEPT, LIMIT, MAX_DEGREE, MAX_RESULTS, MODEL_SIZE, PROPOSAL_SIZE,
                        S)
 from .certificates import Certificate, Chosen, Selection, proposal, quotient, quotient_of_two, root, tight_root
-from .jobs import CheckedJob, check
+from .jobs import CheckedJob, check, convert_edition
 from .models import Bounds, Candidate, Interval, Model, Series
 from .proposals import (MadeQuotient, MadeReciprocal, Outcome, QuotientRecord, ReciprocalRecord, make_quotient,
                         make_reciprocal, to_units)
@@ -27,5 +27,6 @@ __all__ = [
     'Bounds', 'CANDIDATE_SIZE', 'COEFFICIENTS', 'Candidate', 'Certificate', 'CheckedJob', 'Chosen', 'DEFAULT_KEPT', 'Interval',
     'LIMIT', 'LibraryError', 'MAX_DEGREE', 'MAX_RESULTS', 'MODEL_SIZE', 'MadeQuotient', 'MadeReciprocal', 'Model', 'Outcome',
     'PROPOSAL_SIZE', 'QuotientRecord', 'ReciprocalRecord', 'Refusal', 'Refused', 'S', 'Selection', 'Series', '__version__', 'check',
-    'make_quotient', 'make_reciprocal', 'proposal', 'quotient', 'quotient_of_two', 'root', 'tight_root', 'to_units', 'version',
+    'convert_edition', 'make_quotient', 'make_reciprocal', 'proposal', 'quotient', 'quotient_of_two', 'root', 'tight_root', 'to_units',
+    'version',
 ]

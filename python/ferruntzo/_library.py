@@ -11,7 +11,7 @@ from typing import Any, Iterator, Optional
 
 from .refusals import Refusal, Refused
 
-__version__ = '4.1.0'
+__version__ = '5.0.0'
 MAJOR, MINOR, PATCH = map(int, __version__.split('.'))
 SONAME = f'libferruntzo.so.{MAJOR}'
 VARIABLE = 'FERRUNTZO_LIBRARY'
@@ -36,6 +36,7 @@ _FUNCTIONS: dict[str, tuple[Any, ...]] = {
     'make_quotient': (_I32, _I32, _F64, _I32, _I32, _U32),
     'to_units': (_F64, _I32),
     'check': (_U8, _I32, _I64, _U32),
+    'convert_edition': (_U8, _U8, _U32),
 }
 
 

@@ -16,7 +16,7 @@ MAX_DEGREE = 32
 COEFFICIENTS = MAX_DEGREE + 1
 #: Results of a job at most.
 MAX_RESULTS = 32
-#: The kept degree of a product that leaves the choice open: 32.
+#: The kept degree of a product that leaves the choice open: the larger degree of the two factors (32 before version 5.0.0).
 DEFAULT_KEPT = 255
 #: Numbers of a model: degree, coefficients, radius, lower end, upper end.
 MODEL_SIZE = 1 + COEFFICIENTS + 3

@@ -13,7 +13,7 @@ from ._numbers import (CANDIDATE_SIZE, DEFAULT_KEPT, MODEL_SIZE, S, area, coeffi
 
 @dataclass(frozen=True)
 class Interval:
-    """The ends l and u of an interval, in units: x goes from lower/S to upper/S."""
+    """The ends l and u of an interval, in units: every fraction x from lower/S to upper/S."""
 
     lower: int
     upper: int
@@ -157,8 +157,8 @@ class Model:
         return self._with('subtract', other)
 
     def multiply(self, other: Model, kept: int = DEFAULT_KEPT) -> Model:
-        """The product, on the interval of both, cut to the kept degree (0 to 32, or DEFAULT_KEPT for 32); what is dropped is paid
-        for in the radius.
+        """The product, on the interval of both, cut to the kept degree: 0 to 32, or DEFAULT_KEPT for the larger degree of the two.
+        What is dropped is paid for in the radius. Before version 5.0.0 DEFAULT_KEPT stood for 32: state 32 for the former results.
 
         Refusals, in order: of each model BAD_MODEL, BAD_ENDS; DIFFERENT_INTERVALS, BAD_VALUE (the kept degree), LARGE_RESULT."""
         return self._with('multiply', other, unsigned32(kept, 'kept'))

@@ -28,6 +28,7 @@ class Refusal(enum.IntEnum):
     NO_RADIUS = 17
     BAD_ENDS = 18
     DIFFERENT_INTERVALS = 19
+    SHORT_OUTPUT = 20
 
     @property
     def text(self) -> str:
@@ -55,6 +56,7 @@ _TEXTS = {
     Refusal.NO_RADIUS: 'tighter root test: no whole r from 0 to S has 2 M r^2 + b S^2 <= (S - m) S r',
     Refusal.BAD_ENDS: 'ends of a model: l >= u, or |l| or |u| above 2^28',
     Refusal.DIFFERENT_INTERVALS: 'two operands are on different intervals',
+    Refusal.SHORT_OUTPUT: 'the output of a conversion is shorter than the job',
 }
 
 

@@ -1,3 +1,3 @@
-"""The tool of Ferruntzo: check, explain, list, assemble, show and solve jobs."""
+"""The tool of Ferruntzo: check, explain, convert, list, assemble, show and solve jobs."""
 
-__version__ = '4.1.0'
+__version__ = '5.0.0'

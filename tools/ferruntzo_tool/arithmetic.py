@@ -97,10 +97,18 @@ def add(a, b, sign=1):
                         a.radius + b.radius, common(a, b)))
 
 
+def kept_degree(edition, kept, a, b):
+    """The kept degree that the byte of a multiply stands for, a and b being the degrees of its factors."""
+    if kept != DEFAULT_KEPT:
+        return kept
+    return MAX_DEGREE if edition == 1 else max(a, b)
+
+
 def multiply(a, b, kept):
+    """The product; `kept` is a degree, not left open."""
     interval = common(a, b)
     row = products(a.coefficients, b.coefficients)
-    degree = min(MAX_DEGREE if kept == DEFAULT_KEPT else kept, a.degree + b.degree)
+    degree = min(kept, a.degree + b.degree)
     rounded = [near(row[k], 2 * S) for k in range(degree + 1)]
     lost = (sum(abs(row[k] - 2 * S * c) for k, c in enumerate(rounded)) + weight(row[degree + 1:])
             + 2 * (weight(a.coefficients) * b.radius + weight(b.coefficients) * a.radius

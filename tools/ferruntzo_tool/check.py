@@ -51,7 +51,8 @@ def verdict(name, job, answer, options):
         refusal = REFUSAL.get(answer.refusal)
         meaning = refusal.meaning if refusal else 'not known to this tool'
         return Verdict(BEYOND, f'{name}: REFUSED with {answer.refusal} at command {answer.command} (byte '
-                       f'{place(job, answer.command)}): {meaning}. Do not mill. `ferruntzo explain` says more.')
+                       f'{place(job, answer.command)}): {meaning}.{program.older(job, answer)} Do not mill. `ferruntzo explain` '
+                       'says more.')
     made = sum(step.command.makes for step in split(job)[0])
     if made != len(answer.radii):
         raise NotChecked(f'{name}: results: jobcheck lists {len(answer.radii)}, the job makes {made}; the program '

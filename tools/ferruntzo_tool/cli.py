@@ -6,7 +6,7 @@ import sys
 
 from . import __version__
 from .program import shown
-from .tables import decimal
+from .tables import EDITIONS, decimal
 
 DEFAULT_LIMIT = '2'
 
@@ -66,7 +66,7 @@ class Parser(argparse.ArgumentParser):
 
 def parser():
     top = Parser(
-        prog='ferruntzo', description='Jobs of Chebyshev models for crown mills: check, explain, '
+        prog='ferruntzo', description='Jobs of Chebyshev models for crown mills: check, explain, convert, '
         'list, assemble, show and solve them. docs/MEANING.md says what a verdict promises.')
     top.add_argument('--version', action='version', version=f'ferruntzo {__version__}')
     commands = top.add_subparsers(dest='command', metavar='COMMAND', required=True)
@@ -100,6 +100,14 @@ def parser():
                    'exit status: 0 accepted, 1 refused, 2 not checked')
     made.add_argument('job', metavar='JOB')
     checker(made)
+
+    made = command('convert', 'write a job of edition 1 as a job of edition 2 with the same results, or one of edition 2 as one of '
+                   'edition 1',
+                   epilog='The proved library converts; a kept degree that was left open (the byte 0xff) is stated. If the tool\n'
+                   'itself would convert otherwise, it stops with status 2. FERRUNTZO_LIBRARY can name the library.\n\n'
+                   'exit status: 0 written, 1 the job does not read well, 2 not converted (1 and 2: nothing is written)')
+    made.add_argument('job', metavar='JOB', help='a job file, or - for standard input')
+    made.add_argument('-o', '--output', metavar='OUT', required=True, help='the converted job; a file that is there is replaced')
 
     made = command('list', 'write a job as text, to be read and edited')
     made.add_argument('job', metavar='JOB')
@@ -136,6 +144,9 @@ def parser():
                       '(default: as large as fits)')
     made.add_argument('--only-0x21', action='store_true', help='no root is 0x22: for mills whose jobcheck is older '
                       'than version 3.2.0')
+    made.add_argument('--edition', type=int, choices=EDITIONS, default=1, help='1: kept degrees are stated, 32 (default). '
+                      '2: they are left open, so that a product has the larger degree of its factors and what is dropped goes '
+                      'into its radius; for mills whose jobcheck is of version 5.0.0 or later')
     made.add_argument('--limit-um', metavar='X', default=DEFAULT_LIMIT)
     made.add_argument('--verify', type=count(1, 100000), metavar='K', default=0,
                       help='compare with the margin itself at K + 1 points of each stretch, exactly')
@@ -152,6 +163,8 @@ def run(options):
         from .check import main as command
     elif options.command == 'explain':
         from .explain import main as command
+    elif options.command == 'convert':
+        from .convert import main as command
     elif options.command == 'list':
         from .text import list_main as command
     elif options.command == 'assemble':

@@ -8,7 +8,7 @@ from . import covered, gouge, misfit, misplaced, misread, program
 from .arithmetic import Refused
 from .program import NotChecked, shown
 from .reading import Checked, blocks_of
-from .tables import (DEFAULT_KEPT, LIMIT, REFUSAL, S, STANDARD, in_micrometres, interval_text, is_load,
+from .tables import (DEFAULT_KEPT, LIMIT, MAX_DEGREE, REFUSAL, S, STANDARD, in_micrometres, interval_text, is_load,
                      is_root, is_tight)
 
 
@@ -20,18 +20,29 @@ def plain(units):
     return f'{units / S:.6g}'
 
 
-def operand_word(kind, value):
+def open_word(step, checked):
+    """What a kept degree that is left open stands for in the edition of the job."""
+    if checked.edition == 1:
+        return f'open ({MAX_DEGREE})'
+    factors = step.values['a'], step.values['b']
+    if max(factors) >= len(checked.results):
+        return 'open (the larger degree of the two factors)'
+    return f'open (the larger degree of the two factors, {max(checked.results[i].degree for i in factors)})'
+
+
+def operand_word(kind, name, step, checked):
     """What stands for an operand in the words of its command."""
+    value = step.values[name]
     if kind == 'interval':
         return f'{value.lower:,} to {value.upper:,}'
-    return 'open (32)' if kind == 'kept' and value == DEFAULT_KEPT else value
+    return open_word(step, checked) if kind == 'kept' and value == DEFAULT_KEPT else value
 
 
-def head(outcome):
+def head(outcome, checked):
     """The command in words."""
     step = outcome.step
     made = f' makes result {outcome.result}' if outcome.result is not None else ''
-    words = {name: operand_word(kind, step.values[name]) for kind, name in step.command.operands}
+    words = {name: operand_word(kind, name, step, checked) for kind, name in step.command.operands}
     return f'command {step.number}, byte {step.offset}: {step.command.words.format(**words)}{made}'
 
 
@@ -100,8 +111,23 @@ def test_lines(outcome):
         yield other_line(n, tight)
 
 
-def outcome_lines(outcome):
-    yield head(outcome)
+def dropped_lines(outcome, checked):
+    """That a product dropped coefficients which another kept degree keeps, and what this costs."""
+    m, values = outcome.model, outcome.step.values
+    if 'kept' not in values or not m:
+        return
+    a, b = checked.results[values['a']], checked.results[values['b']]
+    try:
+        whole = ar.multiply(a, b, MAX_DEGREE)
+    except Refused:
+        return
+    if whole.radius < m.radius:
+        yield (f'the coefficients beyond T_{m.degree} were dropped into the radius; with kept degree {MAX_DEGREE} the degree is '
+               f'{whole.degree} and the radius {whole.radius:,} ({in_micrometres(whole.radius)})')
+
+
+def outcome_lines(outcome, checked):
+    yield head(outcome, checked)
     for name, m in blocks_of(outcome.step):
         yield '    ' + block_line(name, m)
     for line in test_lines(outcome):
@@ -112,6 +138,8 @@ def outcome_lines(outcome):
                + (': taken as exact' if m.radius == 0 else ''))
     elif m:
         yield f'    degree {m.degree}, radius {m.radius:,} ({in_micrometres(m.radius)})'
+    for line in dropped_lines(outcome, checked):
+        yield '    ' + line
     if m and m.interval != STANDARD:
         yield f'    interval {interval_text(m.interval)}'
     if outcome.refusal:
@@ -157,7 +185,7 @@ def gouging_lines(found, ends):
 
 def explanation(job, checked):
     for outcome in checked.outcomes:
-        yield from outcome_lines(outcome)
+        yield from outcome_lines(outcome, checked)
     if not checked.accepted and (not checked.outcomes or not checked.outcomes[-1].refusal):
         yield f'command {checked.command}, byte {checked.offset}:'
         yield f'    REFUSED with {checked.refusal}: {checked.cause}'
@@ -194,7 +222,7 @@ def main(options):
         lines = zip_longest(answer.text.split('\n'), checked.text().split('\n'), fillvalue='')
         number, (said, own) = next((i, pair) for i, pair in enumerate(lines, 1) if pair[0] != pair[1])
         print(f'ferruntzo: {shown(name)}: line {number} of jobcheck is "{said}", of this explanation "{own}", so the '
-              'explanation is wrong or the program is not the one it was written for. Do not mill.',
+              f'explanation is wrong or the program is not the one it was written for.{program.older(job, answer)} Do not mill.',
               file=sys.stderr)
         return 2
     last = answer.text.splitlines()[-1]

@@ -79,7 +79,7 @@ def whole_file(job):
     if b'\r\n' in job and Checked(job.replace(b'\r\n', b'\n')).refusal not in (9, 10, 11, 12, 13):
         yield 'each byte 0a became 0d 0a: the file was written or copied in text mode'
     if job[0] != 1 and Checked(b'\x01\x01' + job).command > 1:
-        yield 'the edition is missing: a job begins with the bytes 01 01'
+        yield 'the edition is missing: a job begins with the bytes 01 01 or 01 02'
 
 
 def after_end(job, checked):

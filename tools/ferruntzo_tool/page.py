@@ -93,7 +93,7 @@ def table(checked, ends):
         i, m = outcome.result, outcome.model
         if i is None:
             continue
-        words = 'load' if is_load(outcome.step) else explain.head(outcome).split(': ', 1)[1].split(' makes ')[0]
+        words = 'load' if is_load(outcome.step) else explain.head(outcome, checked).split(': ', 1)[1].split(' makes ')[0]
         remarks = (['read this one'] if i in ends else []) + (['may have been cut'] if i in suspects else [])
         if is_load(outcome.step) and m.radius == 0:
             remarks.append('taken as exact')

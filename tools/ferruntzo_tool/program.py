@@ -134,6 +134,14 @@ def _lines(text):
     return Answer(True, [row[1] for row in rows], [row[2] for row in rows], 0, 0, text)
 
 
+def older(job, answer):
+    """A sentence about a program that does not know the edition of a job, or nothing."""
+    if job[:2] != b'\x01\x02' or (answer.refusal, answer.command) != (9, 0):
+        return ''
+    return (' The job is of edition 2, which jobcheck knows from version 5.0.0 on, and this one does not; `ferruntzo convert` '
+            'makes a job of edition 1 of it.')
+
+
 def run(program, job, name='the job'):
     """The program's answer to a job."""
     name, program_name = shown(name), shown(program)

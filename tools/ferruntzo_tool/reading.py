@@ -11,6 +11,9 @@ from .tables import (BY_BYTE, COEFFICIENTS, DEFAULT_KEPT, EDITIONS, Interval, MA
 # A command as it stands in the job: its number, offset, row of the table and operands by name.
 Step = namedtuple('Step', 'number offset command values offsets')
 
+# A command as it is read: its step, unless its byte is refused, and the refusal of its reading (0: none).
+Place = namedtuple('Place', 'number offset step refusal cause')
+
 # What a step led to: the model that arose, or the refusal, and the numbers of a test.
 Outcome = namedtuple('Outcome', 'step model numbers refusal cause result')
 
@@ -94,10 +97,11 @@ def _byte_fault(job, offset, number):
 
 
 def _value_fault(step, count):
-    """Refusals 9, 12, 13, 2 and 18 of the operands."""
+    """Refusals 9, 12 and 13 of the operands."""
     values, offsets = step.values, step.offsets
     if step.command.name == 'edition' and values['edition'] not in EDITIONS:
-        return 9, f'edition {values["edition"]} at byte {offsets["edition"]} is not known'
+        return 9, (f'edition {values["edition"]} at byte {offsets["edition"]} is not known; there are '
+                   f'{" and ".join(map(str, EDITIONS))}')
     for kind, name in step.command.operands:
         if kind == 'kept' and MAX_DEGREE < values[name] != DEFAULT_KEPT:
             return 9, (f'the kept degree {values[name]} at byte {offsets[name]} is neither 0 to '
@@ -108,12 +112,53 @@ def _value_fault(step, count):
             return 12, f'result {values[name]}, named as {name} at byte {offsets[name]}: {have}'
     if step.command.makes and count >= MAX_RESULTS:
         return 13, f'the command would make result {count}; there are {MAX_RESULTS} at most'
+    return 0, ''
+
+
+def _model_fault(step):
+    """Refusals 2 and 18 of the blocks."""
     for name, m in blocks_of(step):
         if ar.fault(m):
-            return 2, f'block {name} at byte {offsets[name]}: {ar.fault(m)}'
+            return 2, f'block {name} at byte {step.offsets[name]}: {ar.fault(m)}'
         if ar.ends_fault(m.interval):
-            return 18, f'the interval at byte {offsets["interval"]}: {ar.ends_fault(m.interval)}'
+            return 18, f'the interval at byte {step.offsets["interval"]}: {ar.ends_fault(m.interval)}'
     return 0, ''
+
+
+def places(job):
+    """The commands of a job one after the other, its models unchecked. The last is the end, or has the refusal of its
+    reading."""
+    offset = number = made = 0
+    while True:
+        refusal, cause = _byte_fault(job, offset, number)
+        step = None if refusal else step_at(job, offset, number)
+        if step:
+            refusal, cause = _value_fault(step, made)
+            behind = offset + width(step.command)
+            if not refusal and step.command.name == 'end' and behind < len(job):
+                refusal, cause = 11, f'{len(job) - behind} bytes follow the end at byte {offset}'
+        yield Place(number, offset, step, refusal, cause)
+        if refusal or step.command.name == 'end':
+            return
+        offset, number, made = behind, number + 1, made + step.command.makes
+
+
+def stated(step, edition, degrees):
+    """The operands of a command, a kept degree that is left open replaced by what it stands for; `degrees` are those of the
+    results before it."""
+    values = step.values
+    if values.get('kept') != DEFAULT_KEPT:
+        return values
+    return {**values, 'kept': ar.kept_degree(edition, DEFAULT_KEPT, degrees[values['a']], degrees[values['b']])}
+
+
+def static_degree(values, degrees):
+    """The degree of a result from the operands of its command alone, stated, and the degrees of the results before it."""
+    block = values.get('model') or values.get('h')
+    if block:
+        return min(block.degree, MAX_DEGREE)
+    a, b = degrees[values['a']], degrees[values['b']]
+    return min(values['kept'], a + b) if 'kept' in values else max(a, b)
 
 
 def loaded(values):
@@ -131,7 +176,7 @@ def _tested(values, results, numbers):
     return ar.tested(results[values['f']], values['h'], numbers), numbers
 
 
-# The model and the numbers of a test that a command gives for its operands v and the results r.
+# The model and the numbers of a test that a command gives for its operands v, stated, and the results r.
 RULES = {
     'load': lambda v, r: (loaded(v), {}),
     'load_on': lambda v, r: (loaded(v), {}),
@@ -149,7 +194,7 @@ class Checked:
 
     def __init__(self, job):
         self.job, self.outcomes, self.results = job, [], []
-        self.refusal = self.command = 0
+        self.refusal = self.command = self.edition = 0
         self.cause, self.offset, self.makers = '', 0, []
         self._run()
 
@@ -159,34 +204,24 @@ class Checked:
             self.outcomes.append(Outcome(step, None, numbers or {}, number, cause, None))
 
     def _run(self):
-        offset, number = 0, 0
-        while True:
-            self.command, self.offset = number, offset
-            refusal, cause = _byte_fault(self.job, offset, number)
-            if refusal:
-                return self._refuse(refusal, cause)
-            step = step_at(self.job, offset, number)
-            refusal, cause = _value_fault(step, len(self.results))
+        for self.command, self.offset, step, refusal, cause in places(self.job):
+            if not refusal:
+                refusal, cause = _model_fault(step)
             if refusal:
                 return self._refuse(refusal, cause, step)
-            behind = offset + width(step.command)
-            if step.command.name == 'end':
-                if behind < len(self.job):
-                    return self._refuse(11, f'{len(self.job) - behind} bytes follow the end at '
-                                            f'byte {offset}', step)
-                self.outcomes.append(Outcome(step, None, {}, 0, '', None))
-                return None
+            self.edition = step.values.get('edition', self.edition)
             made, numbers, result = None, {}, None
             if step.command.makes:
+                values = stated(step, self.edition, [m.degree for m in self.results])
                 try:
-                    made, numbers = RULES[step.command.name](step.values, self.results)
+                    made, numbers = RULES[step.command.name](values, self.results)
                 except Refused as refused:
                     return self._refuse(refused.number, str(refused), step, refused.numbers)
                 result = len(self.results)
                 self.results.append(made)
                 self.makers.append(step)
             self.outcomes.append(Outcome(step, made, numbers, 0, '', result))
-            offset, number = behind, number + 1
+        return None
 
     @property
     def accepted(self):

@@ -11,12 +11,12 @@ from math import isqrt
 from pathlib import Path
 
 from . import candidates, exact, gouge, program, saving
-from .arithmetic import Refused, add, model, multiply, near, tested, up, weight
+from .arithmetic import Refused, add, kept_degree, model, multiply, near, tested, up, weight
 from .curve import BadCurve, read_curve
 from .exact import Series
 from .program import NotChecked, shown
 from .reading import write_step
-from .tables import BY_NAME, LIMIT, MAX_DEGREE, S, STANDARD, Interval, argument, in_micrometres
+from .tables import BY_NAME, DEFAULT_KEPT, LIMIT, MAX_DEGREE, S, STANDARD, Interval, argument, in_micrometres
 
 SHORTEST = 1 << 8               # parameters; a stretch is not cut below twice that
 MOST_CUTS = 12                  # of an own interval into halves, so that a limit out of reach ends as well
@@ -118,11 +118,12 @@ def largest_scale(stretch, degree):
 # ---- The job of a stretch ----
 
 class Job:
-    """Commands with the models that they give; `roots` are the commands that a root may be."""
+    """Commands with the models that they give; `roots` are the commands that a root may be. A kept degree that is not named is
+    32 in edition 1, and left open in edition 2."""
 
-    def __init__(self, roots=ROOTS):
-        self.bytes, self.results = bytearray(write_step(BY_NAME['edition'], {'edition': 1})), []
-        self.roots, self.used = roots, []
+    def __init__(self, roots=ROOTS, edition=1):
+        self.bytes, self.results = bytearray(write_step(BY_NAME['edition'], {'edition': edition})), []
+        self.roots, self.used, self.edition = roots, [], edition
 
     def _made(self, name, values, result):
         self.bytes += write_step(BY_NAME[name], values)
@@ -140,9 +141,12 @@ class Job:
     def subtract(self, a, b):
         return self.add(a, b, 'subtract')
 
-    def multiply(self, a, b, kept=MAX_DEGREE):
+    def multiply(self, a, b, kept=None):
+        if kept is None:
+            kept = MAX_DEGREE if self.edition == 1 else DEFAULT_KEPT
+        one, two = self.results[a], self.results[b]
         return self._made('multiply', {'a': a, 'b': b, 'kept': kept},
-                          multiply(self.results[a], self.results[b], kept))
+                          multiply(one, two, kept_degree(self.edition, kept, one.degree, two.degree)))
 
     def quotient(self, f, g):
         h, w, numbers = candidates.quotient(self.results[f], self.results[g])
@@ -170,7 +174,7 @@ def bur_load(bur, interval=STANDARD):
     return model([whole], up(missed.numerator, missed.denominator), interval=interval)
 
 
-def add_loads(job, bur, loads, kept=MAX_DEGREE):
+def add_loads(job, bur, loads, kept=None):
     """The commands of one stretch from its four loads, x, y and the normal's two; `bur` is the result with the
     bur's radius, `kept` the kept degree of the squares. Gives the results of the centre's x and y."""
     x, y, normal_x, normal_y = map(job.load, loads)
@@ -181,7 +185,7 @@ def add_loads(job, bur, loads, kept=MAX_DEGREE):
     return job.add(x, offset_x), job.add(y, offset_y)
 
 
-def add_stretch(job, bur, stretch, side, degree=None, scale=None, kept=MAX_DEGREE):
+def add_stretch(job, bur, stretch, side, degree=None, scale=None, kept=None):
     """One stretch; load radii cover rounding and cut. Gives the centre's x and y, the loads and the scale."""
     degree = MAX_DEGREE if degree is None else degree
     scale = largest_scale(stretch, degree) if scale is None else scale
@@ -192,8 +196,8 @@ def add_stretch(job, bur, stretch, side, degree=None, scale=None, kept=MAX_DEGRE
     return add_loads(job, bur, loads, kept), loads, scale
 
 
-def solve_stretch(stretch, bur, side, degree=None, scale=None, kept=MAX_DEGREE, roots=ROOTS):
-    job = Job(roots)
+def solve_stretch(stretch, bur, side, degree=None, scale=None, kept=None, roots=ROOTS, edition=1):
+    job = Job(roots, edition)
     at = job.load(bur_load(bur, stretch.interval))
     _, loads, scale = add_stretch(job, at, stretch, side, degree, scale, kept)
     return Solved(stretch, job, job.results, loads, scale, bur, 1 if side == 'left' else -1)
@@ -267,7 +271,7 @@ def solve(curve, bur, side, options):
     roots = ('root',) if options.only_0x21 else ROOTS
 
     def make(stretch):
-        return solve_stretch(stretch, bur, side, options.degree, options.scale, roots=roots)
+        return solve_stretch(stretch, bur, side, options.degree, options.scale, roots=roots, edition=options.edition)
     for run in curve.runs:
         if options.stretches is None:
             yield from refine(run, run[0].low, run[-1].high, make, options.limit_um)
@@ -326,7 +330,7 @@ def main(options):
             if answer.text != solved.job.text():
                 raise NotChecked(f'{at}: jobcheck does not print what was solved for; is it the '
                                  'program of this version? (--only-0x21 makes jobs for those older than 3.2.0; an own '
-                                 'interval needs 4.0.0)')
+                                 'interval needs 4.0.0, edition 2 5.0.0)')
             error = verified(solved, options.verify) if options.verify else None
             if error is not None and error > final(solved):
                 raise NotChecked(f'{at}: the error against the margin, {error:.3f} units, is above '

@@ -12,7 +12,7 @@ PLACES = 2 * MAX_DEGREE + 1     # of a list C
 MAX_RESULTS = 32
 MAX_JOB_BYTES = 8488            # no longer job is ever accepted
 PROGRAM_BYTES = 65536           # the program reads no longer job
-DEFAULT_KEPT = 0xFF
+DEFAULT_KEPT = 0xFF             # the kept degree is left open; the edition says what it stands for
 
 # The ends of an interval, in units.
 Interval = namedtuple('Interval', 'lower upper')
@@ -45,7 +45,7 @@ COMMANDS = [
 ]
 BY_BYTE = {command.byte: command for command in COMMANDS}
 BY_NAME = {command.name: command for command in COMMANDS}
-EDITIONS = (1,)
+EDITIONS = (1, 2)
 
 
 def is_load(step):
@@ -121,6 +121,8 @@ REFUSALS = [
             'millimetres times 2^20)'),
     Refusal(19, 'DIFFERENT_INTERVALS', 'the two operands of a command are on different intervals',
             'load all that is combined by 0x14 with the same two ends, constants too; a load by 0x10 is on -S..S'),
+    Refusal(20, 'SHORT_OUTPUT', 'the output lent for a converted job is shorter than the job',
+            'lend as many bytes as the job has; a job that is checked never causes it'),
 ]
 REFUSAL = {refusal.number: refusal for refusal in REFUSALS}
 

@@ -4,7 +4,7 @@ A command stands on a line of its own, its blocks on the lines below it:
 
     load radius 0               # result 0
       model degree 2: 238026804 0 119013376
-    multiply 0 0 kept 32        # result 1; `kept open` is the byte 0xff
+    multiply 0 0 kept 32        # result 1; `kept open` is the byte 0xff, whatever the edition
     load_on radius 0 interval 0 2097152     # result 2; lower end, upper end
       model degree 0: 4194304
     bytes 0d 0a                 # bytes that are no command
@@ -12,13 +12,15 @@ A command stands on a line of its own, its blocks on the lines below it:
 Coefficients that are not written are zero. # begins a remark. Nothing is judged: a bad job has a
 text as well."""
 
+import os
 import sys
+import tempfile
 from pathlib import Path
 
 from .arithmetic import Model
 from .program import NotChecked, quoted, read_file, shown
-from .reading import split, write_operand
-from .tables import BY_NAME, COEFFICIENTS, DEFAULT_KEPT, Interval
+from .reading import split, stated, static_degree, write_operand
+from .tables import BY_NAME, COEFFICIENTS, DEFAULT_KEPT, EDITIONS, Interval
 
 HEAD = '# ferruntzo job text 1'
 PER_LINE = 8                    # coefficients
@@ -48,9 +50,28 @@ def inline(kind, value):
     return f'radius {value}' if kind == 'radius' else str(value)
 
 
+def open_degrees(steps):
+    """What each kept degree that is left open stands for, by command, as far as the edition and the results that are named
+    are there."""
+    found, degrees, edition = {}, [], None
+    for step in steps:
+        edition = step.values.get('edition', edition)
+        if not step.command.makes:
+            continue
+        if edition not in EDITIONS or any(step.values[name] >= len(degrees) for kind, name in step.command.operands
+                                          if kind == 'result'):
+            break
+        values = stated(step, edition, degrees)
+        if values is not step.values:
+            found[step.number] = values['kept']
+        degrees.append(static_degree(values, degrees))
+    return found
+
+
 def listing(job):
     """The lines of a job's text."""
     steps, offset = split(job)
+    left_open = open_degrees(steps)
     yield HEAD
     result = 0
     for step in steps:
@@ -60,6 +81,8 @@ def listing(job):
         if step.command.makes:
             told += f', result {result}'
             result += 1
+        if step.number in left_open:
+            told += f'; open is {left_open[step.number]}'
         yield f'{" ".join(words):<23} # {told}'
         for kind, name in step.command.operands:
             if kind == 'block':
@@ -192,11 +215,30 @@ def assemble(text, name='text'):
 
 # ---- subcommands ----
 
-def write(name, data):
-    """Bytes to a file or to standard output; False and a message when that fails."""
+def replace_file(path, data):
+    """A file becomes the data, or stays as it was."""
+    # A file that is there may be a link, which stays one.
+    path = Path(os.path.realpath(path))
+    descriptor, part = tempfile.mkstemp(prefix='.ferruntzo-', dir=path.parent)
     try:
-        if name:
-            Path(name).write_bytes(data)
+        with open(descriptor, 'wb') as file:
+            file.write(data)
+        mask = os.umask(0)
+        os.umask(mask)
+        os.chmod(part, path.stat().st_mode & 0o777 if path.exists() else 0o666 & ~mask)
+        os.replace(part, path)
+    except BaseException:
+        os.unlink(part)
+        raise
+
+
+def write(name, data):
+    """Bytes to a file, whole or not at all, or to standard output; False and a message when that fails."""
+    try:
+        if name and Path(name).exists() and not Path(name).is_file():
+            Path(name).write_bytes(data)                # a device or a pipe
+        elif name:
+            replace_file(name, data)
         else:
             sys.stdout.buffer.write(data)
             sys.stdout.buffer.flush()

@@ -3,3 +3,4 @@ pub mod TightLaws
 pub mod Examples
 pub mod FormerAnswers
 pub mod IntervalExamples
+pub mod EditionExamples

@@ -95,7 +95,7 @@ pub extern "C" fn ferruntzo_subtract(a: &[i32], b: &[i32], out: &mut [i32]) -> u
     perform(Operation::Subtract, a, b, out)
 }
 
-// a times b, to a kept degree from 0 to 32; 255 means 32.
+// a times b, to a kept degree from 0 to 32; 255 means the larger degree of the two.
 #[no_mangle]
 pub extern "C" fn ferruntzo_multiply(a: &[i32], b: &[i32], kept: u32, out: &mut [i32]) -> u32
     ensures { λ r. ⌜ operationAnswer r (now (out .exit))

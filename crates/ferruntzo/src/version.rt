@@ -3,9 +3,9 @@ ghost use mathlib.Core.Path.{_≡_};
 ghost use Rattle.ferruntzo.specs.definitions.Version.{libraryVersion};
 
 // FERRUNTZO_VERSION_MAJOR, _MINOR and _PATCH of include/ferruntzo.h.
-const MAJOR: u32 = 4;
+const MAJOR: u32 = 5;
 
-const MINOR: u32 = 1;
+const MINOR: u32 = 0;
 
 const PATCH: u32 = 0;
 

@@ -32,4 +32,5 @@ pub mod IntervalExamples
 pub mod FormerOperations
 pub mod FormerCommands
 pub mod FormerJob
+pub mod EditionLaws
 pub mod FormerWork

@@ -41,7 +41,7 @@ pub(crate) fn shape_of(b: u8) -> Shape
             kind: Kind::Edition,
             width: 1,
             names: Names::Nothing,
-            values: OperandValues::EditionOne,
+            values: OperandValues::KnownEdition,
         },
         0x02..=0x0f => UNKNOWN,
         0x10 => Shape {

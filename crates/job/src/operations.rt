@@ -106,10 +106,13 @@ fn subtract(job: &[u8], at: usize, work: &[i32]) -> TestOutcome
     untested(model::add::subtract(o.first, o.second))
 }
 
-// The kept degree that a byte means: the choice of 0xFF is made here, and not left to the library.
-fn kept_degree(d: u8) -> u32
-    ensures { λ r. ⌜ r ≡ keptByte d ⌝ }
+// What the library takes for a byte in an edition: in edition 1 0xFF means 32, in edition 2 what 255 means in the library.
+fn kept_byte(edition: u8, d: u8) -> u32
+    ensures { λ r. ⌜ r ≡ keptByte edition d ⌝ }
 {
+    if edition == 2 {
+        return d as u32;
+    }
     if d == 255 {
         Model::MAX_DEGREE
     } else {
@@ -123,7 +126,7 @@ fn multiply(job: &[u8], at: usize, work: &[i32]) -> TestOutcome
         ⌜ Performs (makerAt Operation.Multiply (now (job .entry)) at) (now (work .entry)) (testOf r) ⌝ }
 {
     let o = read_operands(job, at, work);
-    let kept = kept_degree(job[at + 3]);
+    let kept = kept_byte(job[1], job[at + 3]);
     untested(model::multiply::multiply(o.first, o.second, kept))
 }
 

@@ -1,22 +1,20 @@
 // Reading one command: the places of document 01's table that its bytes pass through.
 ghost use mathlib.Core.Path.{_≡_};
-ghost use mathlib.Core.Bool.{_&&_};
+ghost use mathlib.Core.Bool.{not, _&&_};
 ghost use Prim.Native.Nat.{_+_, _≤_};
-ghost use lib.Dec.{leb, ltb};
+ghost use lib.Dec.{leb, ltb, eqb};
 ghost use lib.ListN.{length};
-ghost use Rattle.model.specs.definitions.Models.{maxDegree};
+ghost use Rattle.model.specs.definitions.Multiply.{badKept};
 ghost use Rattle.job.specs.definitions.Reading.{maxResults, badKind, badValues, valueBytes, badBytes, nameBytes};
 ghost use Rattle.job.specs.definitions.Reading.{makesResult, isEnd, commandReading, commandReadingOf};
-ghost use Rattle.job.specs.definitions.Decode.{keptByte};
 use crate::decode::shape_of;
 use crate::types::CommandReading;
 use crate::types::Kind;
+use crate::types::MAX_RESULTS;
 use crate::types::Names;
 use crate::types::OperandValues;
-use model::types::Model;
+use model::multiply::is_bad_kept;
 use model::types::Refusal;
-
-const MAX_RESULTS: usize = 32;
 
 // Unknown, no edition first, edition again.
 fn is_bad_kind(k: usize, kind: Kind) -> bool
@@ -29,25 +27,28 @@ fn is_bad_kind(k: usize, kind: Kind) -> bool
     }
 }
 
-// 33 to 254: 255 means 32.
+// 33 to 254.
 fn is_bad_degree(d: u8) -> bool
-    ensures { λ r. ⌜ r ≡ ltb maxDegree (keptByte d) ⌝ }
+    ensures { λ r. ⌜ r ≡ badKept d ⌝ }
 {
-    if d == 0xff {
-        false
-    } else {
-        Model::MAX_DEGREE < d as u32
-    }
+    is_bad_kept(d as u32)
 }
 
-// Edition not 1; a bad kept degree.
+// Neither edition 1 nor 2.
+fn is_bad_edition(e: u8) -> bool
+    ensures { λ r. ⌜ r ≡ (not (eqb e 1) && not (eqb e 2)) ⌝ }
+{
+    (e != 1) & (e != 2)
+}
+
+// An unknown edition; a bad kept degree.
 fn has_bad_values(values: OperandValues, job: &[u8], at: usize) -> bool
     requires { ⌜ at + 1 + valueBytes values ≤ length (now job) ⌝ }
     ensures { λ r. ⌜ r ≡ badValues values (now (job .entry)) at ⌝ }
 {
     match values {
         OperandValues::Any => false,
-        OperandValues::EditionOne => job[at + 1] != 1,
+        OperandValues::KnownEdition => is_bad_edition(job[at + 1]),
         OperandValues::KeptDegree => is_bad_degree(job[at + 3]),
     }
 }

@@ -2,6 +2,9 @@
 use certificate::types::RootRule;
 use model::types::Refusal;
 
+// Results are counted 0 to 31.
+pub const MAX_RESULTS: usize = 32;
+
 // The operations of the commands that make a result.
 pub enum Operation {
     Load,
@@ -28,10 +31,10 @@ pub enum Names {
     Two,
 }
 
-// What values are asked of a command's operand bytes: none, an edition of 1, or a kept degree after two names.
+// What values are asked of a command's operand bytes: none, a known edition, or a kept degree after two names.
 pub enum OperandValues {
     Any,
-    EditionOne,
+    KnownEdition,
     KeptDegree,
 }
 

@@ -7,7 +7,7 @@ ghost use Rattle.chebyshev.specs.definitions.Product.{productWalk};
 ghost use Rattle.model.specs.definitions.InnerContracts.{Factors, Limited, Multipliable, RoundedWalk, unlessLarge};
 ghost use Rattle.model.specs.definitions.Models.{scale, coefficientCount, productSize};
 ghost use Rattle.model.specs.definitions.Outcomes.{outcomeOf};
-ghost use Rattle.model.specs.definitions.Multiply.{productModel, productVisits, multiplication};
+ghost use Rattle.model.specs.definitions.Multiply.{badKept, keptDegree, productModel, productVisits, multiplication};
 use crate::measure::fault_of;
 use crate::measure::measure;
 use crate::products::add_products;
@@ -23,8 +23,29 @@ use integer::rounding::up_unsigned;
 // One unit of a coefficient, in units of C.
 const UNIT: i64 = 2 * Model::SCALE;
 
-// A kept degree that means MAX_DEGREE.
-const KEEP_ALL: u32 = 255;
+// A kept degree that means the larger degree of the two factors.
+const LARGER_DEGREE: u32 = 255;
+
+// Neither 0 to 32 nor 255.
+pub fn is_bad_kept(kept: u32) -> bool
+    ensures { λ r. ⌜ r ≡ badKept kept ⌝ }
+{
+    if kept == LARGER_DEGREE {
+        false
+    } else {
+        Model::MAX_DEGREE < kept
+    }
+}
+
+// The kept degree that a number stands for between factors of two degrees.
+fn kept_degree(kept: u32, first: u32, second: u32) -> u32
+    ensures { λ r. ⌜ r ≡ keptDegree kept first second ⌝ }
+{
+    if kept != LARGER_DEGREE {
+        return kept;
+    }
+    if first < second { second } else { first }
+}
 
 // A list C, rounded, and how many pairs the walk that formed it visited.
 pub struct RoundedProduct {
@@ -105,14 +126,10 @@ pub fn multiply(a: Model, b: Model, kept: u32) -> ModelOutcome
     if !Interval::is_same(a.interval, b.interval) {
         return ModelOutcome::refused(Refusal::DifferentIntervals);
     }
-    let degree = if kept == KEEP_ALL {
-        Model::MAX_DEGREE
-    } else {
-        kept
-    };
-    if Model::MAX_DEGREE < degree {
+    if is_bad_kept(kept) {
         return ModelOutcome::refused(Refusal::BadValue);
     }
+    let degree = kept_degree(kept, a.degree, b.degree);
     let product = multiply_good(a, b, first.weight, second.weight, degree);
     product.outcome
 }

@@ -51,6 +51,7 @@ pub enum Refusal {
     NoRadius,
     BadEnds,
     DifferentIntervals,
+    ShortOutput,
 }
 
 // How an operation ends.
@@ -95,6 +96,7 @@ pub fn number_of(refusal: Refusal) -> u32
         Refusal::NoRadius => 17,
         Refusal::BadEnds => 18,
         Refusal::DifferentIntervals => 19,
+        Refusal::ShortOutput => 20,
     }
 }
 

@@ -10,5 +10,6 @@ pub mod Jobs
 pub mod Benchmarks
 pub mod Calls
 pub mod Former
+pub mod Editions
 pub mod Contracts
 pub mod Promises

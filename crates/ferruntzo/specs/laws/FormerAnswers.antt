@@ -16,7 +16,7 @@ use Rattle.model.specs.definitions.Integrate.{integration}
 use Rattle.model.specs.definitions.Intervals.{standardInterval}
 use Rattle.model.specs.definitions.Models.{scale}
 use Rattle.model.specs.definitions.Outcomes.{Outcome, refused}
-use Rattle.model.specs.laws.FormerNumbers.{formerAddition, formerSubtraction, formerMultiplication, formerIntegration, formerEvaluation, addition-former, subtraction-former, multiplication-former, integration-former, evaluation-former, formerWords, words-ends, formerAreaModel, area-former}
+use Rattle.model.specs.laws.FormerNumbers.{formerKept, formerAddition, formerSubtraction, formerMultiplication, formerIntegration, formerEvaluation, addition-former, subtraction-former, multiplication-former, integration-former, evaluation-former, formerWords, words-ends, formerAreaModel, area-former}
 use Rattle.model.specs.declared.types.Model.{Model}
 use Rattle.certificate.specs.definitions.Tests.{scratchSize}
 use Rattle.certificate.specs.laws.FormerTests.{formerQuotient, formerRoot, quotient-former, root-former}
@@ -30,7 +30,7 @@ use Rattle.proposals.specs.definitions.Reciprocal.{refusedReciprocal}
 use Rattle.proposals.specs.laws.FormerProposals.{formerReciprocal, formerQuotientProposal, reciprocal-former, quotient-proposal-former}
 use Rattle.job.specs.definitions.Outcomes.{counted, refusalNumber, refusedCommand, resultCount}
 use Rattle.job.specs.definitions.Work.{workSize, workAfter}
-use Rattle.job.specs.laws.FormerJob.{WithoutLoadOn}
+use Rattle.job.specs.laws.FormerJob.{FormerFormat}
 use Rattle.job.specs.laws.FormerWork.{formerCheck, formerScratch, check-former, scratch-former}
 use Rattle.ferruntzo.specs.definitions.Areas.{boundsSize, numbersSize, selectionSize}
 use Rattle.ferruntzo.specs.definitions.Certificates.{shortTest, quotientCall, rootCall}
@@ -70,7 +70,14 @@ formerFor Add a b = formerAddition a b
 formerFor Subtract a b = formerSubtraction a b
 formerFor (Multiply kept) a b = formerMultiplication kept a b
 
-operation-former : (op : Operation) (a b : Model) → a .interval ≡ standardInterval → b .interval ≡ standardInterval → operationFor op a b ≡ formerFor op a b
+-- 02, S-27: "callers who left the choice open must state 32 to get former results"
+abbrev pub statedIn : Operation → Operation
+statedIn Add = Add
+statedIn Subtract = Subtract
+statedIn (Multiply kept) = Multiply (formerKept kept)
+
+operation-former : (op : Operation) (a b : Model) → a .interval ≡ standardInterval → b .interval ≡ standardInterval
+    → operationFor (statedIn op) a b ≡ formerFor op a b
 operation-former Add a b on-a on-b = addition-former a b on-a on-b
 operation-former Subtract a b on-a on-b = subtraction-former a b on-a on-b
 operation-former (Multiply kept) a b on-a on-b = multiplication-former a b on-a on-b kept
@@ -104,7 +111,7 @@ module _ (a : List ℤ) (sa : StandardArea a) where
 
   module _ (b : List ℤ) (sb : StandardArea b) where
     pub operation-call : (op : Operation) (out : List ℤ) → modelSize ≤ length out
-        → cond (fits modelSize a && fits modelSize b && fits modelSize out) (operationFor op (areaModel a) (areaModel b)) shortOutcome
+        → cond (fits modelSize a && fits modelSize b && fits modelSize out) (operationFor (statedIn op) (areaModel a) (areaModel b)) shortOutcome
         ≡ cond (fits 35 a && fits 35 b && fits 35 out) (formerFor op (formerAreaModel a) (formerAreaModel b)) shortOutcome
     operation-call op out long =
         rw (fits-former a (sa .long), fits-former b (sb .long), fits-former out long, standard a sa, standard b sb, operation-former op (formerAreaModel a) (formerAreaModel b) refl refl)
@@ -145,7 +152,7 @@ pub series-call : (series out : List ℤ) → modelSize ≤ length out
 series-call series out long = rw (fits-former out long, conversion-former (areaSeries series))
 
 -- of the work area `work-former` tells (job's FormerWork)
-pub check-call : (job : List ℕ) → WithoutLoadOn job → (work scratch : List ℤ) (answer : List ℕ)
+pub check-call : (job : List ℕ) → FormerFormat job → (work scratch : List ℤ) (answer : List ℕ)
     → workSize ≤ length work → scratchSize ≤ length scratch
     → let o = counted (formerCheck job work scratch) in
     checkAnswer job work scratch answer
@@ -155,4 +162,4 @@ pub check-call : (job : List ℕ) → WithoutLoadOn job → (work scratch : List
     (cond (fits answerSize answer) (formerScratch work scratch) scratch)
     (areaOut answerSize (resultCount o ∷ refusedCommand o ∷ []) answer)
 unfolding checkAnswer
-check-call job none work scratch answer room lent = rw (check-former job none work scratch room lent, scratch-former job none work scratch room lent)
+check-call job format work scratch answer room lent = rw (check-former job format work scratch room lent, scratch-former job format work scratch room lent)

@@ -5,6 +5,7 @@ use Prim.Native.Nat.{ℕ, _+_}
 use lib.Dec.{eqb}
 use Rattle.model.specs.definitions.Intervals.{standardInterval}
 use Rattle.model.specs.definitions.Models.{maxDegree}
+use Rattle.model.specs.definitions.Multiply.{keptDegree}
 use Rattle.certificate.specs.declared.types.RootRule.the-variants.{ByDiscriminant, ByLeastRadius}
 use Rattle.job.specs.definitions.Bytes.{byteAt, unsignedAt, candidateAt, blockAt, intervalAt}
 use Rattle.job.specs.definitions.Operations.{Maker, load, add, subtract, multiply, quotient, root, makingFor, namesIn}
@@ -15,7 +16,7 @@ use Rattle.job.specs.declared.types.Kind.the-variants.{End, Edition, Res
 use Rattle.job.specs.declared.types.Names.{Names}
 use Rattle.job.specs.declared.types.Names.the-variants.{Nothing}
 use Rattle.job.specs.declared.types.OperandValues.{OperandValues}
-use Rattle.job.specs.declared.types.OperandValues.the-variants.{Any, EditionOne, KeptDegree}
+use Rattle.job.specs.declared.types.OperandValues.the-variants.{Any, KnownEdition, KeptDegree}
 use Rattle.job.specs.declared.types.Shape.{Shape}
 
 -- 01's table of commands: the byte of each; 02, S-22: "Add command 0x22, with the operands of 0x21."
@@ -39,9 +40,18 @@ abbrev pub kindIn : List (ℕ × Kind) → ℕ → Kind
 kindIn [] b = Unknown
 kindIn (r ∷ rs) b = cond (eqb b (r .0)) (r .1) (kindIn rs b)
 
--- "0xFF means 32"
-abbrev pub keptByte : ℕ → ℕ
-keptByte d = cond (eqb d 0xFF) maxDegree d
+-- the edition of a job that has one: the operand of its first command
+abbrev pub editionOf : List ℕ → ℕ
+editionOf job = byteAt job 1
+
+-- what the library takes for the byte d of a multiply command in edition e; 02, S-27: "In edition 2 the multiply byte 0xFF,
+-- and in the library 255, means the larger degree of the two factors. Edition 1 keeps 32."
+abbrev pub keptByte : ℕ → ℕ → ℕ
+keptByte e d = cond (eqb e 2) d (cond (eqb d 0xFF) maxDegree d)
+
+-- the kept degree that this byte stands for between factors of degrees n and m
+abbrev pub keptIn : ℕ → ℕ → ℕ → ℕ → ℕ
+keptIn e d n m = keptDegree (keptByte e d) n m
 
 -- the operands of a command: their width, which of their bytes name results, and which values are asked of them
 pub record Layout : Type 0 where
@@ -74,7 +84,7 @@ operationRow Subtract =
 operationRow Multiply = record {
   width = 3;
   values = KeptDegree;
-  maker = λ job at. multiply (byteAt job (at + 1)) (byteAt job (at + 2)) (keptByte (byteAt job (at + 3)));
+  maker = λ job at. multiply (byteAt job (at + 1)) (byteAt job (at + 2)) (keptByte (editionOf job) (byteAt job (at + 3)));
 }
 operationRow Quotient = record {
   width = 268;
@@ -97,7 +107,7 @@ makerAt op job at = operationRow op .maker job at
 
 abbrev pub layoutFor : Kind → Layout
 layoutFor End = record { width = 0; names = Nothing; values = Any }
-layoutFor Edition = record { width = 1; names = Nothing; values = EditionOne }
+layoutFor Edition = record { width = 1; names = Nothing; values = KnownEdition }
 layoutFor (Result o) = operandsFor o
 layoutFor Unknown = record { width = 0; names = Nothing; values = Any }
 

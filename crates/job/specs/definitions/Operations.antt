@@ -20,7 +20,7 @@ use Rattle.model.specs.declared.types.Model.{Model}
 use Rattle.job.specs.declared.types.Names.{Names}
 use Rattle.job.specs.declared.types.Names.the-variants.{Nothing, One, Two}
 
--- a maker of a result with its operands; a kept degree 0xFF is read as 32
+-- a maker of a result with its operands; a kept degree is what the library takes (`keptByte`)
 pub data Maker : Type 0 where
   load : Model → Maker
   add subtract : ℕ → ℕ → Maker

@@ -4,17 +4,17 @@ use mathlib.Core.List.{List, [], _∷_}
 use Prim.Native.Nat.{ℕ, _+_}
 use lib.Dec.{leb, ltb, eqb}
 use lib.ListN.{length}
-use Rattle.model.specs.definitions.Models.{maxDegree}
+use Rattle.model.specs.definitions.Multiply.{badKept}
 use Rattle.model.specs.definitions.Outcomes.{passing, numberOf}
 use Rattle.job.specs.definitions.Bytes.{byteAt}
 use Rattle.job.specs.definitions.Operations.{namesBad}
-use Rattle.job.specs.definitions.Decode.{keptByte, shapeOf, Command, edition, result, finish, unknown, commandAt}
+use Rattle.job.specs.definitions.Decode.{shapeOf, Command, edition, result, finish, unknown, commandAt}
 use Rattle.job.specs.declared.types.Kind.{Kind}
 use Rattle.job.specs.declared.types.Kind.the-variants.{End, Edition, Result, Unknown}
 use Rattle.job.specs.declared.types.Names.{Names}
 use Rattle.job.specs.declared.types.Names.the-variants.{Nothing, One, Two}
 use Rattle.job.specs.declared.types.OperandValues.{OperandValues}
-use Rattle.job.specs.declared.types.OperandValues.the-variants.{Any, EditionOne, KeptDegree}
+use Rattle.job.specs.declared.types.OperandValues.the-variants.{Any, KnownEdition, KeptDegree}
 use Rattle.job.specs.declared.types.Shape.{Shape}
 use Rattle.job.specs.declared.types.CommandReading.{CommandReading as CodeReading}
 use Rattle.job.specs.declared.types.CommandReading.the-variants.{Found, Refused}
@@ -32,11 +32,11 @@ badKind k Edition = not (eqb k 0)
 badKind k (Result o) = eqb k 0
 badKind k Unknown = true
 
--- "operand values: 9, edition not 1; d from 33 to 254"
+-- "operand values: 9, edition not 1; d from 33 to 254"; 02, S-27: "The edition check under 9 admits 1 and 2."
 abbrev pub badValues : OperandValues → List ℕ → ℕ → Bool
 badValues Any job at = false
-badValues EditionOne job at = not (eqb (byteAt job (at + 1)) 1)
-badValues KeptDegree job at = ltb maxDegree (keptByte (byteAt job (at + 3)))
+badValues KnownEdition job at = not (eqb (byteAt job (at + 1)) 1) && not (eqb (byteAt job (at + 1)) 2)
+badValues KeptDegree job at = badKept (byteAt job (at + 3))
 
 -- "result bytes: 12, not yet a result"
 abbrev pub badNames : Command → ℕ → Bool
@@ -59,7 +59,7 @@ nameBytes Two = 2
 
 abbrev pub valueBytes : OperandValues → ℕ
 valueBytes Any = 0
-valueBytes EditionOne = 1
+valueBytes KnownEdition = 1
 valueBytes KeptDegree = 3
 
 -- the commands that make a result

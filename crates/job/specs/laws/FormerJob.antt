@@ -1,12 +1,12 @@
--- Document 02, S-24: a job without command 0x14 has its former outcome. The former places of reading and the run stand here written
--- out, the table of commands in FormerCommands, what each command gave in FormerOperations.
+-- Documents 02, S-24 and S-27: a job without command 0x14 that is not of edition 2 has its former outcome. The former places of
+-- reading and the run stand here written out, the table of commands in FormerCommands, what each command gave in FormerOperations.
 use mathlib.Core.Path.{_≡_, refl, sym, _∙_, ap, subst}
 use mathlib.Core.Bool.{Bool, true, false, true≢false, not, _&&_}
 use mathlib.Core.List.{List, [], _∷_, _++_}
 use mathlib.Core.Logic.{_⊎_, inl, inr}
 use Prim.Native.Nat.{ℕ, zero, suc, _+_}
 use native.Mathlib.Omega.{arith}
-use borrow.Author.Tests.{ltb-true, ltb-false, eq-eqb, not-true}
+use borrow.Author.Tests.{ltb-true, ltb-false, eq-eqb, eqb-true, ne-eqb, not-true}
 use lib.Dec.{leb, ltb, eqb}
 use lib.ListN.{length, length-append, List·getD-append}
 use lib.Seq.{getD-at}
@@ -16,7 +16,7 @@ use Rattle.model.specs.definitions.Outcomes.{payload, passing, Passed, First}
 use Rattle.model.specs.laws.PlaceLaws.{passing-passed, passing-first, first-or-passed}
 use Rattle.model.specs.declared.types.Model.{Model}
 use Rattle.job.specs.definitions.Bytes.{byteAt}
-use Rattle.job.specs.definitions.Decode.{commandBytes, kindIn, Command, edition, result, finish, unknown}
+use Rattle.job.specs.definitions.Decode.{commandBytes, kindIn, editionOf, Command, edition, result, finish, unknown}
 use Rattle.job.specs.definitions.Operations.{resultAt, operation}
 use Rattle.job.specs.definitions.Order.{operationPlaces, resultsAfter, Reaches, start, next}
 use Rattle.job.specs.definitions.Outcomes.{JobOutcome, accepted}
@@ -25,9 +25,10 @@ use Rattle.job.specs.definitions.Run.{onward, run, jobOutcome}
 use Rattle.job.specs.definitions.Step.{Step, more, over, refused, resulting, performed, command}
 use Rattle.job.specs.laws.CommandLaws.{operation-passed, command-readable, command-passed}
 use Rattle.job.specs.laws.ExampleJob.{exampleJob, exampleResults, example-run}
-use Rattle.job.specs.laws.FormerCommands.{FormerRow, formerRow, presentRow, row-former, FormerCommand, present-operands}
+use Rattle.job.specs.laws.FormerCommands.{FormerRow, formerEdition, formerRow, presentRow, row-former, FormerCommand, present-operands}
 use Rattle.job.specs.laws.FormerOperations.{FormerModel, FormerResults, formerOperation, operation-former, result-former}
 use Rattle.job.specs.laws.OrderLaws.{moves-on}
+use Rattle.job.specs.declared.types.Kind.the-variants.{Edition}
 
 -- ---- the run
 
@@ -47,16 +48,16 @@ module _ (job : List ℕ) (k : ℕ) (rs : List Model) (at : ℕ) where
       (leb (length job) at, 10)
       ∷ (r .misplaced k, 9)
       ∷ (ltb (length job) behind, 10)
-      ∷ (r .values job at, 9)
-      ∷ (r .names job at (length rs), 12)
+      ∷ (r .values, 9)
+      ∷ (r .names (length rs), 12)
       ∷ (r .makes && leb 32 (length rs), 13)
       ∷ (r .ends && ltb behind (length job), 11)
       ∷ []
 
   unfoldable pub formerCommand : Step (List Model)
   formerCommand =
-      let r = formerRow (byteAt job at) in
-      passing (formerReadingPlaces r) (formerPerformed (r .command job at) rs (at + 1 + r .width)) refused
+      let r = formerRow job at (byteAt job at) in
+      passing (formerReadingPlaces r) (formerPerformed (r .command) rs (at + 1 + r .width)) refused
 
 unfoldable pub formerRun : ℕ → List ℕ → ℕ → List Model → ℕ → JobOutcome (List Model)
 formerRun zero job k rs at = JobOutcome.refused 10 k
@@ -65,13 +66,18 @@ formerRun (suc f) job k rs at = onward (formerRun f job) k rs (formerCommand job
 unfoldable pub formerJobOutcome : List ℕ → JobOutcome (List Model)
 formerJobOutcome job = formerRun (length job + 1) job 0 [] 0
 
--- ---- a job without command 0x14
+-- ---- a job in the former format
 
 -- no command that is reached has this byte; among the operands it may stand
 abbrev pub WithoutLoadOn : List ℕ → Type 0
 WithoutLoadOn job = (k : ℕ) (rs : List Model) (at : ℕ) → Reaches job k rs at → ¬ (byteAt job at ≡ 0x14)
 
--- so a job that has no such byte at all
+-- nor is it of edition 2
+pub record FormerFormat (job : List ℕ) : Type 0 where
+  pub without : WithoutLoadOn job
+  pub edition : ¬ (editionOf job ≡ 2)
+
+-- a job that has no such byte at all has no such command
 abbrev pub lacksByte : List ℕ → Bool
 lacksByte [] = true
 lacksByte (b ∷ bs) = not (eqb b 0x14) && lacksByte bs
@@ -102,9 +108,12 @@ after-former (result m) rs p n f all =
 after-former finish rs p n f all = all
 after-former unknown rs p n f all = all
 
-module _ (job : List ℕ) (none : WithoutLoadOn job) where
+module _ (job : List ℕ) (format : FormerFormat job) where
+  one : eqb (editionOf job) 2 ≡ false
+  one = ne-eqb (editionOf job) 2 (format .edition)
+
   read-operands : {k : ℕ} {rs : List Model} {at : ℕ} → Reaches job k rs at → FormerCommand (commandRead job k (length rs) at)
-  read-operands {k} {rs} {at} r = present-operands job at (byteAt job at) (none k rs at r)
+  read-operands {k} {rs} {at} r = present-operands job at one (byteAt job at) (format .without k rs at r)
 
   pub reaches-former : {k : ℕ} {rs : List Model} {at : ℕ} → Reaches job k rs at → FormerResults rs
   reaches-former start = λ i h. absurd (omega arith)
@@ -126,15 +135,38 @@ module _ (job : List ℕ) (none : WithoutLoadOn job) where
         by (inl f) = passing-first a refused (f .1) ∙ sym (passing-first b refused (f .1))
         by (inr p) = passing-passed ps a refused p ∙ h p ∙ sym (passing-passed ps b refused p)
 
+    -- what a command of a row does
+    abbrev did : FormerRow → Step (List Model)
+    did x = passing (formerReadingPlaces job k rs at x) (formerPerformed (x .command) rs (at + 1 + x .width)) refused
+
+    -- the edition's row: at the first command the edition is not 2, behind it both refuse the byte
+    edition-former : did (presentRow job at Edition) ≡ did (formerEdition job at)
+    unfolding passing
+    edition-former = by (eqb k 0) refl
+      where
+        first : {j : ℕ} {ms : List Model} {p : ℕ} → Reaches job j ms p → j ≡ 0 → p ≡ 0
+        first start e = refl
+        first (next s f l) e = absurd (omega arith)
+
+        only-one : (t : Bool) → (not t && not false) ≡ not t
+        only-one true = refl
+        only-one false = refl
+
+        values : (b : ℕ) → eqb b 2 ≡ false → (not (eqb b 1) && not (eqb b 2)) ≡ not (eqb b 1)
+        values b e = rw e (only-one (eqb b 1))
+
+        by : (t : Bool) → eqb k 0 ≡ t → did (presentRow job at Edition) ≡ did (formerEdition job at)
+        by true e = rw (values (byteAt job (at + 1)) (ap (λ i. eqb (byteAt job (i + 1)) 2) (first r (eqb-true k 0 e)) ∙ one))
+        by false e = rw e
+
     pub command-former : command job k rs at ≡ formerCommand job k rs at
     unfolding command readingPlaces formerCommand
     command-former =
         let b = byteAt job at in
-        let row = presentRow (kindIn commandBytes b) in
+        let row = presentRow job at (kindIn commandBytes b) in
         passing-same (formerReadingPlaces job k rs at row) _ _
-        (λ p. performed-former (row .command job at) (at + 1 + row .width) (read-operands r) (p .1 .1 .1 .1 .0))
-        ∙ ap (λ (x : FormerRow). passing (formerReadingPlaces job k rs at x) (formerPerformed (x .command job at) rs (at + 1 + x .width)) refused)
-        (row-former b (none k rs at r))
+        (λ p. performed-former (row .command) (at + 1 + row .width) (read-operands r) (p .1 .1 .1 .1 .0))
+        ∙ row-former job at one did edition-former b (format .without k rs at r)
 
   run-former : (f k : ℕ) (rs : List Model) (at : ℕ) → Reaches job k rs at → run f job k rs at ≡ formerRun f job k rs at
   unfolding run formerRun
@@ -159,4 +191,4 @@ pub former-examples : (formerJobOutcome exampleJob ≡ accepted exampleResults)
     × (formerJobOutcome (0x01 ∷ 1 ∷ 0x14 ∷ []) ≡ JobOutcome.refused 9 1)
     × (jobOutcome (0x01 ∷ 1 ∷ 0x14 ∷ []) ≡ JobOutcome.refused 10 1)
 unfolding jobOutcome run command readingPlaces formerJobOutcome formerRun formerCommand passing
-former-examples = (sym (job-former exampleJob (lacks-without exampleJob refl)) ∙ example-run, refl, refl)
+former-examples = (sym (job-former exampleJob (record { without = lacks-without exampleJob refl; edition = λ e. omega arith })) ∙ example-run, refl, refl)

@@ -3,7 +3,7 @@
 use mathlib.Core.Path.{_≡_, refl, sym, _∙_, ap, subst}
 use mathlib.Core.Bool.{not, false}
 use mathlib.Core.List.{List}
-use Prim.Native.Nat.{ℕ, suc, _-_, _*_, _<_}
+use Prim.Native.Nat.{ℕ, suc, _+_, _-_, _*_, _<_, min}
 use native.Mathlib.Omega.{arith}
 use borrow.Author.Tests.{leb-true, leb-false, not-false}
 use lib.Dec.{leb}
@@ -15,10 +15,10 @@ use Rattle.chebyshev.specs.laws.CoefficientLaws.{length-add, length-subtract}
 use Rattle.chebyshev.specs.laws.ProductLaws.{length-product}
 use Rattle.model.specs.definitions.Intervals.{standardInterval}
 use Rattle.model.specs.definitions.Models.{scale, maxDegree, coefficientCount, productSize, terms}
-use Rattle.model.specs.definitions.Multiply.{keptDegree, productDegree}
+use Rattle.model.specs.definitions.Multiply.{multiplication}
 use Rattle.model.specs.definitions.Outcomes.{Outcome, accepted}
 use Rattle.model.specs.definitions.Round.{rounded}
-use Rattle.model.specs.laws.FormerNumbers.{formerSum, formerDifference, formerProduct, formerLoading, formerAddition, formerSubtraction, formerMultiplication, loading-former, addition-former, subtraction-former, multiplication-former}
+use Rattle.model.specs.laws.FormerNumbers.{formerKept, formerSum, formerDifference, formerProduct, formerLoading, formerAddition, formerSubtraction, formerMultiplication, loading-former, addition-former, subtraction-former, multiplication-former}
 use Rattle.model.specs.laws.PlaceLaws.{outcome-accepted}
 use Rattle.model.specs.laws.RoundingPassLaws.{rounded-length}
 use Rattle.model.specs.declared.types.Model.{Model}
@@ -37,12 +37,12 @@ pub record FormerModel (m : Model) : Type 0 where
 abbrev pub FormerResults : List Model → Type 0
 FormerResults rs = (i : ℕ) → i < length rs → FormerModel (resultAt rs i)
 
--- operands as the former commands have them
+-- operands as the former commands have them: a kept degree is stated
 abbrev pub FormerOperands : Maker → Type 0
 FormerOperands (load m) = FormerModel m
 FormerOperands (add i j) = Unit {0}
 FormerOperands (subtract i j) = Unit {0}
-FormerOperands (multiply i j d) = Unit {0}
+FormerOperands (multiply i j d) = formerKept d ≡ d
 FormerOperands (quotient i j h w) = length (h .coefficients) ≡ coefficientCount
 FormerOperands (root rule i h w) = length (h .coefficients) ≡ coefficientCount
 
@@ -56,12 +56,12 @@ formerOperation (quotient i j h w) rs = formerQuotient scratchSize scratchSize (
 formerOperation (root rule i h w) rs = formerRoot rule scratchSize scratchSize (resultAt rs i) h w
 
 -- a product has its 33 coefficients where the kept degree is within its limit
-product-all : (d : ℕ) (a b : Model) → not (leb (keptDegree d) maxDegree) ≡ false → length (formerProduct d a b .coefficients) ≡ coefficientCount
+product-all : (d : ℕ) (a b : Model) → not (leb (formerKept d) maxDegree) ≡ false → length (formerProduct d a b .coefficients) ≡ coefficientCount
 unfolding formerProduct
 product-all d a b h =
-    let n = productDegree d a b in
+    let n = min (formerKept d) (a .degree + b .degree) in
     let c = product ℤ-ring productSize (terms a) (terms b) in
-    let k = leb-true (keptDegree d) maxDegree (not-false (leb (keptDegree d) maxDegree) h) in
+    let k = leb-true (formerKept d) maxDegree (not-false (leb (formerKept d) maxDegree) h) in
     length-append (rounded (2 * scale) (take (suc n) c)) (replicate (coefficientCount - suc n) (pos 0))
     ∙ omega (arith, k, rounded-length (2 * scale) (take (suc n) c), length-take (suc n) c, length-product ℤ-ring productSize (terms a) (terms b), length-replicate (coefficientCount - suc n) (pos 0))
 
@@ -84,7 +84,9 @@ module _ (rs : List Model) (former : FormerResults rs) where
       subtract-operation i j rs ∙ ap untestedOutcome (subtraction-former (resultAt rs i) (resultAt rs j) (f .on) (g .on))
   operation-former (multiply i j d) p n =
       let (f, g) = two i j n in
-      multiply-operation i j d rs ∙ ap untestedOutcome (multiplication-former (resultAt rs i) (resultAt rs j) (f .on) (g .on) d)
+      multiply-operation i j d rs
+      ∙ ap (λ k. untestedOutcome (multiplication k (resultAt rs i) (resultAt rs j))) (sym p)
+      ∙ ap untestedOutcome (multiplication-former (resultAt rs i) (resultAt rs j) (f .on) (g .on) d)
   operation-former (quotient i j h w) p n =
       let (f, g) = two i j n in
       quotient-operation i j h w rs ∙ quotient-former scratchSize scratchSize (resultAt rs i) (resultAt rs j) h w (f .on) (g .on)

@@ -1,4 +1,4 @@
--- Document 02, S-24: over areas that are long enough for both, a job without command 0x14 is answered as before; each stretch of the
+-- Document 02, S-24: over areas that are long enough for both, a job in the former format is answered as before; each stretch of the
 -- work area has its former 35 numbers first, and then −S and S, or zeros where it had zeros.
 use mathlib.Core.Path.{_≡_, refl, sym, _∙_, ap}
 use mathlib.Core.Bool.{Bool, true, false, cond, _&&_}
@@ -23,7 +23,7 @@ use Rattle.job.specs.definitions.Outcomes.{JobOutcome, accepted, refused
 use Rattle.job.specs.definitions.Reading.{maxResults}
 use Rattle.job.specs.definitions.Run.{jobOutcome}
 use Rattle.job.specs.definitions.Work.{workSize, resultWords, workWith, checkNeeding, checkOutcome, resultsIn, workNeeding, workAfter, scratchAfterJob}
-use Rattle.job.specs.laws.FormerJob.{formerJobOutcome, WithoutLoadOn, reaches-former, job-former}
+use Rattle.job.specs.laws.FormerJob.{formerJobOutcome, FormerFormat, reaches-former, job-former}
 use Rattle.job.specs.laws.FormerOperations.{FormerResults}
 use Rattle.job.specs.laws.OrderLaws.{reaches-bounds, accepted-exactly}
 
@@ -112,7 +112,7 @@ no-former-words : formerWords zeroModel ≡ zeros 35
 unfolding zeroModel zeros
 no-former-words = refl
 
--- ---- the results of a job without command 0x14
+-- ---- the results of a job in the former format
 
 -- "Results are counted 0 to 31"
 record FewResults (rs : List Model) : Type 0 where
@@ -152,10 +152,10 @@ ends-former rs i all = by (ltb i (length rs)) refl
         ∙ ap (λ (m : Model). formerWords (resultAt rs i) ++ (m .interval .lower ∷ m .interval .upper ∷ []))
         (List·getD-eq-default rs zeroModel (ltb-false i (length rs) e))
 
-module _ (job : List ℕ) (none : WithoutLoadOn job) where
+module _ (job : List ℕ) (format : FormerFormat job) where
   few-results : (o : JobOutcome (List Model)) → jobOutcome job ≡ o → FewResults (resultsIn o)
   few-results (accepted rs) e =
-      let r = accepted-exactly job rs .0 e .2 in record { former = reaches-former job none r; few = reaches-bounds r .results }
+      let r = accepted-exactly job rs .0 e .2 in record { former = reaches-former job format r; few = reaches-bounds r .results }
   few-results (refused n k) e = record { former = λ i h. absurd (omega arith); few = omega arith }
 
   abbrev results : List Model
@@ -168,7 +168,7 @@ module _ (job : List ℕ) (none : WithoutLoadOn job) where
     pub check-former : checkOutcome job w s ≡ formerCheck job w s
     unfolding checkNeeding formerCheck
     check-former =
-        rw (le-leb workSize (length w) room, le-leb 1120 (length w) fits-before, le-leb scratchSize (length s) lent) (job-former job none)
+        rw (le-leb workSize (length w) room, le-leb 1120 (length w) fits-before, le-leb scratchSize (length s) lent) (job-former job format)
 
     pub scratch-former : scratchAfterJob w s ≡ formerScratch w s
     unfolding scratchAfterJob formerScratch
@@ -180,8 +180,8 @@ module _ (job : List ℕ) (none : WithoutLoadOn job) where
         → take modelSize (drop (modelSize * i) (workAfter job w s)) ≡ take 35 (drop (35 * i) (formerWork job w s)) ++ endsAt results i
     unfolding workNeeding formerWork
     work-former i h =
-        let l : FewResults results = few-results (formerJobOutcome job) (job-former job none) in
-        rw (le-leb workSize (length w) room, le-leb 1120 (length w) fits-before, le-leb scratchSize (length s) lent, job-former job none)
+        let l : FewResults results = few-results (formerJobOutcome job) (job-former job format) in
+        rw (le-leb workSize (length w) room, le-leb 1120 (length w) fits-before, le-leb scratchSize (length s) lent, job-former job format)
         (stretch-now results l (drop workSize w) i h
         ∙ ends-former results i (l .former)
         ∙ ap (λ x. x ++ endsAt results i) (sym (stretch-before results l (drop 1120 w) i h)))

@@ -33,19 +33,21 @@ use Rattle.job.specs.laws.ExampleBytes.{block, modelBy, job, loadBytes, 
 
 abbrev pub readings : List (List ℕ × JobOutcome ℕ)
 readings =
-    -- the shortest job
+    -- the shortest jobs, of both editions
     (job [], accepted 0)
+    ∷ (0x01 ∷ 2 ∷ 0x00 ∷ [], accepted 0)
     -- the job ends: before a command, inside one, before an end
     ∷ ([], refused 10 0)
     ∷ (0x01 ∷ [], refused 10 0)
     ∷ (0x01 ∷ 1 ∷ [], refused 10 1)
     ∷ (0x01 ∷ 1 ∷ 0x11 ∷ 0 ∷ [], refused 10 1)
-    -- unknown bytes; no edition first; an edition again, also without its operand; an edition that is not 1
+    -- unknown bytes; no edition first; an edition again, also without its operand; an edition that is neither 1 nor 2
     ∷ (0x02 ∷ [], refused 9 0)
     ∷ (job (0xFF ∷ []), refused 9 1)
     ∷ (0x00 ∷ [], refused 9 0)
     ∷ (0x01 ∷ 1 ∷ 0x01 ∷ [], refused 9 1)
-    ∷ (0x01 ∷ 2 ∷ 0x00 ∷ [], refused 9 0)
+    ∷ (0x01 ∷ 0 ∷ 0x00 ∷ [], refused 9 0)
+    ∷ (0x01 ∷ 3 ∷ 0x00 ∷ [], refused 9 0)
     -- d from 33 to 254, before its results are looked at
     ∷ (job (0x13 ∷ 0 ∷ 0 ∷ 33 ∷ []), refused 9 1)
     ∷ (job (0x13 ∷ 0 ∷ 0 ∷ 254 ∷ []), refused 9 1)

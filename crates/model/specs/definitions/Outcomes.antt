@@ -11,7 +11,7 @@ use Rattle.model.specs.declared.types.Refusal.the-variants.{ShortArea, B
 use Rattle.model.specs.declared.types.Refusal.the-variants.{NotContracting, LargeResidual, HelperNotPositive}
 use Rattle.model.specs.declared.types.Refusal.the-variants.{NegativeDiscriminant, BadValue, JobEnds, BytesAfterEnd}
 use Rattle.model.specs.declared.types.Refusal.the-variants.{NotAResult, TooManyResults, BadSeries, NotFinite, LargeProposal}
-use Rattle.model.specs.declared.types.Refusal.the-variants.{NoRadius, BadEnds, DifferentIntervals}
+use Rattle.model.specs.declared.types.Refusal.the-variants.{NoRadius, BadEnds, DifferentIntervals, ShortOutput}
 use Rattle.model.specs.declared.types.Verdict.{Verdict}
 use Rattle.model.specs.declared.types.Verdict.the-variants.{Accepted, Refused}
 
@@ -58,7 +58,7 @@ outcome ps a z = passing ps (accepted a) (λ n. refused n z)
 
 -- ---- what the code's answers mean
 
--- the numbers of the table, 14 of request S-3, 15 and 16 of S-19, 17 of S-22, 18 and 19 of S-24
+-- the numbers of the table, 14 of request S-3, 15 and 16 of S-19, 17 of S-22, 18 and 19 of S-24, 20 of S-27
 abbrev pub numberOf : Refusal → ℕ
 numberOf ShortArea = 1
 numberOf BadModel = 2
@@ -79,6 +79,7 @@ numberOf LargeProposal = 16
 numberOf NoRadius = 17
 numberOf BadEnds = 18
 numberOf DifferentIntervals = 19
+numberOf ShortOutput = 20
 
 abbrev pub verdictNumber : Verdict → ℕ
 verdictNumber Accepted = 0

@@ -1,5 +1,5 @@
 -- P1 to P6 of document 01, computed from the definitions: whole outcomes, with all 33 coefficients.
-use mathlib.Core.Path.{_≡_, refl}
+use mathlib.Core.Path.{_≡_, refl, _∙_}
 use mathlib.Core.List.{List, [], _∷_, _++_}
 use Prim.Native.Nat.{_-_}
 use lib.IntN.{ℤ, pos, negsuc}
@@ -7,6 +7,7 @@ use lib.ListN.{length, replicate}
 use Rattle.integer.specs.definitions.Rounding.{floor, up, upℕ, near}
 use Rattle.chebyshev.specs.definitions.Coefficients.{weight, lipschitzWeight, addLists, subtractLists}
 use Rattle.chebyshev.specs.definitions.Product.{product, addAtBy, addPairBy, addTermBy, addTermsBy}
+use Rattle.model.specs.laws.MultiplicationLaws.{larger-kept}
 use Rattle.model.specs.definitions.Models.{coefficientCount, partsWithinLimits, good, tooLarge, standardModel, constantModel, zeroModel}
 use Rattle.model.specs.definitions.Intervals.{goodEnds, extent, sameInterval, contains}
 use Rattle.model.specs.definitions.Outcomes.{accepted, passing}
@@ -40,3 +41,7 @@ Benchmarks =
 pub benchmarks : Benchmarks
 unfolding multiplication sameInterval extent mappedPoint mapsExactly growth contains goodEnds partsWithinLimits lipschitzWeight productModel productList productLoss rounded roundingLoss integration integralModel integralList halved numerators doubleFirst alternating evaluation lowBound highBound pointTerm pointSum pointError passing good tooLarge constantModel zeroModel weight addLists subtractLists addAtBy addPairBy addTermBy addTermsBy product floor up upℕ near
 benchmarks = (refl, refl, refl, refl, refl, refl)
+
+-- 02, S-27: 255 cuts T_1 times T_1 at degree 1, the larger of the two
+pub larger-degree-example : multiplication 255 linear linear ≡ accepted (standardModel 1 (padded (pos 524288 ∷ [])) 524288)
+larger-degree-example = larger-kept linear linear ∙ benchmarks .1

@@ -26,7 +26,7 @@ use Rattle.model.specs.definitions.Integrate.{numerators, halved, altern
 use Rattle.model.specs.definitions.Intervals.{goodEnds, extent, standardInterval, sameInterval, contains}
 use Rattle.model.specs.definitions.Load.{loading}
 use Rattle.model.specs.definitions.Models.{scale, maxDegree, coefficientCount, productSize, terms, withinLimits, good, makeModel, standardModel, zeroModel, badPlace, differentPlace, largePlace}
-use Rattle.model.specs.definitions.Multiply.{keptDegree, productList, productLoss, productModel, multiplication}
+use Rattle.model.specs.definitions.Multiply.{badKept, keptDegree, productList, productLoss, productModel, multiplication}
 use Rattle.model.specs.definitions.Outcomes.{Outcome, outcome, passing, refused}
 use Rattle.model.specs.definitions.Round.{rounded, roundingLoss}
 use Rattle.model.specs.declared.types.Interval.{Interval}
@@ -90,11 +90,15 @@ formerSum a b = standardModel (max (a .degree) (b .degree)) (addLists ℤ-ring (
 unfoldable pub formerDifference : Model → Model → Model
 formerDifference a b = standardModel (max (a .degree) (b .degree)) (subtractLists ℤ-ring (a .coefficients) (b .coefficients)) (a .radius + b .radius)
 
+-- "255, which means 32": until S-27, and for callers that state 32 instead
+abbrev pub formerKept : ℕ → ℕ
+formerKept d = cond (eqb d 255) maxDegree d
+
 -- "degree min(d, sum of the degrees), coefficients c_k = near(C_k/(2S)), and radius up(E/(2S))", "E = Σ|C_k − 2S·c_k| over kept k
 -- + Σ|C_k| over dropped k + 2(A·e_b + B·e_a + e_a·e_b)"
 unfoldable pub formerProduct : ℕ → Model → Model → Model
 formerProduct d a b =
-    let n = min (keptDegree d) (a .degree + b .degree) in
+    let n = min (formerKept d) (a .degree + b .degree) in
     let cs = product ℤ-ring productSize (terms a) (terms b) in
     standardModel n
     (rounded (2 * scale) (take (suc n) cs) ++ replicate (coefficientCount - suc n) (pos 0))
@@ -115,9 +119,34 @@ formerSubtraction a b =
 
 abbrev pub formerMultiplication : ℕ → Model → Model → Outcome Model
 formerMultiplication d a b =
-    outcome (formerPlace a ∷ formerPlace b ∷ (not (leb (keptDegree d) maxDegree), 9) ∷ largePlace (formerProduct d a b) ∷ [])
+    outcome (formerPlace a ∷ formerPlace b ∷ (not (leb (formerKept d) maxDegree), 9) ∷ largePlace (formerProduct d a b) ∷ [])
     (formerProduct d a b)
     zeroModel
+
+-- what d stood for stands for itself, and is refused as d is
+pub kept-stated : (d n m : ℕ) → keptDegree (formerKept d) n m ≡ formerKept d
+kept-stated d n m = by (eqb d 255) refl
+  where
+    by : (t : Bool) → eqb d 255 ≡ t → cond (eqb (cond t maxDegree d) 255) (max n m) (cond t maxDegree d) ≡ cond t maxDegree d
+    by true e = refl
+    by false e = rw e
+
+pub kept-again : (d : ℕ) → formerKept (formerKept d) ≡ formerKept d
+kept-again d = kept-stated d maxDegree maxDegree
+
+pub kept-above : (d : ℕ) → badKept d ≡ ltb maxDegree (formerKept d)
+kept-above d = by (eqb d 255)
+  where
+    by : (t : Bool) → (not t && ltb maxDegree d) ≡ ltb maxDegree (cond t maxDegree d)
+    by true = refl
+    by false = refl
+
+kept-refused : (d : ℕ) → badKept (formerKept d) ≡ not (leb (formerKept d) maxDegree)
+kept-refused d = kept-above (formerKept d) ∙ ap (ltb maxDegree) (kept-again d) ∙ by (formerKept d) (leb (formerKept d) maxDegree) refl
+  where
+    by : (k : ℕ) (t : Bool) → leb k maxDegree ≡ t → ltb maxDegree k ≡ not t
+    by k true e = le-ltb maxDegree k (leb-true k maxDegree e)
+    by k false e = lt-ltb maxDegree k (leb-false k maxDegree e)
 
 pub loading-former : (m : Model) → m .interval ≡ standardInterval → loading m ≡ formerLoading m
 unfolding loading
@@ -136,9 +165,9 @@ module _ (a b : Model) (on-a : a .interval ≡ standardInterval) (on-b : b .inte
   unfolding differenceModel formerDifference
   difference-former = rw on-a
 
-  product-former : (d : ℕ) → productModel d a b ≡ formerProduct d a b
+  product-former : (d : ℕ) → productModel (formerKept d) a b ≡ formerProduct d a b
   unfolding productModel productLoss productList formerProduct
-  product-former d = rw on-a
+  product-former d = rw (on-a, kept-stated d (a .degree) (b .degree))
 
   pub addition-former : addition a b ≡ formerAddition a b
   unfolding addition
@@ -152,12 +181,15 @@ module _ (a b : Model) (on-a : a .interval ≡ standardInterval) (on-b : b .inte
       places-former (largePlace (differenceModel a b) ∷ []) .outcomes Model (differenceModel a b) zeroModel
       ∙ ap (λ m. outcome (formerPlace a ∷ formerPlace b ∷ largePlace m ∷ []) m zeroModel) difference-former
 
-  pub multiplication-former : (d : ℕ) → multiplication d a b ≡ formerMultiplication d a b
+  -- 02, S-27: "callers who left the choice open must state 32 to get former results"
+  pub multiplication-former : (d : ℕ) → multiplication (formerKept d) a b ≡ formerMultiplication d a b
   unfolding multiplication
   multiplication-former d =
-      let kept : Bool × ℕ = (not (leb (keptDegree d) maxDegree), 9) in
-      places-former (kept ∷ largePlace (productModel d a b) ∷ []) .outcomes Model (productModel d a b) zeroModel
+      let k = formerKept d in
+      let kept : Bool × ℕ = (badKept k, 9) in
+      places-former (kept ∷ largePlace (productModel k a b) ∷ []) .outcomes Model (productModel k a b) zeroModel
       ∙ ap (λ m. outcome (formerPlace a ∷ formerPlace b ∷ kept ∷ largePlace m ∷ []) m zeroModel) (product-former d)
+      ∙ ap (λ t. outcome (formerPlace a ∷ formerPlace b ∷ (t, 9) ∷ largePlace (formerProduct d a b) ∷ []) (formerProduct d a b) zeroModel) (kept-refused d)
 
 -- ---- integrate
 

@@ -1,10 +1,11 @@
 -- Laws of multiplication (Multiply.antt) for code that forms the product.
-use mathlib.Core.Path.{_≡_, sym, _∙_, ap, subst}
-use mathlib.Core.Bool.{true}
-use Prim.Native.Nat.{ℕ, suc, _+_, _-_, _*_, _≤_}
+use mathlib.Core.Path.{_≡_, refl, sym, _∙_, ap, subst}
+use mathlib.Core.Bool.{Bool, true, false, not, cond, _&&_}
+use Prim.Native.Nat.{ℕ, suc, _+_, _-_, _*_, _≤_, max}
 use native.Mathlib.Omega.{arith}
+use lib.Dec.{ltb, eqb}
 use lib.ListN.{take}
-use borrow.Author.Tests.{le-leb, ne-eqb}
+use borrow.Author.Tests.{ltb-false, ne-eqb, le-ltb}
 use Rattle.integer.specs.definitions.Integer.{ℤ-ring}
 use Rattle.integer.specs.definitions.Rounding.{upℕ}
 use Rattle.chebyshev.specs.definitions.Coefficients.{weight}
@@ -14,16 +15,25 @@ use Rattle.model.specs.definitions.InnerContracts.{RoundedFrom, RoundedW
 use Rattle.model.specs.definitions.Intervals.{sameInterval}
 use Rattle.model.specs.definitions.Models.{scale, coefficientCount, productSize, maxDegree, good, terms}
 use Rattle.model.specs.definitions.Outcomes.{passing}
-use Rattle.model.specs.definitions.Multiply.{keptDegree, productDegree, productList, productVisits, productLoss, productModel, multiplication}
+use Rattle.model.specs.definitions.Multiply.{badKept, keptDegree, productDegree, productList, productVisits, productLoss, productModel, multiplication}
 use Rattle.model.specs.definitions.Round.{rounded}
 use Rattle.model.specs.laws.FormedLaws.{formed-is}
+use Rattle.model.specs.laws.ModelLaws.{good-is}
 use Rattle.model.specs.declared.types.Model.{Model}
 use Rattle.model.specs.declared.round.Rounded.{Rounded}
 use Rattle.model.specs.declared.multiply.RoundedProduct.{RoundedProduct}
 
 -- a kept degree within the limit stands for itself
-pub kept-is : (d : ℕ) → d ≤ maxDegree → keptDegree d ≡ d
-kept-is d h = rw (ne-eqb d 255 (λ e. omega arith))
+pub kept-is : (d n m : ℕ) → d ≤ maxDegree → keptDegree d n m ≡ d
+kept-is d n m h = rw (ne-eqb d 255 (λ e. omega arith))
+
+-- between factors within the limit what a kept degree stands for is within it
+pub kept-within : (d n m : ℕ) → badKept d ≡ false → n ≤ maxDegree → m ≤ maxDegree → keptDegree d n m ≤ maxDegree
+kept-within d n m h p q = by (eqb d 255) h
+  where
+    by : (t : Bool) → (not t && ltb maxDegree d) ≡ false → cond t (max n m) d ≤ maxDegree
+    by true e = omega arith
+    by false e = ltb-false maxDegree d e
 
 -- what the radii lose: 2(A·e_b + B·e_a + e_a·e_b)
 abbrev pub radiusLoss : Model → Model → ℕ
@@ -49,7 +59,25 @@ product-formed d a b r f =
 
 -- of two good models on one interval and a kept degree within its limit only the result is tested
 pub multiplication-of-good : (d : ℕ) (a b : Model) → good a ≡ true → good b ≡ true
-    → sameInterval (a .interval) (b .interval) ≡ true → keptDegree d ≤ maxDegree
-    → unlessLarge (productModel (keptDegree d) a b) ≡ multiplication d a b
+    → sameInterval (a .interval) (b .interval) ≡ true → badKept d ≡ false
+    → unlessLarge (productModel (keptDegree d (a .degree) (b .degree)) a b) ≡ multiplication d a b
 unfolding multiplication unlessLarge passing productModel
-multiplication-of-good d a b p q s h = rw (p, q, s, le-leb (keptDegree d) maxDegree h, kept-is (keptDegree d) h)
+multiplication-of-good d a b p q s h =
+    let n = keptDegree d (a .degree) (b .degree) in
+    let k = kept-within d (a .degree) (b .degree) h (good-is a p .degree-fits) (good-is b q .degree-fits) in
+    rw (p, q, s, h, kept-is n (a .degree) (b .degree) k)
+
+-- 02, S-27: "in the library 255, means the larger degree of the two factors", whatever the models
+pub larger-kept : (a b : Model) → multiplication 255 a b ≡ multiplication (max (a .degree) (b .degree)) a b
+unfolding multiplication passing productModel
+larger-kept a b = by (good a) refl (good b) refl
+  where
+    n : ℕ
+    n = max (a .degree) (b .degree)
+
+    by : (s : Bool) → good a ≡ s → (t : Bool) → good b ≡ t → multiplication 255 a b ≡ multiplication n a b
+    by false p t q = rw p refl
+    by true p false q = rw (p, q) refl
+    by true p true q =
+        let h : n ≤ maxDegree = omega (arith, good-is a p .degree-fits, good-is b q .degree-fits) in
+        rw (p, q, ne-eqb n 255 (λ e. omega arith), le-ltb maxDegree n h) refl

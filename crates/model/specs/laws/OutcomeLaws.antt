@@ -9,7 +9,7 @@ use Rattle.model.specs.definitions.Evaluate.{boundsOf}
 use Rattle.model.specs.declared.types.ModelOutcome.{ModelOutcome}
 use Rattle.model.specs.declared.types.BoundsOutcome.{BoundsOutcome}
 use Rattle.model.specs.declared.types.Refusal.{Refusal}
-use Rattle.model.specs.declared.types.Refusal.the-variants.{ShortArea, BadModel, LargeResult, PointOutside, NotContracting, LargeResidual, HelperNotPositive, NegativeDiscriminant, BadValue, JobEnds, BytesAfterEnd, NotAResult, TooManyResults, BadSeries, NotFinite, LargeProposal, NoRadius, BadEnds, DifferentIntervals}
+use Rattle.model.specs.declared.types.Refusal.the-variants.{ShortArea, BadModel, LargeResult, PointOutside, NotContracting, LargeResidual, HelperNotPositive, NegativeDiscriminant, BadValue, JobEnds, BytesAfterEnd, NotAResult, TooManyResults, BadSeries, NotFinite, LargeProposal, NoRadius, BadEnds, DifferentIntervals, ShortOutput}
 use Rattle.model.specs.declared.types.Verdict.{Verdict}
 use Rattle.model.specs.declared.types.Verdict.the-variants.{Accepted, Refused}
 
@@ -33,7 +33,8 @@ named n =
     (cond (eqb n 15) NotFinite
     (cond (eqb n 16) LargeProposal
     (cond (eqb n 17) NoRadius
-    (cond (eqb n 18) BadEnds DifferentIntervals)))))))))))))))))
+    (cond (eqb n 18) BadEnds
+    (cond (eqb n 19) DifferentIntervals ShortOutput))))))))))))))))))
 
 named-number : (r : Refusal) → named (numberOf r) ≡ r
 named-number ShortArea = refl
@@ -55,6 +56,7 @@ named-number LargeProposal = refl
 named-number NoRadius = refl
 named-number BadEnds = refl
 named-number DifferentIntervals = refl
+named-number ShortOutput = refl
 
 -- no refusal has the number of an acceptance
 pub numberOf-positive : (r : Refusal) → 0 < numberOf r
@@ -77,6 +79,7 @@ numberOf-positive LargeProposal = omega arith
 numberOf-positive NoRadius = omega arith
 numberOf-positive BadEnds = omega arith
 numberOf-positive DifferentIntervals = omega arith
+numberOf-positive ShortOutput = omega arith
 
 -- only an acceptance has the number 0
 pub zero-accepted : (v : Verdict) → verdictNumber v ≡ 0 → v ≡ Accepted

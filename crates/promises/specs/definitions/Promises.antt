@@ -14,6 +14,7 @@ use Rattle.promises.specs.definitions.Contracts.{ContractClaims}
 use Rattle.promises.specs.definitions.Benchmarks.{Benchmarks}
 use Rattle.promises.specs.definitions.Calls.{Calls}
 use Rattle.promises.specs.definitions.Former.{FormerNumbers}
+use Rattle.promises.specs.definitions.Editions.{KinderDefault, Conversions}
 
 pub record Promises : Type 0 where
   -- requirement 1, what the contracts do not say
@@ -31,7 +32,7 @@ pub record Promises : Type 0 where
   -- what the contracts say of accepted answers
   pub contracts : ContractClaims
   pub calls : Calls
-  -- 02: S-3, S-5, S-8, S-11, S-14, S-17, S-19, S-22, S-24
+  -- 02: S-3, S-5, S-8, S-11, S-14, S-17, S-19, S-22, S-24, S-27
   pub series : SeriesPromises
   pub products : Products
   pub old-sense : OldSense
@@ -43,3 +44,5 @@ pub record Promises : Type 0 where
   pub tighter-roots : TighterRoots
   pub positions : Positions
   pub former-numbers : FormerNumbers
+  pub kinder-default : KinderDefault
+  pub conversions : Conversions

@@ -13,6 +13,7 @@ use Rattle.promises.specs.laws.Contracts.{contracts-say}
 use Rattle.promises.specs.laws.Benchmarks.{benchmarks-hold}
 use Rattle.promises.specs.laws.Calls.{calls-kept}
 use Rattle.promises.specs.laws.Former.{former-numbers}
+use Rattle.promises.specs.laws.Editions.{default-kept, conversions-kept}
 
 pub promises-kept : Promises
 promises-kept = record {
@@ -37,4 +38,6 @@ promises-kept = record {
   tighter-roots = tests.tighter-roots;
   positions = operations.positions-kept;
   former-numbers = former-numbers;
+  kinder-default = default-kept;
+  conversions = conversions-kept;
 }

@@ -6,7 +6,7 @@ use denote.Ref.{now}
 use Rattle.model.specs.definitions.Multiply.{multiplication}
 use Rattle.model.specs.laws.ResultLaws.{multiplication-storable}
 use Rattle.job.specs.definitions.Bytes.{byteAt}
-use Rattle.job.specs.definitions.Decode.{makerAt, keptByte}
+use Rattle.job.specs.definitions.Decode.{editionOf, makerAt, keptByte}
 use Rattle.job.specs.definitions.InnerContracts.{untestedOutcome}
 use Rattle.job.specs.laws.MakerLaws.{multiply-operation}
 use Rattle.job.proofs.OperationLaws.{performs-untested, held-two}
@@ -22,11 +22,11 @@ returns : tie.Need-returns
 unfolding makerAt
 returns c =
     let m = c .before in
-    let d = m .before .before .before in
+    let d = m .before .before .before .before in
     let o = d .read-operands in
     let g = d .before .before .args in
-    let k = keptByte (byteAt (now (g .job)) (g .at + 3)) in
-    let kept = ap (λ (n : ℕ). multiplication n (o .result .first) (o .result .second)) (m .before .kept-degree .ensures) in
+    let k = keptByte (editionOf (now (g .job))) (byteAt (now (g .job)) (g .at + 3)) in
+    let kept = ap (λ (n : ℕ). multiplication n (o .result .first) (o .result .second)) (m .before .kept-byte .ensures) in
     let a = o .result .first in
     let b = o .result .second in
     performs-untested (multiplication k a b) (c .untested .ensures ∙ ap untestedOutcome (m .multiply .ensures ∙ kept))
@@ -38,5 +38,5 @@ returns c =
 pub multiply-spec : {M : Type 1} → statement M
 multiply-spec =
     tie.close (tie.spec
-    read-operands-requires (λ c. search needs) (λ c. search needs) (λ c κs. search needs) (λ c κs. search needs)
-    (λ c κs. search needs) returns)
+    read-operands-requires (λ c. search needs) (λ c. search needs) (λ c. search needs) (λ c κs. search needs)
+    (λ c κs. search needs) (λ c κs. search needs) returns)

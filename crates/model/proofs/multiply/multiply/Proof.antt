@@ -1,17 +1,17 @@
 -- `multiply::multiply` meets its contract: the tests in the order of the definition's places.
 use borrow.Author.Needs.{needs}
-use borrow.Author.Tests.{not-true, not-false, lt-leb, eq-eqb, ne-eqb}
-use mathlib.Core.Path.{_≡_, sym, _∙_, ap, subst}
-use mathlib.Core.Logic.{⊎-elim}
-use mathlib.Core.Bool.{true}
+use borrow.Author.Tests.{not-true, not-false}
+use mathlib.Core.Path.{_≡_, sym, _∙_, ap}
+use mathlib.Core.Bool.{true, false}
 use Prim.Native.Nat.{ℕ, _≤_}
 use native.Mathlib.Omega.{arith}
 use Rattle.model.specs.definitions.InnerContracts.{unlessLarge}
 use Rattle.model.specs.definitions.Models.{maxDegree, good}
 use Rattle.model.specs.definitions.Intervals.{sameInterval}
 use Rattle.model.specs.definitions.Outcomes.{passing}
-use Rattle.model.specs.definitions.Multiply.{keptDegree, productModel, multiplication}
-use Rattle.model.specs.laws.MultiplicationLaws.{multiplication-of-good}
+use Rattle.model.specs.definitions.Multiply.{badKept, keptDegree, productModel, multiplication}
+use Rattle.model.specs.laws.MultiplicationLaws.{kept-within, multiplication-of-good}
+use Rattle.model.specs.laws.ModelLaws.{good-is}
 use Rattle.model.specs.declared.types.Model.{Model}
 use Rattle.model.proofs.multiply.multiply.Statement.{statement}
 use Rattle.model.proofs.multiply.multiply.Tie as tie
@@ -64,46 +64,53 @@ module _ (c : tie.Else3) where
   same-interval : sameInterval (a (e k) .interval) (b (e k) .interval) ≡ true
   same-interval = let g = c .before .is-same in sym (g .ensures) ∙ not-false (g .result) (c .if3 .left)
 
--- 255 means 32
-degree-is : (j : tie.Joined4) → j .if4 .degree ≡ keptDegree (s (e (k (j .before))) .args .kept)
-degree-is j =
-    let d = s (e (k (j .before))) .args .kept in
-    ⊎-elim (λ w. rw (eq-eqb d 255 (w .0 .taken)) (w .1)) (λ w. rw (ne-eqb d 255 (w .0 .left)) (w .1)) (j .if4 .came)
-
 returns-4 : tie.Need-returns-4
 unfolding multiplication passing
 returns-4 c =
-    let j = c .before .before in
-    let h = j .before in
-    let d = keptDegree (s (e (k h)) .args .kept) in
-    rw (c .refused4 .ensures, good-a (e (k h)), good-b (k h), same-interval h, lt-leb d maxDegree (omega (arith, degree-is j)))
+    let g = c .before .before in
+    let h = g .before in
+    rw (c .refused4 .ensures, good-a (e (k h)), good-b (k h), same-interval h, ← (g .is-bad-kept .ensures), c .before .if4 .taken)
+
+-- a kept degree that is not refused
+module _ (c : tie.After-kept-degree) where
+  abbrev h : tie.Else3
+  h = c .before .before .before
+
+  abbrev x : tie.Else1
+  x = e (k h)
+
+  abbrev d : ℕ
+  d = s x .args .kept
+
+  not-bad : badKept d ≡ false
+  not-bad = sym (c .before .before .is-bad-kept .ensures) ∙ c .before .if4 .left
+
+  stands-for : c .kept-degree .result ≡ keptDegree d (a x .degree) (b x .degree)
+  stands-for = c .kept-degree .ensures
+
+  within : keptDegree d (a x .degree) (b x .degree) ≤ maxDegree
+  within = kept-within d (a x .degree) (b x .degree) not-bad (good-is (a x) (good-a x) .degree-fits) (good-is (b x) (good-b (k h)) .degree-fits)
 
 multiply-good-requires : tie.Need-multiply-good-requires
-multiply-good-requires c κs =
-    let k = k (c .before .before) in
-    let x = e k in
-    record {
-      first-good = good-a x;
-      second-good = good-b k;
-      first-weight = x .before .before .measure .ensures .1;
-      second-weight = k .before .before .measure2 .ensures .1;
-      kept-fits = c .if5 .left;
-    }
+multiply-good-requires c κs = record {
+  first-good = good-a (x c);
+  second-good = good-b (k (h c));
+  first-weight = x c .before .before .measure .ensures .1;
+  second-weight = k (h c) .before .before .measure2 .ensures .1;
+  kept-fits = omega (arith, stands-for c, within c);
+}
 
 returns-5 : tie.Need-returns-5
 returns-5 c =
     let g = c .before in
-    let j = g .before .before in
-    let h = j .before in
-    let x = e (k h) in
-    let d = s x .args .kept in
+    let w = g .before in
     g .multiply-good .ensures .0
-    ∙ ap (λ (n : ℕ). unlessLarge (productModel n (a x) (b x))) (degree-is j)
-    ∙ multiplication-of-good d (a x) (b x) (good-a x) (good-b (k h)) (same-interval h) (subst (λ (n : ℕ). n ≤ maxDegree) (degree-is j) (g .before .if5 .left))
+    ∙ ap (λ (n : ℕ). unlessLarge (productModel n (a (x w)) (b (x w)))) (stands-for w)
+    ∙ multiplication-of-good (d w) (a (x w)) (b (x w)) (good-a (x w)) (good-b (k (h w))) (same-interval (h w)) (not-bad w)
 
 pub multiply-spec : {M : Type 1} → statement M
 multiply-spec =
     tie.close (tie.spec
     (λ c κs. search needs) (λ c κs. search needs) (λ c κs. search needs) returns (λ c κs. search needs) (λ c κs. search needs)
-    (λ c κs. search needs) returns-2 (λ c κs. search needs) (λ c κs. search needs) returns-3 (λ c κs. search needs) returns-4
-    multiply-good-requires returns-5)
+    (λ c κs. search needs) returns-2 (λ c κs. search needs) (λ c κs. search needs) returns-3 (λ c κs. search needs) (λ c κs. search needs) returns-4
+    (λ c κs. search needs) multiply-good-requires returns-5)

@@ -64,7 +64,7 @@ module _ (j : tie.Joined1) where
 
   degree-is : j .if1 .degree ≡ productDegree (s .args .kept) (a s) (b s)
   degree-is =
-      let e = kept-is (s .args .kept) (s .pre .kept-fits) in
+      let e = kept-is (s .args .kept) (a s .degree) (b s .degree) (s .pre .kept-fits) in
       ⊎-elim (λ w. omega (arith, w .0, w .1)) (λ w. omega (arith, w .0, w .1)) (j .if1 .came)
 
 round-product-requires : tie.Need-round-product-requires
@@ -74,7 +74,7 @@ round-product-requires c κs =
     omega (
       arith,
       degree-is j,
-      kept-is (s .args .kept) (s .pre .kept-fits),
+      kept-is (s .args .kept) (a s .degree) (b s .degree) (s .pre .kept-fits),
       s .pre .kept-fits,
       first-length s,
       second-length s,

@@ -1,0 +1,3 @@
+pub mod Degrees
+pub mod Editions
+pub mod InnerContracts

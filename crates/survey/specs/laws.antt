@@ -1,0 +1,15 @@
+pub mod DegreeLaws
+pub mod NameLaws
+pub mod AdvanceLaws
+pub mod ConvertedBytes
+pub mod ConvertedCommand
+pub mod ConvertedFollows
+pub mod ConvertedSame
+pub mod ConvertedReads
+pub mod ConvertedTwice
+pub mod ConvertedCopied
+pub mod ConvertedOutput
+pub mod WalkLaws
+pub mod OutputLaws
+pub mod JobLength
+pub mod Examples
