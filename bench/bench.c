@@ -16,7 +16,8 @@
    count, time and stack first compare all answers and areas of the versions.  count and
    alone have the tests of every degree from 4 to 32, time and stack of 4, 8, 16 and 32.
    The last JOB must hold a load and 31 roots; its first 1, 4 and 16 results are cases too, and
-   so are the first JOB with its loads on another interval, and its conversion to the other edition. */
+   so are the first JOB with its loads on another interval, and its conversion to the other edition.
+   Each JOB is also checked with the reports of workshop and service. */
 #define _POSIX_C_SOURCE 200809L
 #include "ferruntzo.h"
 #include "former.h"
@@ -49,6 +50,8 @@ typedef uint32_t make_reciprocal_entry(const int32_t *, size_t, double *, size_t
 typedef uint32_t make_quotient_entry(const int32_t *, size_t, const int32_t *, size_t, double *, size_t,
                                      int32_t *, size_t, int32_t *, size_t, uint32_t *, size_t);
 typedef uint32_t convert_edition_entry(const uint8_t *, size_t, uint8_t *, size_t, uint32_t *, size_t);
+typedef uint32_t report_entry(const uint8_t *, size_t, int32_t *, size_t, int64_t *, size_t, uint8_t *, size_t,
+                              uint32_t *, size_t);
 multiply_entry plain2_multiply, plain3_multiply;
 integrate_entry plain2_integrate, plain3_integrate;
 evaluate_entry plain2_evaluate, plain3_evaluate;
@@ -58,6 +61,7 @@ check_entry plain2_check, plain3_check;
 from_series_entry plain2_from_series, plain3_from_series;
 quotient_of_two_entry plain2_quotient_of_two, plain3_quotient_of_two;
 convert_edition_entry plain2_convert_edition, plain3_convert_edition;
+report_entry plain2_check_workshop, plain3_check_workshop, plain2_check_service, plain3_check_service;
 make_reciprocal_entry plain2_make_reciprocal, plain3_make_reciprocal, passes_make_reciprocal;
 make_quotient_entry plain2_make_quotient, plain3_make_quotient, passes_make_quotient;
 
@@ -76,6 +80,12 @@ make_quotient_entry plain2_make_quotient, plain3_make_quotient, passes_make_quot
 #ifdef WITHOUT_CONVERT_EDITION
 #define ferruntzo_convert_edition NULL
 #endif
+#ifdef WITHOUT_CHECK_WORKSHOP
+#define ferruntzo_check_workshop NULL
+#endif
+#ifdef WITHOUT_CHECK_SERVICE
+#define ferruntzo_check_service NULL
+#endif
 
 struct version {
     const char *name;
@@ -90,6 +100,7 @@ struct version {
     make_reciprocal_entry *make_reciprocal;
     make_quotient_entry *make_quotient;
     convert_edition_entry *convert_edition;
+    report_entry *check_workshop, *check_service;
 };
 
 enum { LIBRARY, PLAIN_O2, PLAIN_O3, PASSES, FORMER, VERSIONS };
@@ -97,25 +108,29 @@ enum { LIBRARY, PLAIN_O2, PLAIN_O3, PASSES, FORMER, VERSIONS };
 static const struct version versions[VERSIONS] = {
     {"library", ferruntzo_multiply, ferruntzo_integrate, ferruntzo_evaluate, ferruntzo_quotient,
      ferruntzo_root, ferruntzo_tight_root, ferruntzo_check, ferruntzo_from_series,
-     ferruntzo_quotient_of_two, ferruntzo_make_reciprocal, ferruntzo_make_quotient, ferruntzo_convert_edition},
+     ferruntzo_quotient_of_two, ferruntzo_make_reciprocal, ferruntzo_make_quotient, ferruntzo_convert_edition,
+     ferruntzo_check_workshop, ferruntzo_check_service},
     {"O2", plain2_multiply, plain2_integrate, plain2_evaluate, plain2_quotient, plain2_root,
      plain2_tight_root, plain2_check, plain2_from_series, plain2_quotient_of_two,
-     plain2_make_reciprocal, plain2_make_quotient, plain2_convert_edition},
+     plain2_make_reciprocal, plain2_make_quotient, plain2_convert_edition, plain2_check_workshop,
+     plain2_check_service},
     {"O3", plain3_multiply, plain3_integrate, plain3_evaluate, plain3_quotient, plain3_root,
      plain3_tight_root, plain3_check, plain3_from_series, plain3_quotient_of_two,
-     plain3_make_reciprocal, plain3_make_quotient, plain3_convert_edition},
+     plain3_make_reciprocal, plain3_make_quotient, plain3_convert_edition, plain3_check_workshop,
+     plain3_check_service},
     {.name = "passes", .make_reciprocal = passes_make_reciprocal, .make_quotient = passes_make_quotient},
     {.name = "former"},
 };
 
 enum kind {
     MULTIPLY, INTEGRATE, EVALUATE, QUOTIENT, ROOT, TIGHT_ROOT, CHECK, FROM_SERIES, QUOTIENT_OF_TWO,
-    MAKE_RECIPROCAL, MAKE_QUOTIENT, CONVERT_EDITION
+    MAKE_RECIPROCAL, MAKE_QUOTIENT, CONVERT_EDITION, CHECK_WORKSHOP, CHECK_SERVICE
 };
 
 static const char *const kind_names[] = {"multiply", "integrate", "evaluate", "quotient", "root", "tight_root",
                                          "check", "from_series", "quotient_of_two", "make_reciprocal",
-                                         "make_quotient", "convert_edition"};
+                                         "make_quotient", "convert_edition", "check_workshop",
+                                         "check_service"};
 
 struct bench_case {
     enum kind kind;
@@ -418,6 +433,18 @@ static void add_conversions(const struct bench_case *job)
     }
 }
 
+/* The check of a job with each report. */
+static void add_reports(const struct bench_case *job)
+{
+    for (enum kind kind = CHECK_WORKSHOP; kind <= CHECK_SERVICE; kind++) {
+        char name[sizeof job->name];
+        snprintf(name, sizeof name, "%s %.30s", kind == CHECK_WORKSHOP ? "workshop" : "service", job->name);
+        struct bench_case *report = new_case(kind, name, -1);
+        report->job = job->job;
+        report->job_len = job->job_len;
+    }
+}
+
 /* The first results of a job of a load and roots, and an end. */
 static void add_prefix(const struct bench_case *job, int results)
 {
@@ -451,6 +478,7 @@ static struct areas {
     int32_t h[FERRUNTZO_CANDIDATE_SIZE], w[FERRUNTZO_CANDIDATE_SIZE];
     uint32_t outcome[FERRUNTZO_OUTCOME_SIZE];
     uint8_t output[FERRUNTZO_MAX_JOB_BYTES];
+    uint8_t workshop[FERRUNTZO_WORKSHOP_ROOM], service[FERRUNTZO_SERVICE_ROOM];
 } lent;
 static volatile double deviation;
 static int logged;              /* whether each call is written down, for mode count */
@@ -513,6 +541,14 @@ static void call(int v, const struct bench_case *c)
     case CONVERT_EDITION:
         lent.number = version->convert_edition(c->job, c->job_len, WHOLE(lent.output), WHOLE(lent.answer));
         break;
+    case CHECK_WORKSHOP:
+        lent.number = version->check_workshop(c->job, c->job_len, WHOLE(lent.work), WHOLE(lent.scratch),
+                                              WHOLE(lent.workshop), WHOLE(lent.answer));
+        break;
+    case CHECK_SERVICE:
+        lent.number = version->check_service(c->job, c->job_len, WHOLE(lent.work), WHOLE(lent.scratch),
+                                             WHOLE(lent.service), WHOLE(lent.answer));
+        break;
     }
 }
 
@@ -526,6 +562,8 @@ static int has_version(int v, const struct bench_case *c)
     case MAKE_RECIPROCAL: return versions[v].make_reciprocal != NULL;
     case MAKE_QUOTIENT: return versions[v].make_quotient != NULL;
     case CONVERT_EDITION: return versions[v].convert_edition != NULL;
+    case CHECK_WORKSHOP: return versions[v].check_workshop != NULL;
+    case CHECK_SERVICE: return versions[v].check_service != NULL;
     default: return v != PASSES;
     }
 }
@@ -726,6 +764,8 @@ int main(int argc, char **argv)
             add_open(degree);
         add_conversions(job);
     }
+    for (int i = first; i < argc; i++)
+        add_reports(job + i - first);
     if (!alone)
         compare_versions();
     if (logged)

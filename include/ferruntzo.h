@@ -6,20 +6,21 @@
    proposed quotient or square root is accepted with a proved radius or refused, a
    root by either of two tests; of two proposals for one quotient the tighter is
    chosen; proposals for reciprocals and quotients are made in double arithmetic, for
-   these tests to judge; and a whole job of such commands is checked, or converted from
-   one edition of the format to the other.
+   these tests to judge; and a whole job of such commands is checked, with a report
+   record of each result if one is wanted, or converted from one edition of the format
+   to the other.
 
    Link with libferruntzo.a, which scripts/build_library makes (x86-64, System V
    calling convention), or with libferruntzo.so, which is linked from it:
 
      cc -Iinclude program.c target/staticlib/libferruntzo.a
 
-   examples/check_job.c, examples/two_proposals.c and examples/make_proposal.c are
-   programs to copy, docs/FORMAT.md the format of jobs.  "01" below is the scope
-   document that fixes every number but those of power series, of ties, of two
-   proposals, of the scratch, of made proposals, of the tighter root test, of
-   intervals and of editions, which change requests S-3, S-11, S-14, S-17, S-19, S-22,
-   S-24 and S-27 fix.
+   examples/check_job.c, examples/report_job.c, examples/two_proposals.c and
+   examples/make_proposal.c are programs to copy, docs/FORMAT.md the format of jobs.
+   "01" below is the scope document that fixes every number but those of power series,
+   of ties, of two proposals, of the scratch, of made proposals, of the tighter root
+   test, of intervals, of editions and of report records, which change requests S-3,
+   S-11, S-14, S-17, S-19, S-22, S-24, S-27 and S-30 fix.
 
    NUMBERS
 
@@ -98,8 +99,19 @@
    - The first 16 numbers of scratch are zero after every call of
      ferruntzo_quotient, ferruntzo_root, ferruntzo_tight_root and
      ferruntzo_quotient_of_two.
-   ferruntzo_check says what holds of its work, scratch and answer, and
-   ferruntzo_convert_edition of its out, which has no size, and its answer.
+   ferruntzo_check says what holds of its work, scratch and answer,
+   ferruntzo_check_workshop and ferruntzo_check_service, which are like it there, what
+   holds of their room, and ferruntzo_convert_edition what of its out, which has no size,
+   and its answer.
+
+   FROM 5.0 TO 5.1: WHAT IS NEW
+
+   - ferruntzo_check_workshop and ferruntzo_check_service check a job and write a report
+     record of each result, with the constants of their rooms and records and
+     FERRUNTZO_FIELD.
+   - FERRUNTZO_REPORT_SIZE, the former name of FERRUNTZO_NUMBERS_SIZE, is gone: it had
+     nothing to do with these records.  A source that used it says FERRUNTZO_NUMBERS_SIZE.
+   - Nothing else changes: a program that was linked with 5.0 runs as it did.
 
    FROM 4.x TO 5.0.0: WHAT A CALLER CHANGES
 
@@ -139,9 +151,9 @@ extern "C" {
 /* ---- Version ---- */
 
 #define FERRUNTZO_VERSION_MAJOR 5
-#define FERRUNTZO_VERSION_MINOR 0
+#define FERRUNTZO_VERSION_MINOR 1
 #define FERRUNTZO_VERSION_PATCH 0
-#define FERRUNTZO_VERSION "5.0.0"
+#define FERRUNTZO_VERSION "5.1.0"
 /* What ferruntzo_version of a library of this version answers. */
 #define FERRUNTZO_VERSION_NUMBER \
     (65536 * FERRUNTZO_VERSION_MAJOR + 256 * FERRUNTZO_VERSION_MINOR + FERRUNTZO_VERSION_PATCH)
@@ -165,7 +177,6 @@ extern "C" {
 #define FERRUNTZO_BOUNDS_SIZE 2       /* int64_t: low, high */
 #define FERRUNTZO_SCRATCH_SIZE 16     /* int64_t; 65 before version 3.0.0 */
 #define FERRUNTZO_NUMBERS_SIZE 3      /* uint64_t: m, N, b */
-#define FERRUNTZO_REPORT_SIZE FERRUNTZO_NUMBERS_SIZE  /* its former name */
 #define FERRUNTZO_WORK_SIZE 1184      /* int32_t: 32 models; 1120 before version 4.0.0 */
 #define FERRUNTZO_ANSWER_SIZE 2       /* uint32_t: count (of a conversion the length), command */
 #define FERRUNTZO_SELECTION_SIZE 2    /* uint32_t: chosen, radius */
@@ -216,6 +227,26 @@ extern "C" {
 #define FERRUNTZO_MAX_JOB_BYTES 8488
 /* The program jobcheck prints "too long" above this; the library has no limit. */
 #define FERRUNTZO_PROGRAM_JOB_BYTES 65536
+
+/* ---- Report records of a job: sizes and places in bytes ---- */
+
+#define FERRUNTZO_WORKSHOP_ROOM 192     /* 32 records of the workshop */
+#define FERRUNTZO_SERVICE_ROOM 576      /* 32 records of the service */
+#define FERRUNTZO_WORKSHOP_RECORD 6     /* number, degree, radius; that of result i stands at 6 * i */
+#define FERRUNTZO_SERVICE_RECORD 18     /* number, degree, m, N, b, radius; that of result i stands at 18 * i */
+/* Inside a record: number and degree are a byte each, the others four bytes for FERRUNTZO_FIELD. */
+#define FERRUNTZO_RECORD_NUMBER 0       /* of both readings */
+#define FERRUNTZO_RECORD_DEGREE 1
+#define FERRUNTZO_WORKSHOP_RADIUS 2
+#define FERRUNTZO_SERVICE_M 2
+#define FERRUNTZO_SERVICE_N 6
+#define FERRUNTZO_SERVICE_B 10
+#define FERRUNTZO_SERVICE_RADIUS 14
+
+/* The number, unsigned and little-endian, in the four bytes (uint8_t) from a pointer on, which is
+   evaluated four times: FERRUNTZO_FIELD(room + FERRUNTZO_SERVICE_RECORD * i + FERRUNTZO_SERVICE_M). */
+#define FERRUNTZO_FIELD(bytes) \
+    ((uint32_t)(bytes)[0] | (uint32_t)(bytes)[1] << 8 | (uint32_t)(bytes)[2] << 16 | (uint32_t)(bytes)[3] << 24)
 
 /* ---- Refusals ---- */
 
@@ -500,6 +531,53 @@ uint32_t ferruntzo_check(const uint8_t *job, size_t job_len,
                          int32_t *work, size_t work_len,
                          int64_t *scratch, size_t scratch_len,
                          uint32_t *answer, size_t answer_len);
+
+/* Check a job as ferruntzo_check does, and write a report record of each result to room,
+   which has 32 records.  There are two readings of it: the workshop's has the number, degree
+   and radius of a result, the service's also the m, N and b of its test.
+   Sizes: work 1184, scratch 16, room 192 (workshop) or 576 (service), answer 2.
+
+   Number, work, scratch and answer are those of ferruntzo_check on the same job, but that a
+   room which is too short is refused with 1.
+
+   Accepted: the record of result i is the 6 bytes at room + 6 * i of the workshop, the 18
+   bytes at room + 18 * i of the service; the rest of the 192 or 576 bytes is zero, all of them
+   if there is no result.  The bytes of a record, in this order:
+     number   1 byte, i
+     degree   1 byte, of result i, as work[37 * i]
+     m, N, b  4 bytes each, of the service alone: what ferruntzo_quotient, ferruntzo_root or
+              ferruntzo_tight_root writes to numbers for a command 0x20, 0x21 or 0x22; zero
+              for every other command, since no test ran
+     radius   4 bytes, of result i, as work[37 * i + FERRUNTZO_PLACE_RADIUS]
+   Four bytes are an unsigned number, little-endian, which FERRUNTZO_FIELD reads.  The number is
+   below 32, the degree at most 32, m below S, N at most 2^28, b at most the radius and the
+   radius at most 2^28.
+
+   Two accepted jobs of equal count leave the same 192 bytes exactly when their results agree
+   in number, degree and radius, however their candidates differ, and the same 576 bytes
+   exactly when they agree in m, N and b too.  (Of unequal count they can leave the same: a job
+   of no result, and one that loads a model of degree 0 and radius 0, and nothing else.)
+
+   Refused with a number above 1: the 192 or 576 bytes of room are zero; the number and the
+   command in answer[1] are all that a refused job reports.
+
+   Refused with 1: room is not touched, nor are work and scratch.  If answer has its 2 numbers
+   they are 0 and 0, also if the room is what is too short.
+
+   The bytes of room behind the 192 or 576 always stay.
+
+   Refusals: 1 (answer, work, scratch or room); then those of ferruntzo_check. */
+uint32_t ferruntzo_check_workshop(const uint8_t *job, size_t job_len,
+                                  int32_t *work, size_t work_len,
+                                  int64_t *scratch, size_t scratch_len,
+                                  uint8_t *room, size_t room_len,
+                                  uint32_t *answer, size_t answer_len);
+
+uint32_t ferruntzo_check_service(const uint8_t *job, size_t job_len,
+                                 int32_t *work, size_t work_len,
+                                 int64_t *scratch, size_t scratch_len,
+                                 uint8_t *room, size_t room_len,
+                                 uint32_t *answer, size_t answer_len);
 
 /* Converts the job_len bytes at job, a job of either edition, to the other one.  Its check
    and that of the converted job answer the same: the same results, or the same refusal at

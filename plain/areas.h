@@ -15,6 +15,7 @@
 #define UPPER 36
 #define MODEL_SIZE 37
 #define CANDIDATE_SIZE 34
+#define NUMBERS_SIZE 3           /* m, N, b */
 
 enum { SHORT_AREA = 1, BAD_MODEL = 2, BAD_ENDS = 18, DIFFERENT_INTERVALS = 19 };
 

@@ -3,14 +3,13 @@
 
 #include "expansion_table.h"
 #include "models.h"
-#include "reading.h"
+#include "reports.h"
 
 #define PROPOSAL_SIZE (2 * CANDIDATE_SIZE)
 #define SERIES_SIZE 34
 #define BOUNDS_SIZE 2
 #define PRODUCT_SIZE 65          /* the list C */
 #define SCRATCH_SIZE 16
-#define NUMBERS_SIZE 3
 #define WORK_SIZE (MAX_RESULTS * MODEL_SIZE)
 #define SELECTION_SIZE 2
 #define EXPANSION_UNIT ((int64_t)1 << 32)
@@ -508,12 +507,12 @@ static void read_block(const uint8_t *p, int32_t *candidate)
         candidate[1 + k] = read_i32(p + 1 + 4 * k);
 }
 
-/* One command that makes a result; out is its own 37 numbers of the work area, zero so far. */
+/* One command that makes a result; out is its own 37 numbers of the work area, zero so far, as are
+   numbers: m, N and b. */
 static uint32_t operate(uint8_t edition, uint8_t byte, const uint8_t *operands, size_t names,
-                        const int32_t *work, int32_t *out)
+                        const int32_t *work, int32_t *out, uint64_t *numbers)
 {
     int32_t h[CANDIDATE_SIZE], w[CANDIDATE_SIZE];
-    uint64_t numbers[NUMBERS_SIZE];
     const int32_t *a = names > 0 ? work + MODEL_SIZE * operands[0] : NULL;
     const int32_t *b = names > 1 ? work + MODEL_SIZE * operands[1] : NULL;
     if (byte == 0x10 || byte == 0x14) {
@@ -536,8 +535,8 @@ static uint32_t operate(uint8_t edition, uint8_t byte, const uint8_t *operands, 
     return test_tight_root(a, h, w, out, numbers);
 }
 
-/* Checks the commands in turn; leaves the last command's number in *command. */
-static uint32_t run(const uint8_t *job, size_t job_len, int32_t *work,
+/* Checks the commands in turn, and reports each result; leaves the last command's number in *command. */
+static uint32_t run(const uint8_t *job, size_t job_len, int32_t *work, enum report report, uint8_t *room,
                     uint32_t *count, uint32_t *command)
 {
     size_t position = 0;
@@ -548,24 +547,32 @@ static uint32_t run(const uint8_t *job, size_t job_len, int32_t *work,
             return number;
         if (read.byte == 0x01)
             continue;
-        number = operate(job[1], read.byte, read.operands, read.names, work, work + MODEL_SIZE * *count);
+        int32_t *result = work + MODEL_SIZE * *count;
+        uint64_t numbers[NUMBERS_SIZE] = {0};
+        number = operate(job[1], read.byte, read.operands, read.names, work, result, numbers);
         if (number != 0)
             return number;
+        write_record(report, room, *count, result, numbers);
         ++*count;
     }
 }
 
-uint32_t plain_check(const uint8_t *job, size_t job_len, int32_t *work, size_t work_len,
-                     int64_t *scratch, size_t scratch_len, uint32_t *answer, size_t answer_len)
+/* Checks a job, with the report that is wanted. */
+static uint32_t check_job(const uint8_t *job, size_t job_len, int32_t *work, size_t work_len,
+                          int64_t *scratch, size_t scratch_len, enum report report, uint8_t *room,
+                          size_t room_len, uint32_t *answer, size_t answer_len)
 {
     uint32_t count, command;
-    if (!CLEAR(answer, ANSWER_SIZE) || work_len < WORK_SIZE || scratch_len < SCRATCH_SIZE)
+    if (!CLEAR(answer, ANSWER_SIZE) || work_len < WORK_SIZE || scratch_len < SCRATCH_SIZE
+        || room_len < room_size(report))
         return SHORT_AREA;
     memset(work, 0, WORK_SIZE * sizeof *work);
-    uint32_t number = run(job, job_len, work, &count, &command);
+    clear_room(report, room);
+    uint32_t number = run(job, job_len, work, report, room, &count, &command);
     memset(scratch, 0, SCRATCH_SIZE * sizeof *scratch);
     if (number != 0) {
         memset(work, 0, WORK_SIZE * sizeof *work);
+        clear_room(report, room);
         answer[1] = command;
     } else {
         answer[0] = count;
@@ -573,9 +580,31 @@ uint32_t plain_check(const uint8_t *job, size_t job_len, int32_t *work, size_t w
     return number;
 }
 
+uint32_t plain_check(const uint8_t *job, size_t job_len, int32_t *work, size_t work_len,
+                     int64_t *scratch, size_t scratch_len, uint32_t *answer, size_t answer_len)
+{
+    return check_job(job, job_len, work, work_len, scratch, scratch_len, NO_REPORT, NULL, 0, answer, answer_len);
+}
+
+uint32_t plain_check_workshop(const uint8_t *job, size_t job_len, int32_t *work, size_t work_len,
+                              int64_t *scratch, size_t scratch_len, uint8_t *room, size_t room_len,
+                              uint32_t *answer, size_t answer_len)
+{
+    return check_job(job, job_len, work, work_len, scratch, scratch_len, WORKSHOP, room, room_len, answer,
+                     answer_len);
+}
+
+uint32_t plain_check_service(const uint8_t *job, size_t job_len, int32_t *work, size_t work_len,
+                             int64_t *scratch, size_t scratch_len, uint8_t *room, size_t room_len,
+                             uint32_t *answer, size_t answer_len)
+{
+    return check_job(job, job_len, work, work_len, scratch, scratch_len, SERVICE, room, room_len, answer,
+                     answer_len);
+}
+
 /* ---- The version ---- */
 
 uint32_t plain_version(void)
 {
-    return 5 << 16;
+    return (5 << 16) + (1 << 8);
 }

@@ -80,4 +80,16 @@ uint32_t plain_check(const uint8_t *job, size_t job_len,
                      int64_t *scratch, size_t scratch_len,
                      uint32_t *answer, size_t answer_len);
 
+/* The same, with a record of each result in room: number, degree, radius, and for the service m, N and b. */
+uint32_t plain_check_workshop(const uint8_t *job, size_t job_len,
+                              int32_t *work, size_t work_len,
+                              int64_t *scratch, size_t scratch_len,
+                              uint8_t *room, size_t room_len,
+                              uint32_t *answer, size_t answer_len);
+uint32_t plain_check_service(const uint8_t *job, size_t job_len,
+                             int32_t *work, size_t work_len,
+                             int64_t *scratch, size_t scratch_len,
+                             uint8_t *room, size_t room_len,
+                             uint32_t *answer, size_t answer_len);
+
 #endif

@@ -12,8 +12,8 @@ from header import (
     ACCEPTED, ANSWER_SIZE, BAD_ENDS, BAD_MODEL, BAD_SERIES, BAD_VALUE, BOUNDS_SIZE, BYTES_AFTER_END,
     CANDIDATE_SIZE, DIFFERENT_INTERVALS, HELPER_NOT_POSITIVE, JOB_ENDS, LARGE_RESIDUAL, LARGE_RESULT, MAX_DEGREE,
     MAX_RESULTS, MODEL_SIZE, NEGATIVE_DISCRIMINANT, NO_RADIUS, NOT_A_RESULT, NOT_CONTRACTING, NUMBERS_SIZE, OUTCOME_SIZE,
-    POINT_OUTSIDE, QUOTIENT_RECORD_SIZE, RECIPROCAL_RECORD_SIZE, SCRATCH_SIZE, SELECTION_SIZE, SERIES_SIZE, SHORT_OUTPUT,
-    TOO_MANY_RESULTS, VALUES_SIZE, WORK_SIZE)
+    POINT_OUTSIDE, QUOTIENT_RECORD_SIZE, RECIPROCAL_RECORD_SIZE, SCRATCH_SIZE, SELECTION_SIZE, SERIES_SIZE, SERVICE_ROOM, SHORT_OUTPUT,
+    TOO_MANY_RESULTS, VALUES_SIZE, WORK_SIZE, WORKSHOP_ROOM)
 from oracle import LIMIT, S, constant, model, power, series, term
 from power_basis import PRODUCT_SIZE
 from selection_cases import DIVIDEND, DIVISOR, TESTED
@@ -21,13 +21,14 @@ from series_cases import GROWN
 
 # Areas of each entry: array type code, size in numbers, and what it is.  A job, a proposal and an output are never too short an area.
 ANY_LENGTH = ('job', 'proposal', 'output')
-PROPOSAL = ('i', 0, 'proposal')
+PROPOSAL, JOB = ('i', 0, 'proposal'), ('B', 0, 'job')
 MODEL_IN, CANDIDATE_IN = ('i', MODEL_SIZE, 'in'), ('i', CANDIDATE_SIZE, 'in')
 SERIES_IN = ('i', SERIES_SIZE, 'in')
 OUT, BOUNDS = ('i', MODEL_SIZE, 'out'), ('q', BOUNDS_SIZE, 'bounds')
 SCRATCH, NUMBERS = ('q', SCRATCH_SIZE, 'scratch'), ('Q', NUMBERS_SIZE, 'numbers')
 # A double is lent as its 64 bits.
 DOUBLES = ('record', 'values')
+WORK, ANSWER = ('i', WORK_SIZE, 'work'), ('I', ANSWER_SIZE, 'answer')
 H, W, OUTCOME = ('i', CANDIDATE_SIZE, 'h'), ('i', CANDIDATE_SIZE, 'w'), ('I', OUTCOME_SIZE, 'outcome')
 AREAS = {
     'add': (MODEL_IN, MODEL_IN, OUT),
@@ -37,15 +38,19 @@ AREAS = {
     'evaluate': (MODEL_IN, BOUNDS),
     'quotient': (MODEL_IN, MODEL_IN, CANDIDATE_IN, CANDIDATE_IN, SCRATCH, OUT, NUMBERS),
     'root': (MODEL_IN, CANDIDATE_IN, CANDIDATE_IN, SCRATCH, OUT, NUMBERS),
-    'check': (('B', 0, 'job'), ('i', WORK_SIZE, 'work'), SCRATCH, ('I', ANSWER_SIZE, 'answer')),
+    'check': (JOB, WORK, SCRATCH, ANSWER),
     'from_series': (SERIES_IN, OUT),
     'quotient_of_two': (MODEL_IN, MODEL_IN, PROPOSAL, PROPOSAL, SCRATCH, ('I', SELECTION_SIZE, 'answer')),
     'make_reciprocal': (MODEL_IN, ('Q', RECIPROCAL_RECORD_SIZE, 'record'), W, OUTCOME),
     'make_quotient': (MODEL_IN, MODEL_IN, ('Q', QUOTIENT_RECORD_SIZE, 'record'), H, W, OUTCOME),
     'to_units': (('Q', VALUES_SIZE, 'values'), ('i', CANDIDATE_SIZE, 'units')),
     'tight_root': (MODEL_IN, CANDIDATE_IN, CANDIDATE_IN, SCRATCH, OUT, NUMBERS),
-    'convert_edition': (('B', 0, 'job'), ('B', 0, 'output'), ('I', ANSWER_SIZE, 'answer')),
+    'convert_edition': (JOB, ('B', 0, 'output'), ANSWER),
+    'check_workshop': (JOB, WORK, SCRATCH, ('B', WORKSHOP_ROOM, 'room'), ANSWER),
+    'check_service': (JOB, WORK, SCRATCH, ('B', SERVICE_ROOM, 'room'), ANSWER),
 }
+REPORTS = 'check_workshop', 'check_service'
+CHECKS = 'check', *REPORTS        # the entries that check a job
 # Numbers that a long enough area has beyond its size; a scratch half of the time none, else up to those of the list C and one more.
 MORE = {what: (0, 0, 1, 3) for areas in AREAS.values() for _, _, what in areas}
 MORE['scratch'] = (0, 0, 0, 0, 1, *(PRODUCT_SIZE + more - SCRATCH_SIZE for more in (-1, 0, 1)))
@@ -116,6 +121,8 @@ WITNESSES['tight_root'] = {NO_RADIUS if number == NEGATIVE_DISCRIMINANT else num
 # A job is converted where it reads well: each refusal of its reading, and 20 with an output one byte too short.
 WITNESSES['convert_edition'] = {number: (WITNESSES['check'][number][0], 1) for number in (
     ACCEPTED, BAD_VALUE, JOB_ENDS, BYTES_AFTER_END, NOT_A_RESULT, TOO_MANY_RESULTS)} | {SHORT_OUTPUT: (example_job(), -1)}
+# A report has the numbers of its check.
+WITNESSES.update((entry, WITNESSES['check']) for entry in REPORTS)
 
 
 def witness(entry, number):

@@ -14,7 +14,9 @@ accepted cases is also put through the soundness checks, of tests and jobs those
 with a scratch of 16; of the models that are made of series, of the chosen
 proposals and of the tighter roots, each as it was answered.  Each made proposal is
 put to the quotient test, and what that accepts is checked too.  What is put to the
-tighter root test is put to the root test too.
+tighter root test is put to the root test too, and some of the checked jobs to both
+reports, whose number, work, scratch and answer must be the check's: what holds of its
+results holds of theirs.
 """
 
 import argparse
@@ -40,6 +42,8 @@ import job_cases
 import oracle as o
 import proposal_cases
 import proposal_oracle
+import report_cases
+import report_oracle
 import scratch_cases
 import selection_cases
 import series_cases
@@ -47,9 +51,9 @@ import soundness
 import tight_root_cases
 import tight_root_jobs
 import unit_cases
-from area_cases import ANSWERS, ANY_LENGTH, AREAS, DOUBLES, MORE, WITNESSES, area_cases, sized, witness
-from counts import (WHOLE, check_editions, check_intervals, check_pairs, check_proposals, check_scratches, check_tight_roots,
-                    check_ties)
+from area_cases import ANSWERS, ANY_LENGTH, AREAS, CHECKS, DOUBLES, MORE, REPORTS, WITNESSES, area_cases, sized, witness
+from counts import (WHOLE, check_editions, check_intervals, check_pairs, check_proposals, check_reports, check_scratches,
+                    check_tight_roots, check_ties)
 from examples_of_01 import check_examples
 from group_cases import group_cases
 from header import CANDIDATE_SIZE, MODEL_SIZE, PLACE_RADIUS, SCRATCH_SIZE, SHORT_AREA, WORK_SIZE, check_header
@@ -62,13 +66,14 @@ ENTRIES = list(AREAS)
 # Shares of the random cases.
 SHARE = {'add': 2, 'subtract': 2, 'multiply': 3, 'integrate': 3, 'evaluate': 3,
          'quotient': 4, 'root': 4, 'check': 5, 'from_series': 3, 'quotient_of_two': 3,
-         'make_reciprocal': 1, 'make_quotient': 1, 'to_units': 60, 'tight_root': 4, 'convert_edition': 2}
+         'make_reciprocal': 1, 'make_quotient': 1, 'to_units': 60, 'tight_root': 4, 'convert_edition': 2,
+         'check_workshop': 1, 'check_service': 1}
 BATCH = 2000
 SOUNDNESS_SAMPLE = 0.04
 SAMPLE_ON_INTERVALS = 0.3   # of the accepted cases on another interval than the standard one, and of jobs with 0x14
 SAMPLE_OF_16 = 0.25         # of the accepted cases that have a scratch, of 16 numbers
 ANSWERED = ('from_series', 'quotient_of_two', 'tight_root')     # checked for soundness as the library answered, each of them
-UNVOUCHED = (*proposal_cases.WRITTEN, 'convert_edition')     # nothing holds of what they answer but its bits
+UNVOUCHED = (*proposal_cases.WRITTEN, 'convert_edition', *REPORTS)   # nothing holds of what they answer but its bits; reports: as check
 
 
 def stop(message):
@@ -88,6 +93,16 @@ def room_of(case):
     return max(0, len(case.inputs[0]) + case.scalar)
 
 
+def job_contents(outcome):
+    """Number, and the new contents of work, scratch and answer after a job."""
+    verdict, first, second, *_ = outcome
+    contents = {'work': [0] * WORK_SIZE, 'scratch': [0] * SCRATCH_SIZE}
+    if verdict == 'accepted':
+        contents['work'][:MODEL_SIZE * first] = [c for m in second for c in flat(m)]
+        return 0, {**contents, 'answer': [first, 0]}
+    return first, {**contents, 'answer': [0, second]}
+
+
 def oracle_answer(case):
     """Number, and the new contents of each area that is written to, all being long enough."""
     entry, inputs = case.entry, case.inputs
@@ -104,12 +119,10 @@ def oracle_answer(case):
         number, *selected = o.quotient_of_two(*inputs)
         return number, {'scratch': [0] * SCRATCH_SIZE, 'answer': selected}
     if entry == 'check':
-        verdict, first, second = o.check_job(*inputs)
-        contents = {'work': [0] * WORK_SIZE, 'scratch': [0] * SCRATCH_SIZE}
-        if verdict == 'accepted':
-            contents['work'][:MODEL_SIZE * first] = [c for m in second for c in flat(m)]
-            return 0, {**contents, 'answer': [first, 0]}
-        return first, {**contents, 'answer': [0, second]}
+        return job_contents(o.check_job(*inputs))
+    if entry in REPORTS:
+        number, contents = job_contents(report_oracle.checked(*inputs))
+        return number, {**contents, 'room': report_oracle.room(entry, *inputs)}
     if entry == 'convert_edition':
         number, answer, output = edition_oracle.convert_edition(*inputs, room_of(case))
         return number, {'output': output, 'answer': answer}
@@ -123,12 +136,12 @@ def oracle_answer(case):
 def answer_to(case, lengths):
     """Number, and the new contents of each area that is written to.  Refusal 1 leaves zeros in
     what the entry answers in, in an output of its whole length, and in the scratch of a test; of
-    work and scratch of a job document 01 says "neither is touched".  An area that is itself too
-    short is never touched."""
+    work and scratch of a job document 01 says "neither is touched", and 02 the same of a room.
+    An area that is itself too short is never touched."""
     areas = AREAS[case.entry]
     short = {what for length, (_, size, what) in zip(lengths, areas) if length < size}
     if short:
-        zeroed = ANSWERS if case.entry == 'check' else (*ANSWERS, 'scratch')
+        zeroed = ANSWERS if case.entry in CHECKS else (*ANSWERS, 'scratch')
         number = SHORT_AREA
         contents = {what: [0] * (room_of(case) if what == 'output' else size) for _, size, what in areas if what in zeroed}
     else:
@@ -231,10 +244,10 @@ def perhaps_shortened(rng, case):
 def make_cases(entries, wanted, rng):
     """All fixed cases of the entries, then random ones up to the number wanted."""
     fixed = {**cases.FIXED, **certificate_cases.FIXED, **job_cases.FIXED, **series_cases.FIXED, **selection_cases.FIXED,
-             **proposal_cases.FIXED, **unit_cases.FIXED, **tight_root_cases.FIXED, **edition_cases.FIXED}
+             **proposal_cases.FIXED, **unit_cases.FIXED, **tight_root_cases.FIXED, **edition_cases.FIXED, **report_cases.FIXED}
     drawn = {**cases.RANDOM, **certificate_cases.RANDOM, 'check': job_cases.RandomJobs(), **series_cases.RANDOM,
              **selection_cases.RANDOM, **proposal_cases.RANDOM, **unit_cases.RANDOM, **tight_root_cases.RANDOM,
-             'convert_edition': edition_cases.RandomConversions()}
+             'convert_edition': edition_cases.RandomConversions(), **report_cases.random_reports()}
     made = 0
     for entry in entries:
         for case in (*area_cases(entry), *scratch_cases.scratch_cases(entry), *group_cases(entry), *fixed[entry](),
@@ -250,7 +263,7 @@ def make_cases(entries, wanted, rng):
 
 def with_tests(drawn, entries):
     """Each case, behind one that makes a proposal the quotient test of that, behind a tighter root test the root test of the same
-    candidates, and behind a conversion the checks of the two jobs and the conversion back."""
+    candidates, behind a conversion the checks of the two jobs and the conversion back, and behind some checks the reports."""
     for case in drawn:
         yield case
         if 'root' in entries and case.entry == 'tight_root' and not case.lengths:
@@ -259,6 +272,8 @@ def with_tests(drawn, entries):
             yield from proposal_cases.tests_of(case)
         if 'check' in entries and case.entry == 'convert_edition':
             yield from edition_cases.behind(case)
+        if case.entry == 'check' and not case.lengths:
+            yield from report_cases.behind(case, entries)
 
 
 def run_harness(program, calls, runner):
@@ -307,6 +322,11 @@ def answered_job(case, areas, answer):
     (count, command), _ = answered_row(case, areas, answer)
     work, _ = answered_row(case, areas, answer, ('work',))
     return command, [model_of(work[MODEL_SIZE * i:MODEL_SIZE * (i + 1)]) for i in range(count)]
+
+
+def job_parts(case, areas, answer):
+    """Number, work, scratch and answer of a job's answer, without what stands behind them."""
+    return answer[:4], *(answered_row(case, areas, answer, (what,))[0] for what in ('work', 'scratch', 'answer'))
 
 
 def plant_fault(options, batch, answers):
@@ -359,6 +379,7 @@ def main():
     unit_cases.check_units()
     tight_root_cases.check_tight()
     edition_cases.check_conversions()
+    report_cases.check_reports()
 
     rng, sound_rng = Random(options.seed), Random(options.seed)
     began = time.perf_counter()
@@ -366,6 +387,7 @@ def main():
     pairs, made, units, sound, sound_of_16, tight, tight_jobs, placed, placed_jobs, conversions, second_jobs = (
         Counter() for _ in range(11))
     scratches = {entry: Counter() for entry in entries if entry in scratch_cases.PLACES}
+    reports, rooms = {entry: Counter() for entry in entries if entry in REPORTS}, report_cases.Rooms()
     counts, ties = ({entry: Counter() for entry in entries} for _ in range(2))
     with tempfile.TemporaryDirectory() as folder:
         program = build_harness(folder, entries, options.library, options.plain,
@@ -388,6 +410,12 @@ def main():
                 if expected == found and case.entry in ANSWERED and number == 0:
                     soundness.check_answered(sound_rng, case, answered_model(case, areas, found))
                     count_sound(case, areas, [])
+                beside = reports and case.entry in CHECKS and not case.lengths
+                if beside and rooms.other_than_check(case, job_parts(case, areas, found)):
+                    differences += 1
+                    print(f'{case.entry}: not as the check of the same job: {str(case)[:600]}')
+                if expected == found and case.entry in REPORTS and number == 0:
+                    rooms.keep(case, answered_job(case, areas, found)[1], answered_row(case, areas, found, ('room',))[0].tobytes())
                 if expected != found:
                     differences += 1
                     spoiled.discard(i)
@@ -417,6 +445,9 @@ def main():
                 units.update(unit_cases.kinds(case, number))
             if case.entry in ('convert_edition', 'multiply'):
                 conversions.update(edition_cases.kinds(case, lengths, number))
+            if case.entry in REPORTS:
+                reports[case.entry].update(report_cases.kinds(case, lengths, number))
+                rooms.expect(case, number)
             if case.entry == 'tight_root':
                 tight.update(tight_root_cases.kinds(case, lengths, number))
             tight['0x21 behind it'] += case.entry == 'root' and previous == case._replace(entry='tight_root')
@@ -443,15 +474,17 @@ def main():
         numbers = ' '.join(f'{n}:{c}' for n, c in sorted(counts[entry].items()))
         print(f'{entry}: {sum(counts[entry].values())} cases (number:cases {numbers})')
     total = sum(sum(c.values()) for c in counts.values())
-    print('accepted cases with a tie:', check_ties(ties, total))
+    others = total - sum(sum(counts[entry].values()) for entry in reports)     # what the other kinds are a share of
+    print('accepted cases with a tie:', check_ties(ties, others))
     if 'quotient_of_two' in entries:
-        print('pairs of proposals:', check_pairs(pairs, sound['quotient_of_two'], entries, total))
+        print('pairs of proposals:', check_pairs(pairs, sound['quotient_of_two'], entries, others))
     if scratches:
-        print('scratches:', check_scratches(scratches, sound_of_16, entries, total))
-    for text in (*check_proposals(made, units, entries, total),
-                 *check_tight_roots(tight, tight_jobs, sound['tight_root'], entries, total),
-                 *check_intervals(placed, placed_jobs, entries, total),
-                 *check_editions(conversions, second_jobs, entries, total)):
+        print('scratches:', check_scratches(scratches, sound_of_16, entries, others))
+    for text in (*check_proposals(made, units, entries, others),
+                 *check_tight_roots(tight, tight_jobs, sound['tight_root'], entries, others),
+                 *check_intervals(placed, placed_jobs, entries, others),
+                 *check_editions(conversions, second_jobs, entries, others),
+                 *check_reports(reports, rooms, entries, others, differences == 0)):
         print(text)
     print(f'{total} cases, {differences} differences, {time.perf_counter() - began:.1f} s '
           f'(oracle {oracle_time:.1f} s), '

@@ -5,15 +5,16 @@ import edition_jobs
 import interval_cases
 import interval_jobs
 import proposal_cases
+import report_cases
 import scratch_cases
 import selection_cases
 import tight_root_cases
 import tight_root_jobs
 import unit_cases
-from area_cases import AREAS
+from area_cases import AREAS, REPORTS
 
 ENTRIES = list(AREAS)
-WHOLE = 255000              # calls of the whole comparison; at least so many of them
+WHOLE = 260000              # calls of the whole comparison; at least so many of them
 TIED = 2000                 # are accepted where some near rounds a tie
 PAIRS, CHOSEN = 7000, 4000  # have two proposals; have one chosen and put to random fractions
 TIGHT, TIGHT_JOBS = 4000, 3000      # are tighter root tests on areas long enough; are jobs with 0x22
@@ -22,6 +23,7 @@ PLACED, PLACED_JOBS = 20000, 8000   # have a model on another interval than the 
 SOUND_PLACED, SOUND_PLACED_JOBS = 5000, 500     # are such calls, such jobs checked for soundness
 CONVERSIONS, SECOND_JOBS = 4000, 4000   # are conversions with an answer long enough; are jobs of edition 2
 SOUND_SECOND_JOBS = 300     # are such jobs checked for soundness
+REPORTED = 6000             # different jobs have both reports, areas being long enough; so many reports are beside the check
 SOUND_OF_16 = 50            # of each entry with a scratch are checked for soundness with one of 16
 MODELS, PATTERNS = 3000, 100000     # different ones are put to the makers; to the step to units, each alone
 ROUNDING = ('multiply', 'integrate', 'evaluate', 'from_series', 'check')        # the entries that use near
@@ -65,9 +67,9 @@ def check_tight_roots(tests, tight_jobs, sound, entries, total):
 def check_scratches(scratches, sound, entries, total):
     """The counts of lent scratches, in words: each length with each answer, and enough of 16 numbers checked for soundness."""
     rows = [scratch_cases.counted(entry, scratches[entry]) for entry in scratches]
-    few = [entry for entry in scratches if sound[entry] * WHOLE < SOUND_OF_16 * min(total, WHOLE)]
+    few = [entry for entry in scratches if entry not in REPORTS and sound[entry] * WHOLE < SOUND_OF_16 * min(total, WHOLE)]
     assert set(entries) != set(ENTRIES) or not few, f'too few checked for soundness with a scratch of 16: {few}'
-    checked = ', '.join(f'{entry} {sound[entry]}' for entry in scratches)
+    checked = ', '.join(f'{entry} {sound[entry]}' for entry in scratches if entry not in REPORTS)
     return '\n  '.join(['', *rows, f'checked for soundness with 16: {checked}'])
 
 
@@ -112,3 +114,18 @@ def check_editions(conversions, jobs, entries, total):
             ('conversions', CONVERSIONS, conversions['conversions']), ('jobs of edition 2', SECOND_JOBS, jobs['jobs']),
             ('jobs of edition 2 checked for soundness', SOUND_SECOND_JOBS, jobs['checked for soundness'])):
         assert set(entries) != set(ENTRIES) or count * WHOLE >= wanted * min(total, WHOLE), f'{count} {what}'
+
+
+def check_reports(reports, rooms, entries, total, agree):
+    """The counts of reports, in words: each kind, enough in the whole comparison, in which each job has both; and, if all answers
+    agree, what holds of the rooms together."""
+    for entry in reports:
+        yield f'reports: {report_cases.counted(entry, reports[entry])}'
+    if agree:
+        yield from (f'reports: {text}' for text in report_cases.counted_rooms(rooms, entries))
+    if set(entries) == set(ENTRIES):
+        both = len(set.intersection(*rooms.jobs.values()))
+        for what, count in (('jobs with both reports', both),
+                            *((f'{entry} beside the check', rooms.same_as_check[entry]) for entry in REPORTS)):
+            assert count * WHOLE >= REPORTED * min(total, WHOLE), f'{count} {what}'
+        yield f'reports: {both} jobs with both'

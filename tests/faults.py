@@ -4,13 +4,16 @@ gives the places of the altered ones in the batch, none if the batch has no answ
 from array import array
 
 from area_cases import ANSWERS, AREAS, sized
-from header import MODEL_SIZE, PLACE_LOWER, PLACE_RADIUS, PLACE_UPPER, SCRATCH_SIZE, SHORT_AREA
+from header import (MODEL_SIZE, PLACE_LOWER, PLACE_RADIUS, PLACE_UPPER, SCRATCH_SIZE, SERVICE_B, SERVICE_M, SERVICE_N, SERVICE_RADIUS,
+                    SHORT_AREA)
 
 # Which numbers of an area are spoiled, each in an answer of its own: the radius and the ends, of the first result in a job, the
-# high bound, m; of a proposal the first value or coefficient, the change and the outcome; of a converted job its first two bytes.
+# high bound, m; of a proposal the first value or coefficient, the change and the outcome; of a converted job its first two bytes; of
+# a room the fields of the service's first record, at which the workshop has fields of its first three, and the last byte.
 MODEL_PLACES = PLACE_RADIUS, PLACE_LOWER, PLACE_UPPER
 SPOILED = {'out': MODEL_PLACES, 'work': MODEL_PLACES, 'bounds': (1,), 'answer': (0, 1), 'numbers': (0,),
-           'record': (0, -1), 'h': (1,), 'w': (1,), 'units': (1,), 'outcome': (0,), 'output': (0, 1)}
+           'record': (0, -1), 'h': (1,), 'w': (1,), 'units': (1,), 'outcome': (0,), 'output': (0, 1),
+           'room': (0, 1, SERVICE_M, SERVICE_N, SERVICE_B, SERVICE_RADIUS, -1)}
 
 
 # The entries that answer models.

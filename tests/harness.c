@@ -45,6 +45,10 @@ uint32_t ENTRY(make_quotient)(const int32_t *, size_t, const int32_t *, size_t, 
                               int32_t *, size_t, int32_t *, size_t, uint32_t *, size_t);
 uint32_t ENTRY(to_units)(const double *, size_t, int32_t *, size_t);
 uint32_t ENTRY(convert_edition)(const uint8_t *, size_t, uint8_t *, size_t, uint32_t *, size_t);
+uint32_t ENTRY(check_workshop)(const uint8_t *, size_t, int32_t *, size_t, int64_t *, size_t,
+                               uint8_t *, size_t, uint32_t *, size_t);
+uint32_t ENTRY(check_service)(const uint8_t *, size_t, int32_t *, size_t, int64_t *, size_t,
+                              uint8_t *, size_t, uint32_t *, size_t);
 
 #define MAX_AREAS 8
 
@@ -137,6 +141,12 @@ static uint32_t call(int entry, struct area *x, uint32_t scalar)
 #endif
 #ifdef WITH_CONVERT_EDITION
     case 14: return ENTRY(convert_edition)(AREA(0), AREA(1), AREA(2));
+#endif
+#ifdef WITH_CHECK_WORKSHOP
+    case 15: return ENTRY(check_workshop)(AREA(0), AREA(1), AREA(2), AREA(3), AREA(4));
+#endif
+#ifdef WITH_CHECK_SERVICE
+    case 16: return ENTRY(check_service)(AREA(0), AREA(1), AREA(2), AREA(3), AREA(4));
 #endif
     default: fail("an entry that was not compiled in");
     }

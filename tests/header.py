@@ -39,6 +39,13 @@ BLOCK_BYTES = 1 + 4 * COEFFICIENTS      # degree byte, coefficients
 # Edition, a load with its ends, 31 quotients, end.
 MAX_JOB_BYTES = 2 + (1 + BLOCK_BYTES + 12) + (MAX_RESULTS - 1) * (3 + 2 * BLOCK_BYTES) + 1
 
+# ---- Report records: bytes of 32 of them, of one, and places inside one
+
+WORKSHOP_RECORD, SERVICE_RECORD = 1 + 1 + 4, 1 + 1 + 4 * 4      # number, degree, radius; number, degree, m, N, b, radius
+WORKSHOP_ROOM, SERVICE_ROOM = MAX_RESULTS * WORKSHOP_RECORD, MAX_RESULTS * SERVICE_RECORD
+RECORD_NUMBER, RECORD_DEGREE, WORKSHOP_RADIUS = range(3)
+SERVICE_M, SERVICE_N, SERVICE_B, SERVICE_RADIUS = range(2, SERVICE_RECORD, 4)
+
 # ---- Which of two proposals is chosen
 
 CHOSEN_NONE, CHOSEN_FIRST, CHOSEN_SECOND = range(3)

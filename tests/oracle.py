@@ -7,7 +7,8 @@ them.  Power series (document 02, S-3) are expanded by binomials, not by the
 rule of the product's table.  The least radius of the tighter root test (S-22) comes
 from a whole square root, not from a search.  Integrals on an interval (S-24) are the
 power basis' primitives times half the extent, and every evaluation is put beside the exact
-value at its point.  Editions of jobs (S-27) are read here; edition_oracle.py converts them.
+value at its point.  Editions of jobs (S-27) are read here; edition_oracle.py converts them,
+and report_oracle.py has the report records of their results (S-30).
 Only the rounding is taken over from document 01 as it stands
 there, with the ties of document 02 (S-11) and the mapped point of S-24.
 Areas, and refusal 1 for a short one, are compare.py's; a short proposal (S-14) is tested here.
@@ -455,7 +456,7 @@ def kept_by(edition, kept):
 
 
 def _operation(edition, byte, operands, named):
-    """Number and model of one command that makes a result."""
+    """Number and model of one command that makes a result, and the m, N and b of its test if it has one."""
     if byte in LOADS:
         loaded = read_load(byte, operands)
         number = first_fault((loaded,))
@@ -469,7 +470,7 @@ def _operation(edition, byte, operands, named):
     blocks = RESULT_BYTES[byte]
     h = read_block(operands, blocks)
     w = read_block(operands, blocks + BLOCK_BYTES)
-    return TESTS[byte](*named, h, w)[:2]
+    return TESTS[byte](*named, h, w)
 
 
 class Unread(Exception):
@@ -508,19 +509,26 @@ def reading(job):
         command += 1
 
 
-def check_job(job):
-    """('accepted', count, models) or ('refused', number, command)."""
-    results = []
+def checked_commands(job):
+    """('accepted', count, models, m N and b of the test of each, none where no test ran) or ('refused', number, command)."""
+    results, tests = [], []
     try:
         for command, (byte, operands) in enumerate(reading(job)):
             if byte in RESULT_BYTES:
-                number, result = _operation(job[1], byte, operands, [results[name] for name in operands[:RESULT_BYTES[byte]]])
+                number, result, *tested = _operation(job[1], byte, operands,
+                                                     [results[name] for name in operands[:RESULT_BYTES[byte]]])
                 if number:
                     return 'refused', number, command
                 results.append(result)
+                tests.append(tuple(tested))
     except Unread as unread:
         return 'refused', *unread.args
-    return 'accepted', len(results), results
+    return 'accepted', len(results), results, tests
+
+
+def check_job(job):
+    """('accepted', count, models) or ('refused', number, command)."""
+    return checked_commands(job)[:3]
 
 
 def printed(job):

@@ -26,13 +26,15 @@ sys.path.insert(0, str(ROOT / 'python'))
 import compare
 import header
 import proposal_oracle
-from area_cases import ANY_LENGTH, AREAS, WITNESSES, witness
+import report_oracle
+from area_cases import ANY_LENGTH, AREAS, CHECKS, REPORTS, WITNESSES, witness
 
 import ferruntzo as package
 from ferruntzo import Candidate, Interval, Model, Refusal, Refused, Series, _library
+from python_slips import SLIPS
 
 S = header.S
-OF_JOBS = 'check', 'convert_edition'
+OF_JOBS = *CHECKS, 'convert_edition'
 GIVEN = [what for what in ANY_LENGTH if what != 'output']     # as long as the caller has them
 done = Counter()
 
@@ -97,9 +99,10 @@ def contents(case):
     if entry == 'convert_edition':
         converted = package.convert_edition(*inputs)
         return {'output': list(converted), 'answer': [len(converted), 0]}
-    checked = package.check(*inputs)
+    checked = getattr(package, entry)(*inputs)
     work = [number for result in checked.results for number in result.numbers]
-    return {'work': work + [0] * (header.WORK_SIZE - len(work)), 'answer': [checked.count, 0]}
+    found = {'work': work + [0] * (header.WORK_SIZE - len(work)), 'answer': [checked.count, 0]}
+    return {**found, 'room': list(checked.room), 'records': [one._asdict() for one in checked.records]} if entry in REPORTS else found
 
 
 def answered(case):
@@ -120,6 +123,9 @@ def expected(case):
         f, _, *proposals = case.inputs
         chosen, radius = wanted['answer']
         wanted['model'] = (*proposals[chosen - 1][:header.CANDIDATE_SIZE], radius, f.lower, f.upper)
+    elif case.entry in REPORTS:
+        wanted['records'] = [{field: getattr(one, field) for field in report_oracle.READINGS[case.entry]}
+                             for one in report_oracle.records(*case.inputs)]
     return number, wanted
 
 
@@ -145,99 +151,6 @@ def drawn_cases(entry, count, rng):
 
 
 # ---- Wrong packages ---------------------------------------------------------------------
-
-def exchanged(name):
-    real = getattr(package, name)
-    return package, name, lambda first, second, *rest: real(second, first, *rest)
-
-
-def candidates_exchanged(name):
-    real = getattr(package, name)
-    return package, name, lambda *areas: real(*areas[:-2], areas[-1], areas[-2])
-
-
-def operands_exchanged(name):
-    real = getattr(Model, name)
-    return Model, name, lambda a, b, *rest: real(b, a, *rest)
-
-
-def without(name, replaced):
-    """Models whose numbers have one of them replaced on the way to the library."""
-    real = Model.numbers.fget
-    return Model, 'numbers', property(lambda m: real(m)[:name] + (replaced,) + real(m)[name + 1:])
-
-
-def lending(change):
-    """Areas or answers changed at the call."""
-    real = _library.number_of
-    return _library, 'number_of', lambda entry, *arguments: change(real, entry, arguments)
-
-
-def after(entry, change):
-    def called(real, name, arguments):
-        number = real(name, *arguments)
-        return change(number, arguments) if name == entry else number
-    return lending(called)
-
-
-def swapped(area, i, j):
-    def change(number, arguments):
-        arguments[area][i], arguments[area][j] = arguments[area][j], arguments[area][i]
-        return number
-    return change
-
-
-def turned(what, by):
-    return lambda number, arguments: by if number == what else number
-
-
-def no_command(number, arguments):
-    arguments[-1][1] = 0
-    return number
-
-
-def fewer(number, arguments):
-    arguments[-1][0] = max(arguments[-1][0], 1) - 1
-    return number
-
-
-def converted_not(job, real=package.convert_edition):
-    real(job)
-    return bytes(job)
-
-
-SLIPS = {
-    'f and g of a quotient exchanged': ('quotient', lambda: exchanged('quotient')),
-    'f and g of two proposals exchanged': ('quotient_of_two', lambda: exchanged('quotient_of_two')),
-    'f and g of a made quotient exchanged': ('make_quotient', lambda: exchanged('make_quotient')),
-    'h and w of a quotient exchanged': ('quotient', lambda: candidates_exchanged('quotient')),
-    'h and w of a root exchanged': ('root', lambda: candidates_exchanged('root')),
-    'h and w of a tighter root exchanged': ('tight_root', lambda: candidates_exchanged('tight_root')),
-    'proposals exchanged': ('quotient_of_two', lambda: candidates_exchanged('quotient_of_two')),
-    'operands of a difference exchanged': ('subtract', lambda: operands_exchanged('subtract')),
-    'a sum for a difference': ('subtract', lambda: (Model, 'subtract', Model.add)),
-    'the kept degree left out': ('multiply', lambda: (Model, 'multiply', lambda a, b, kept, real=Model.multiply: real(a, b))),
-    'the root test for the tighter one': ('tight_root', lambda: (package, 'tight_root', package.root)),
-    'a radius left out': ('add', lambda: without(header.PLACE_RADIUS, 0)),
-    'the lower end left out': ('evaluate', lambda: without(header.PLACE_LOWER, -S)),
-    'the upper end left out': ('integrate', lambda: without(header.PLACE_UPPER, S)),
-    'the degree of a series taken as 32': ('from_series', lambda: (Series, 'numbers', property(lambda s: (32, *s.coefficients)))),
-    'bounds exchanged': ('evaluate', lambda: after('evaluate', swapped(2, 0, 1))),
-    'm and N exchanged': ('quotient', lambda: after('quotient', swapped(-1, 0, 1))),
-    'the change before the last value': ('make_reciprocal', lambda: after('make_reciprocal', swapped(1, -1, -2))),
-    'settled for given up': ('make_reciprocal', lambda: (package.proposals, '_outcome', lambda number: package.Outcome.SETTLED)),
-    '17 answered as 8': ('tight_root', lambda: after('tight_root', turned(17, 8))),
-    'a refusal taken for accepted': ('to_units', lambda: after('to_units', turned(16, 0))),
-    'a refused job without its command': ('check', lambda: after('check', no_command)),
-    'a result of a job left out': ('check', lambda: after('check', fewer)),
-    'the job itself for the converted one': ('convert_edition', lambda: (package, 'convert_edition', converted_not)),
-    'a byte of a converted job left out': ('convert_edition', lambda: after('convert_edition', fewer)),
-    'a refused conversion without its command': ('convert_edition', lambda: after('convert_edition', no_command)),
-    'a conversion refused with 13 as 12': ('convert_edition', lambda: after('convert_edition', turned(13, 12))),
-    'the former 32 for 255': ('multiply', lambda: (Model, 'multiply', lambda a, b, kept, real=Model.multiply: real(
-        a, b, header.MAX_DEGREE if kept == header.DEFAULT_KEPT else kept))),
-}
-
 
 def wrong_packages(cases):
     """Each slip shows in the cases of its entry."""
@@ -276,7 +189,8 @@ def wrong_operands():
             lambda: package.quotient_of_two(good, good, 'text', []), lambda: package.quotient_of_two(good, good, [1.5], []),
             lambda: package.make_reciprocal(h), lambda: package.make_quotient(good, h), lambda: package.to_units(['1']),
             lambda: package.to_units([None]), lambda: package.to_units(1.0), lambda: package.check('text'), lambda: package.check(5),
-            lambda: package.check([1, 2]), lambda: package.convert_edition('text'), lambda: package.convert_edition([1, 2, 0])],
+            lambda: package.check([1, 2]), lambda: package.check_workshop('text'), lambda: package.check_service([1, 2, 0]),
+            lambda: package.check_service(None), lambda: package.convert_edition('text'), lambda: package.convert_edition([1, 2, 0])],
     }
     real, _library.number_of = _library.number_of, never
     try:
@@ -313,6 +227,13 @@ def refused_by(call):
 def values():
     """Immutable, equal by content, usable as keys; refusals by the header's names, in words, and pickled."""
     m = Model(1, [S, 5], 3, Interval(0, S))
+    job = (ROOT / 'examples' / 'stretch.job').read_bytes()
+    report = package.check_service(job)
+    expect('a report by content', report == package.check_service(bytearray(job)) == pickle.loads(pickle.dumps(report))
+           and report != package.check_workshop(job) and report.results == package.check(job).results
+           and raises(AttributeError, lambda: setattr(report, 'room', b'')) and isinstance(report, package.CheckedJob))
+    expect('the workshop of the service', [(one.number, one.degree, one.radius) for one in report.records]
+           == [tuple(one) for one in package.check_workshop(job).records])
     expect('immutable', raises(AttributeError, lambda: setattr(m, 'radius', 0))
            and raises(AttributeError, lambda: setattr(m.interval, 'lower', 1)))
     expect('equal by content', m == Model.from_numbers(m.numbers) == pickle.loads(pickle.dumps(m)) == copy.deepcopy(m)
@@ -323,7 +244,7 @@ def values():
     expect('a refusal in words', str(refused) == 'refused 10: the job ends inside a command or without an end (command 4)', str(refused))
     expect('a text for each refusal', all(r.text for r in Refusal))
     sizes = {name: getattr(package, name) for name in package.__all__ if name.isupper() and name in header.NAMES}
-    expect('sizes as in the header', len(sizes) > 7 and all(header.NAMES[n] == v for n, v in sizes.items()), str(sizes))
+    expect('sizes as in the header', len(sizes) > 11 and all(header.NAMES[n] == v for n, v in sizes.items()), str(sizes))
 
 
 def raises(error, call):

@@ -6,7 +6,7 @@ from itertools import product
 
 import jobs
 import oracle as o
-from area_cases import AREAS, ENDLESS, FOUR, MOST, ONE, QUARTER, SHIFTED, TWO, WITNESSES, sized, witness
+from area_cases import AREAS, CHECKS, ENDLESS, FOUR, MOST, ONE, QUARTER, SHIFTED, TWO, WITNESSES, sized, witness
 from cases import Case
 from header import (ACCEPTED, BAD_ENDS, BAD_MODEL, BAD_VALUE, BYTES_AFTER_END, DIFFERENT_INTERVALS, HELPER_NOT_POSITIVE, JOB_ENDS,
                     LARGE_RESIDUAL, LARGE_RESULT, MAX_DEGREE, MAX_RESULTS, NEGATIVE_DISCRIMINANT, NO_RADIUS, NOT_A_RESULT,
@@ -56,19 +56,19 @@ def endings(count):
     }
 
 
-def job_inputs():
+def job_inputs(entry):
     """Each of them, before any test and behind three that pass."""
     for tests, count in ((b'', 1), (TESTS, 4)):
         for ending in endings(count).values():
-            yield Case('check', (jobs.EDITION_1 + jobs.load(FOUR) + tests + ending,))
+            yield Case(entry, (jobs.EDITION_1 + jobs.load(FOUR) + tests + ending,))
 
 
 # ---- Cases --------------------------------------------------------------------------------------------------------------
 
 def inputs(entry):
     """A call for each answer that the entry has where every area is long enough."""
-    if entry == 'check':
-        return list(job_inputs())
+    if entry in CHECKS:
+        return list(job_inputs(entry))
     if entry == 'quotient_of_two':
         return [Case(entry, (DIVIDEND, DIVISOR, TESTED[a][0], TESTED[b][-1])) for a, b in product(NUMBERS, NUMBERS)]
     return [witness(entry, number) for number in WITNESSES[entry]]
@@ -94,7 +94,7 @@ def own_answer(case):
     if case.entry == 'quotient_of_two':
         f, g, *proposals = case.inputs
         return tuple(o.proposal_test(f, g, one)[0] for one in proposals)
-    if case.entry != 'check':
+    if case.entry not in CHECKS:
         return getattr(o, case.entry)(*case.inputs)[0]
     verdict, *answer = o.check_job(*case.inputs)
     read = [byte for byte, _ in jobs.read_commands(*case.inputs)]
@@ -116,7 +116,7 @@ def kinds(case, lengths, number):
 
 
 def demanded(entry):
-    own = {'check': [(*answer, tested) for answer in endings(1) for tested in (False, True)],
+    own = {**dict.fromkeys(CHECKS, [(*answer, tested) for answer in endings(1) for tested in (False, True)]),
            'quotient_of_two': list(product(NUMBERS, NUMBERS))}.get(entry, WITNESSES[entry])
     for length in LENGTHS:
         yield from ((length, 'own', answer) for answer in (OTHER, *own))

@@ -14,6 +14,7 @@ from pathlib import Path
 from edition_slips import EDITION_SLIPS
 from interval_slips import INTERVAL_SLIPS
 from proposal_slips import PROPOSAL_SLIPS
+from report_slips import REPORT_SLIPS
 
 HERE = Path(__file__).resolve().parent
 PLAIN = HERE.parent / 'plain'
@@ -137,7 +138,7 @@ SLIPS = [
     ('job: work cleared on 1', 'check', '    if (!CLEAR(answer', '    CLEAR(work, WORK_SIZE);\n    if (!CLEAR(answer'),
     ('job: scratch left', 'check', '    memset(scratch, 0, SCRATCH_SIZE * sizeof *scratch);\n    if', '    if'),
     ('job: work left on refusal', 'check', '        memset(work, 0, WORK_SIZE * sizeof *work);\n', ''),
-    ('job: work not cleared', 'check', '    memset(work, 0, WORK_SIZE * sizeof *work);\n    uint32_t', '    uint32_t'),
+    ('job: work not cleared', 'check', '    memset(work, 0, WORK_SIZE * sizeof *work);\n    clear_room', '    clear_room'),
     ('job: count before name', 'check', '    for (size_t i = 0; i < names; i++)',
      '    if (count == MAX_RESULTS)\n        return TOO_MANY_RESULTS;\n    for (size_t i = 0; i < names; i++)'),
     ('job: 32nd result refused', 'check', 'return count == MAX_RESULTS ?', 'return count == MAX_RESULTS - 1 ?'),
@@ -351,10 +352,10 @@ SLIPS += [(f'walk: {name}, {entry}', entry, P_LINE, new)
                             ('last pair left out', P_LINE[:-1] + ' * !(i == a[0] && j == b[0]);'))
           for entry in ('multiply', 'quotient', *ROOTS)]
 
-SLIPS += INTERVAL_SLIPS + EDITION_SLIPS
+SLIPS += INTERVAL_SLIPS + EDITION_SLIPS + REPORT_SLIPS
 
 
-def spoiled_plain(folder, old, new, sources=('plain.c', 'editions.c', 'reading.h', 'models.h', 'areas.h')):
+def spoiled_plain(folder, old, new, sources=('plain.c', 'editions.c', 'reports.h', 'reading.h', 'models.h', 'areas.h')):
     """The folder, with a copy of the plain C version: a text is altered at its first place in the first source that has it."""
     texts = {path.name: path.read_text() for path in PLAIN.iterdir() if path.suffix in ('.c', '.h')}
     altered = next((name for name in sources if old in texts[name]), None)

@@ -1,6 +1,6 @@
 """Tests of tools/ferruntzo by its command line and modules: exit statuses, explain against the program over
 the whole corpus of job tests, list and assemble round trips, the page, the least radius of 0x22, versions;
-intervals (tool_intervals.py) and editions (tool_editions.py). Libraries and program must be built.
+intervals (tool_intervals.py), editions (tool_editions.py) and report records (tool_reports.py). Libraries and program must be built.
 
   tool_commands.py [--tool tools/ferruntzo] [--jobcheck target/bin/jobcheck] [--cases N] [--plant]
 """
@@ -31,6 +31,8 @@ from ferruntzo_tool.text import assemble, listing                       # noqa: 
 from job_cases import RandomJobs, fixed_check                           # noqa: E402
 import tool_editions                                                    # noqa: E402
 import tool_intervals                                                   # noqa: E402
+import tool_report_files                                                # noqa: E402
+import tool_reports                                                     # noqa: E402
 
 EXAMPLES = sorted((ROOT / 'examples').glob('*.job'))
 wrong = []
@@ -210,7 +212,7 @@ def statuses(run, folder, checker):
         (2, 'assemble', folder / 'nosuch'),
         (2, 'show', example, '-o', folder / 'no' / 'page'), (2, 'show', folder / 'nosuch', '-o', folder / 'p'),
         (2, 'show', example, '-o', folder / 'p', '--jobcheck', folder / 'liar'), (0, '--help'), (0, '--version'),
-        *((0, name, '--help') for name in ('check', 'explain', 'convert', 'list', 'assemble', 'show', 'solve')),
+        *((0, name, '--help') for name in ('check', 'explain', 'report', 'convert', 'list', 'assemble', 'show', 'solve')),
     ]
     with ThreadPoolExecutor(os.cpu_count() or 1) as pool:
         for row, done in zip(rows, pool.map(lambda row: run(*row[1:]), rows)):
@@ -332,7 +334,8 @@ def main():
     parser.add_argument('--seed', type=int, default=1)
     parser.add_argument('--plant', action='store_true', help='spoil one text of the tool')
     options = parser.parse_args()
-    environment = {**os.environ, 'FERRUNTZO_JOBCHECK': options.jobcheck, 'PYTHONDONTWRITEBYTECODE': '1'}
+    os.environ['FERRUNTZO_JOBCHECK'] = options.jobcheck
+    environment = {**os.environ, 'PYTHONDONTWRITEBYTECODE': '1'}
 
     def run(*words, stdin=subprocess.DEVNULL, stdout=subprocess.PIPE, variables=None, **more):
         return subprocess.run([options.tool, *map(str, words)], stdin=stdin, stdout=stdout, stderr=subprocess.PIPE,
@@ -357,7 +360,12 @@ def main():
             tool_editions.conversions(expect)
             tool_editions.corpus(expect, jobs)
             tool_editions.opened(expect)
-            for test in (tool_editions.libraries, tool_editions.command):
+            for test in (tool_reports.records, tool_reports.pairs, tool_reports.papers):
+                test(expect)
+            tool_reports.noticed(expect, tool_reports.report)
+            tool_reports.corpus(expect, jobs, rng)
+            for test in (tool_editions.libraries, tool_editions.command, tool_report_files.libraries, tool_report_files.files,
+                         tool_reports.commands):
                 with tempfile.TemporaryDirectory() as own:
                     test(expect, run, Path(own))
             round_trips(jobs)

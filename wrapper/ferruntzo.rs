@@ -7,7 +7,8 @@
 //! ```
 //!
 //! The typed functions ([`Model::add`], [`Model::from_series`], [`quotient`], [`quotient_of_two`],
-//! [`make_quotient`], [`check`], [`convert_edition`], ...) lend the library areas of the right size.
+//! [`make_quotient`], [`check`], [`check_service`], [`convert_edition`], ...) lend the library areas of
+//! the right size.
 //! The functions in [`areas`] take the caller's own slices of every length.
 //! The crate needs `core` alone, allocates nothing and has no state. Every x and every value of which
 //! something is said below is a fraction.
@@ -33,11 +34,13 @@ use core::fmt;
 
 mod editions;
 mod proposals;
+mod reports;
 pub use editions::convert_edition;
 pub use proposals::{
     make_quotient, make_reciprocal, to_units, MadeQuotient, MadeReciprocal, Outcome,
     QuotientRecord, ReciprocalRecord,
 };
+pub use reports::{check_service, check_workshop, ServiceRecord, WorkshopRecord};
 
 /// One unit is 1/S.
 pub const S: i32 = 1 << 20;
@@ -67,12 +70,18 @@ pub const BOUNDS_SIZE: usize = 2;
 pub const SCRATCH_SIZE: usize = 16;
 /// Numbers of a test: m, N, b.
 pub const NUMBERS_SIZE: usize = 3;
-/// The former name of [`NUMBERS_SIZE`].
-pub const REPORT_SIZE: usize = NUMBERS_SIZE;
 /// Numbers in the work area of a job: 32 models.
 pub const WORK_SIZE: usize = 1184;
 /// Numbers in the answer of a job: count (of a conversion the length), command.
 pub const ANSWER_SIZE: usize = 2;
+/// Bytes of a workshop's report record: number, degree, radius.
+pub const WORKSHOP_RECORD: usize = 6;
+/// Bytes of a service's report record: number, degree, m, N, b, radius.
+pub const SERVICE_RECORD: usize = 18;
+/// Bytes of the room of a workshop's report: 32 records.
+pub const WORKSHOP_ROOM: usize = 192;
+/// Bytes of the room of a service's report: 32 records.
+pub const SERVICE_ROOM: usize = 576;
 /// Bytes of the longest job that can be accepted or converted.
 pub const MAX_JOB_BYTES: usize = 8488;
 /// Numbers in the answer of two proposals: chosen, radius.
@@ -675,10 +684,17 @@ impl core::error::Error for RefusedJob {}
 
 /// Checks a job (docs/FORMAT.md) of either edition, of any bytes and any length.
 pub fn check(job: &[u8]) -> Result<CheckedJob, RefusedJob> {
+    checked(|work, scratch, answer| areas::check(job, work, scratch, answer))
+}
+
+/// What a check answers that is lent work, scratch and answer.
+fn checked(
+    call: impl FnOnce(&mut [i32], &mut [i64], &mut [u32]) -> Result<(), Refusal>,
+) -> Result<CheckedJob, RefusedJob> {
     let mut work = [0; WORK_SIZE];
     let mut scratch = [0; SCRATCH_SIZE];
     let mut answer = [0; ANSWER_SIZE];
-    match areas::check(job, &mut work, &mut scratch, &mut answer) {
+    match call(&mut work, &mut scratch, &mut answer) {
         Ok(()) => Ok(CheckedJob { work, count: answer[0] as usize }),
         Err(refusal) => Err(RefusedJob { refusal, command: answer[1] }),
     }
@@ -690,14 +706,15 @@ pub fn check(job: &[u8]) -> Result<CheckedJob, RefusedJob> {
 /// afterwards depends on its own length: one that is itself too short is not touched; `out`,
 /// `bounds` and `numbers` are zero in their sizes after every refusal, `ShortArea` included; the
 /// `scratch` of a test is zero in its 16 numbers after every call. [`areas::quotient_of_two`],
-/// [`areas::check`], [`areas::convert_edition`] and the makers say what holds of their areas. Numbers
-/// behind the sizes stay.
+/// [`areas::check`], [`areas::check_workshop`], [`areas::convert_edition`] and the makers say what holds
+/// of their areas. Numbers behind the sizes stay.
 #[rustfmt::skip]
 pub mod areas {
     use super::{accepted, chosen_of, raw, Refusal, CANDIDATE_SIZE};
 
     pub use super::editions::lent::convert_edition;
     pub use super::proposals::lent::{make_quotient, make_reciprocal, to_units};
+    pub use super::reports::lent::{check_service, check_workshop};
 
     /// a + b; `a`, `b` and `out` have 37 numbers.
     pub fn add(a: &[i32], b: &[i32], out: &mut [i32]) -> Result<(), Refusal> {
@@ -907,6 +924,16 @@ mod raw {
         pub fn ferruntzo_check(
             job: *const u8, job_len: usize, work: *mut i32, work_len: usize,
             scratch: *mut i64, scratch_len: usize, answer: *mut u32, answer_len: usize,
+        ) -> u32;
+        pub fn ferruntzo_check_workshop(
+            job: *const u8, job_len: usize, work: *mut i32, work_len: usize,
+            scratch: *mut i64, scratch_len: usize, room: *mut u8, room_len: usize,
+            answer: *mut u32, answer_len: usize,
+        ) -> u32;
+        pub fn ferruntzo_check_service(
+            job: *const u8, job_len: usize, work: *mut i32, work_len: usize,
+            scratch: *mut i64, scratch_len: usize, room: *mut u8, room_len: usize,
+            answer: *mut u32, answer_len: usize,
         ) -> u32;
         pub fn ferruntzo_convert_edition(
             job: *const u8, job_len: usize, out: *mut u8, out_len: usize,

@@ -10,6 +10,8 @@ mod editions;
 mod intervals;
 #[path = "proposal_tests.rs"]
 mod proposals;
+#[path = "report_tests.rs"]
+mod reports;
 #[path = "selection_tests.rs"]
 mod selection;
 
@@ -325,6 +327,10 @@ fn header_agrees() {
         ("WORK_SIZE", WORK_SIZE),
         ("ANSWER_SIZE", ANSWER_SIZE),
         ("MAX_JOB_BYTES", MAX_JOB_BYTES),
+        ("WORKSHOP_RECORD", WORKSHOP_RECORD),
+        ("SERVICE_RECORD", SERVICE_RECORD),
+        ("WORKSHOP_ROOM", WORKSHOP_ROOM),
+        ("SERVICE_ROOM", SERVICE_ROOM),
         ("SELECTION_SIZE", SELECTION_SIZE),
         ("VALUES_SIZE", VALUES_SIZE),
         ("RECIPROCAL_RECORD_SIZE", RECIPROCAL_RECORD_SIZE),

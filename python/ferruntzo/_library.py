@@ -11,7 +11,7 @@ from typing import Any, Iterator, Optional
 
 from .refusals import Refusal, Refused
 
-__version__ = '5.0.0'
+__version__ = '5.1.0'
 MAJOR, MINOR, PATCH = map(int, __version__.split('.'))
 SONAME = f'libferruntzo.so.{MAJOR}'
 VARIABLE = 'FERRUNTZO_LIBRARY'
@@ -19,6 +19,7 @@ VARIABLE = 'FERRUNTZO_LIBRARY'
 _I32, _I64, _U8, _U32, _U64, _F64 = map(POINTER, (c_int32, c_int64, c_uint8, c_uint32, c_uint64, c_double))
 _AREAS = (_I32, _I64, _U8, _U32, _U64, _F64)
 _ROOT = (_I32, _I32, _I32, _I64, _I32, _U64)
+_REPORT = (_U8, _I32, _I64, _U8, _U32)
 # Areas and numbers in the order of the header; a length follows each area.
 _FUNCTIONS: dict[str, tuple[Any, ...]] = {
     'version': (),
@@ -36,6 +37,8 @@ _FUNCTIONS: dict[str, tuple[Any, ...]] = {
     'make_quotient': (_I32, _I32, _F64, _I32, _I32, _U32),
     'to_units': (_F64, _I32),
     'check': (_U8, _I32, _I64, _U32),
+    'check_workshop': _REPORT,
+    'check_service': _REPORT,
     'convert_edition': (_U8, _U8, _U32),
 }
 

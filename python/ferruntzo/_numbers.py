@@ -25,6 +25,10 @@ CANDIDATE_SIZE = 1 + COEFFICIENTS
 #: Numbers of a proposal for a quotient: a candidate h, then its helper w.
 PROPOSAL_SIZE = 2 * CANDIDATE_SIZE
 SCRATCH_SIZE = 16
+#: Bytes of a report record: number, degree, radius for the workshop; number, degree, m, N, b, radius for the service.
+WORKSHOP_RECORD, SERVICE_RECORD = 6, 18
+#: Bytes of the room of 32 report records.
+WORKSHOP_ROOM, SERVICE_ROOM = MAX_RESULTS * WORKSHOP_RECORD, MAX_RESULTS * SERVICE_RECORD
 
 
 def whole(value: Any, what: str, low: int, high: int) -> int:

@@ -1,3 +1,3 @@
-"""The tool of Ferruntzo: check, explain, convert, list, assemble, show and solve jobs."""
+"""The tool of Ferruntzo: check, explain, report, convert, list, assemble, show and solve jobs."""
 
-__version__ = '5.0.0'
+__version__ = '5.1.0'

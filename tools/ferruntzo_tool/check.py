@@ -45,14 +45,27 @@ def gouging(job, results):
     return ''.join(f'; {line}' for line in said), gouge.cautions(found)
 
 
+def cause(refusal):
+    """What the number of a refusal means."""
+    return REFUSAL[refusal].meaning if refusal in REFUSAL else 'not known to this tool'
+
+
+def refused(name, job, answer):
+    """The line about a refused job."""
+    return (f'{name}: REFUSED with {answer.refusal} at command {answer.command} (byte {place(job, answer.command)}): '
+            f'{cause(answer.refusal)}.{program.older(job, answer)} Do not mill. `ferruntzo explain` says more.')
+
+
+def not_checked(label, error):
+    """The line about a job without a verdict."""
+    text = str(error)
+    return f'{text if text.startswith(label) else f"{label}: {text}"}. NOT checked.'
+
+
 def verdict(name, job, answer, options):
     """The verdict on a job that the program judged."""
     if not answer.accepted:
-        refusal = REFUSAL.get(answer.refusal)
-        meaning = refusal.meaning if refusal else 'not known to this tool'
-        return Verdict(BEYOND, f'{name}: REFUSED with {answer.refusal} at command {answer.command} (byte '
-                       f'{place(job, answer.command)}): {meaning}.{program.older(job, answer)} Do not mill. `ferruntzo explain` '
-                       'says more.')
+        return Verdict(BEYOND, refused(name, job, answer))
     made = sum(step.command.makes for step in split(job)[0])
     if made != len(answer.radii):
         raise NotChecked(f'{name}: results: jobcheck lists {len(answer.radii)}, the job makes {made}; the program '
@@ -93,8 +106,7 @@ def one(name, checker, options):
         job = program.read_job(name)
         return verdict(label, job, program.run(checker, job, name), options)
     except NotChecked as error:
-        text = str(error)
-        return Verdict(NOT_CHECKED, f'{text if text.startswith(label) else f"{label}: {text}"}. NOT checked.')
+        return Verdict(NOT_CHECKED, not_checked(label, error))
 
 
 # ---- Folders ----

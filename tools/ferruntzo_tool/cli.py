@@ -66,7 +66,7 @@ class Parser(argparse.ArgumentParser):
 
 def parser():
     top = Parser(
-        prog='ferruntzo', description='Jobs of Chebyshev models for crown mills: check, explain, convert, '
+        prog='ferruntzo', description='Jobs of Chebyshev models for crown mills: check, explain, report, convert, '
         'list, assemble, show and solve them. docs/MEANING.md says what a verdict promises.')
     top.add_argument('--version', action='version', version=f'ferruntzo {__version__}')
     commands = top.add_subparsers(dest='command', metavar='COMMAND', required=True)
@@ -99,6 +99,24 @@ def parser():
                    epilog='It explains; jobcheck decides. If the two differ it stops with status 2.\n\n'
                    'exit status: 0 accepted, 1 refused, 2 not checked')
     made.add_argument('job', metavar='JOB')
+    checker(made)
+
+    made = command('report', 'write the report record of each result: number, degree and radius for the workshop, with --service '
+                   'also m, N and b of its test',
+                   epilog='The records are those of the proved library. If jobcheck or the tool\'s own arithmetic says otherwise, it stops\n'
+                   'with status 2. FERRUNTZO_LIBRARY can name the library. No limit is applied, and no caution looked for: check\n'
+                   'does that.\n\n'
+                   'exit status: 0 accepted, whatever the radius, 1 refused, 2 not checked (nothing is reported of that job)')
+    made.add_argument('jobs', nargs='+', metavar='JOB',
+                      help='a job file, a folder of *.job files, or - for standard input')
+    made.add_argument('-r', '--recursive', action='store_true', help='look into the folders of a folder as well')
+    made.add_argument('--service', action='store_true', help='with m, N and b of each test, beside their limits')
+    form = made.add_mutually_exclusive_group()
+    form.add_argument('--json', action='store_true', help='a JSON object in a line for each job; docs/FORMAT.md has its keys')
+    form.add_argument('--bytes', action='store_true', help='the bytes of all 32 records of one job as the library left them: 192, with '
+                      '--service 576; never onto a terminal unless -o names it')
+    made.add_argument('-o', '--output', metavar='FILE', help='where the bytes of --bytes go (default: standard output); a file that is '
+                      'there is replaced')
     checker(made)
 
     made = command('convert', 'write a job of edition 1 as a job of edition 2 with the same results, or one of edition 2 as one of '
@@ -163,6 +181,8 @@ def run(options):
         from .check import main as command
     elif options.command == 'explain':
         from .explain import main as command
+    elif options.command == 'report':
+        from .report import main as command
     elif options.command == 'convert':
         from .convert import main as command
     elif options.command == 'list':

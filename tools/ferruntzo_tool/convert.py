@@ -33,6 +33,11 @@ def own(job):
     return Own(bytes(made), read[-1], stated)
 
 
+def first_difference(one, two):
+    """The first byte at which two lists of bytes differ."""
+    return next((i for i, (a, b) in enumerate(zip(one, two)) if a != b), min(len(one), len(two)))
+
+
 def differs(answer, found):
     """How the library's answer differs from what the tool itself found, in words, or nothing."""
     said = (answer.refusal, answer.command)
@@ -41,9 +46,7 @@ def differs(answer, found):
         told = [f'refused with {number} at command {command}' if number else 'converted' for number, command in (said, wanted)]
         return f'the library says "{told[0]}", this tool "{told[1]}"'
     if answer.job != found.job:
-        pairs = enumerate(zip(answer.job, found.job))
-        at = next((i for i, (one, two) in pairs if one != two), min(len(answer.job), len(found.job)))
-        return f"the library's job and this tool's differ from byte {at} on"
+        return f"the library's job and this tool's differ from byte {first_difference(answer.job, found.job)} on"
     return ''
 
 

@@ -2,6 +2,7 @@ pub mod TwoSumsLaws
 pub mod GroupLaws
 pub mod GroupTheorem
 pub mod TestFits
+pub mod NumberBounds
 pub mod OutcomeLaws
 pub mod Stages
 pub mod ResidualLaws

@@ -1,7 +1,7 @@
 -- The step from what the check of a job and its conversion answer and leave to the definitions of Jobs.antt, and to their claims
 -- over one more lent area.
 use mathlib.Core.Path.{_≡_, refl, ap, sym, subst, _∙_}
-use mathlib.Core.Bool.{not}
+use mathlib.Core.Bool.{Bool, not}
 use mathlib.Core.List.{List, [], _∷_, _++_}
 use mathlib.Core.Logic.{inl}
 use Prim.Native.Nat.{ℕ, _≤_, _<_}
@@ -12,14 +12,14 @@ use lib.ListN.{length, drop, take, replicate}
 use Rattle.model.specs.definitions.Area.{areaOut}
 use Rattle.model.specs.definitions.Outcomes.{numberOf, here}
 use Rattle.model.specs.laws.OutcomeLaws.{numberOf-positive}
-use Rattle.job.specs.definitions.Outcomes.{JobOutcome, accepted, jobOutcomeOf, counted, refusalNumber}
-use Rattle.job.specs.definitions.Work.{areaPlaces, checkOutcome, workAfter, scratchAfterJob}
+use Rattle.job.specs.definitions.Outcomes.{JobOutcome, accepted, jobOutcomeOf, refusalNumber}
+use Rattle.job.specs.definitions.Work.{areaPlace}
 use Rattle.job.specs.definitions.Requirement.{Requirement3}
 use Rattle.job.specs.laws.RequirementLaws.{refused-required, required-behind}
 use Rattle.survey.specs.definitions.Editions.{ConvertedJob, editionConversion, outputAfter}
 use Rattle.job.specs.declared.types.JobOutcome.{JobOutcome as CodeOutcome}
 use Rattle.job.specs.declared.types.JobOutcome.the-variants.{Accepted, Refused}
-use Rattle.ferruntzo.specs.definitions.Jobs.{answerSize, answerNumbers, jobAnswer, checkAnswer, answerIn, exportedPlaces, editionAnswer, convertAnswer}
+use Rattle.ferruntzo.specs.definitions.Jobs.{answerSize, answerNumbers, jobAnswer, answeredBy, answerIn, editionAnswer, convertAnswer}
 
 -- the numbers of an answer, in an area that has room for them
 abbrev pub answerOver : CodeOutcome → List ℕ → List ℕ
@@ -30,35 +30,33 @@ pub answer-means : (r : CodeOutcome) (answer : List ℕ) → answerIn (refusalNu
 answer-means (Accepted count) answer = refl
 answer-means (Refused v k) answer = rw (ne-eqb (numberOf v) 0 (omega (arith, numberOf-positive v)))
 
-module _ (job : List ℕ) (work scratch : List ℤ) (answer : List ℕ) where
-  abbrev o : JobOutcome ℕ
-  o = counted (checkOutcome job work scratch)
-
+-- of a check whose definitions give the outcome o, and places that its areas pass
+module _ (job : List ℕ) (work scratch : List ℤ) (answer : List ℕ) (o : JobOutcome ℕ) (work″ scratch″ : List ℤ) (places : List (Bool × ℕ)) where
   -- the area of the answer has its numbers
   module _ (r : CodeOutcome) {n : ℕ} {m : List ℕ} (long : answerSize ≤ length answer)
       (number-is : n ≡ refusalNumber (jobOutcomeOf r)) (answer-is : m ≡ answerOver r answer) where
-    pub checked : {w s : List ℤ} → jobOutcomeOf r ≡ o → w ≡ workAfter job work scratch → s ≡ scratchAfterJob work scratch
-        → jobAnswer n w s m ≡ checkAnswer job work scratch answer
-    unfolding checkAnswer areaOut
-    checked same ew es =
+    pub answered : {w s : List ℤ} → jobOutcomeOf r ≡ o → w ≡ work″ → s ≡ scratch″
+        → jobAnswer n w s m ≡ answeredBy o work″ work scratch″ scratch answer
+    unfolding areaOut
+    answered same ew es =
         let f = number-is ∙ ap refusalNumber same in
         let g = answer-is ∙ ap (λ (x : JobOutcome ℕ). answerNumbers x ++ drop answerSize answer) same in
         rw (le-leb answerSize (length answer) long) (λ k. jobAnswer (f k) (ew k) (es k) (g k))
 
-    pub required : {w : List ℤ} → Requirement3 (areaPlaces work scratch) job (jobOutcomeOf r) w
-        → Requirement3 (exportedPlaces work scratch answer) job (answerIn n m) w
+    pub required : {w : List ℤ} → Requirement3 places job (jobOutcomeOf r) w
+        → Requirement3 (areaPlace answerSize (length answer) ∷ places) job (answerIn n m) w
     required {w} claim =
-        subst (λ (x : JobOutcome ℕ). Requirement3 (exportedPlaces work scratch answer) job x w)
+        subst (λ (x : JobOutcome ℕ). Requirement3 (areaPlace answerSize (length answer) ∷ places) job x w)
         (sym ((λ k. answerIn (number-is k) (answer-is k)) ∙ answer-means r answer))
         (required-behind (_ ∷ []) (ap not (le-leb answerSize (length answer) long), tt) claim)
 
   -- it is too short
   module _ (short : length answer < answerSize) where
-    pub unchecked : jobAnswer 1 work scratch answer ≡ checkAnswer job work scratch answer
-    unfolding checkAnswer areaOut
-    unchecked = rw (lt-leb answerSize (length answer) short)
+    pub unanswered : jobAnswer 1 work scratch answer ≡ answeredBy o work″ work scratch″ scratch answer
+    unfolding areaOut
+    unanswered = rw (lt-leb answerSize (length answer) short)
 
-    pub unrequired : Requirement3 (exportedPlaces work scratch answer) job (answerIn 1 answer) work
+    pub unrequired : Requirement3 (areaPlace answerSize (length answer) ∷ places) job (answerIn 1 answer) work
     unrequired = refused-required (inl (here (ap not (lt-leb answerSize (length answer) short)) refl, refl)) 1 _ work
 
 -- ---- the conversion

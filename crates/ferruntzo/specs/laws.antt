@@ -4,3 +4,4 @@ pub mod Examples
 pub mod FormerAnswers
 pub mod IntervalExamples
 pub mod EditionExamples
+pub mod ReportLaws

@@ -5,7 +5,7 @@ ghost use Rattle.ferruntzo.specs.definitions.Version.{libraryVersion};
 // FERRUNTZO_VERSION_MAJOR, _MINOR and _PATCH of include/ferruntzo.h.
 const MAJOR: u32 = 5;
 
-const MINOR: u32 = 0;
+const MINOR: u32 = 1;
 
 const PATCH: u32 = 0;
 

@@ -1,5 +1,7 @@
 pub mod ByteLaws
 pub mod Results
+pub mod Rooms
+pub mod LoopRooms
 pub mod Loop
 pub mod OperationLaws
 pub mod StepLaws

@@ -1,7 +1,7 @@
 -- From the reading of a command to its performance.
 use mathlib.Core.Path.{_≡_, refl, ap, sym, subst, _∙_}
 use mathlib.Core.Bool.{Bool, false}
-use mathlib.Core.List.{List}
+use mathlib.Core.List.{List, []}
 use mathlib.Core.Logic.{_⊎_, inl, inr}
 use Prim.Native.Nat.{ℕ, _≤_}
 use native.Mathlib.Omega.{arith}
@@ -17,7 +17,7 @@ use Rattle.job.specs.definitions.Decode.{commandAt}
 use Rattle.job.specs.definitions.Step.{refused, performed, command}
 use Rattle.job.specs.laws.CommandLaws.{both-below, Readable, readable}
 use Rattle.job.specs.definitions.Work.{workSize}
-use Rattle.job.specs.definitions.InnerContracts.{Performable}
+use Rattle.job.specs.definitions.InnerContracts.{Performable, addedBy, addedAt}
 use Rattle.job.specs.declared.types.Kind.{Kind}
 
 -- ---- what a reading says of the command
@@ -50,6 +50,27 @@ read-refuses job k count rs at n e h = read-is job k count rs at e (CommandReadi
 pub read-performs : (job : List ℕ) (k count : ℕ) (rs : List Model) (at : ℕ) (kind : Kind) (next : ℕ) → count ≡ length rs
     → commandReading job k count at ≡ found kind next → command job k rs at ≡ performed (commandAt kind job at) rs next
 read-performs job k count rs at kind next e h = read-is job k count rs at e (found kind next) h
+
+-- the certificates that it adds
+abbrev AddsByReading : List ℕ → ℕ → List Model → ℕ → CommandReading → Type 0
+AddsByReading job k rs at (found kind next) = addedAt job k rs at ≡ addedBy (commandAt kind job at) rs
+AddsByReading job k rs at (CommandReading.refused n) = addedAt job k rs at ≡ []
+
+adds-by-reading : (job : List ℕ) (k : ℕ) (rs : List Model) (at : ℕ) → AddsByReading job k rs at (commandReading job k (length rs) at)
+unfolding addedAt commandReading
+adds-by-reading job k rs at = by (first-or-passed places)
+  where
+    places : List (Bool × ℕ)
+    places = readingPlaces job k (length rs) at
+
+    by : ((n : ℕ) × First places n) ⊎ Passed places → AddsByReading job k rs at (commandReading job k (length rs) at)
+    by (inl f) = rw (passing-first (found _ _) CommandReading.refused (f .1)) (passing-first _ _ (f .1))
+    by (inr f) = rw (passing-passed places (found _ _) CommandReading.refused f) (passing-passed places _ _ f)
+
+pub read-adds : (job : List ℕ) (k count : ℕ) (rs : List Model) (at : ℕ) (o : CommandReading) → count ≡ length rs
+    → commandReading job k count at ≡ o → AddsByReading job k rs at o
+read-adds job k count rs at o e h =
+    subst (AddsByReading job k rs at) (ap (λ (n : ℕ). commandReading job k n at) (sym e) ∙ h) (adds-by-reading job k rs at)
 
 module _ (job : List ℕ) (k count at : ℕ) (kind : Kind) (next : ℕ) (work : List ℤ)
     (h : commandReading job k count at ≡ found kind next) where

@@ -7,6 +7,7 @@ pub mod Step
 pub mod Run
 pub mod Reader
 pub mod Work
+pub mod Reports
 pub mod InnerContracts
 pub mod Order
 pub mod Requirement

@@ -9,7 +9,13 @@ pub mod MadeLaws
 pub mod MadeUnique
 pub mod WorkLaws
 pub mod GoodResults
+pub mod RecordLaws
 pub mod Accepted
+pub mod CertificateLaws
+pub mod ReportLaws
+pub mod RoomLaws
+pub mod RecordNumbers
+pub mod ReportTheorems
 pub mod Hull
 pub mod Claim
 pub mod MeetsNone
@@ -29,6 +35,7 @@ pub mod ExampleValues
 pub mod ExampleBoxes
 pub mod ExampleUse
 pub mod IntervalExamples
+pub mod ReportExamples
 pub mod FormerOperations
 pub mod FormerCommands
 pub mod FormerJob

@@ -4,6 +4,7 @@ mod decode;
 mod operations;
 pub mod reader;
 mod reading;
+mod reports;
 pub mod run;
 mod step;
 pub mod types;

@@ -64,3 +64,10 @@ pub enum JobOutcome {
     Accepted(usize),
     Refused(Refusal, usize),
 }
+
+// Which report records a check writes: none, the workshop's of 6 bytes, or the service's of 18.
+pub enum Report {
+    Empty,
+    Workshop,
+    Service,
+}

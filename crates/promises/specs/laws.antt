@@ -11,5 +11,6 @@ pub mod Benchmarks
 pub mod Calls
 pub mod Former
 pub mod Editions
+pub mod Reports
 pub mod Contracts
 pub mod Promises

@@ -2,12 +2,15 @@
 use mathlib.Core.Path.{_≡_}
 use mathlib.Core.Logic.{_⊎_}
 use mathlib.Core.List.{map}
+use Prim.Native.Nat.{_≤_, _<_}
 use lib.IntN.{pos}
 use Rattle.integer.specs.definitions.Fraction.{ℚ, whole, _*ℚ_, _/ℚ_, _≤ℚ_, _<ℚ_}
 use Rattle.integer.specs.definitions.FractionRing.{ℚ-ring}
 use Rattle.chebyshev.specs.definitions.Coefficients.{value}
 use Rattle.model.specs.definitions.Allowed.{position, Allows, OnInterval}
+use Rattle.model.specs.definitions.Models.{scale, maxDegree, maxRadius}
 use Rattle.model.specs.declared.types.Model.{Model}
+use Rattle.certificate.specs.definitions.Tests.{Certificate}
 use Rattle.certificate.specs.definitions.RootBounds.{RootBounds, ofUnits}
 
 -- Of the quotient q of f and g. 02, S-14: "at every fraction from -1 to 1 no value that g allows is zero, and each allowed value
@@ -40,3 +43,11 @@ pub record RootAllowed (f h : Model) : Type 0 where
   -- and every box of it "overlaps its model plus or minus its radius"
   pub overlap : (x v low high l u : ℚ) → OnInterval (f .interval) x → Allows f x v → l ≤ℚ v → v ≤ℚ u → RootBox low high l u
       → (r : ℚ) × (low ≤ℚ r) × (r ≤ℚ high) × Allows h x r
+
+-- Of the numbers of a result, of m, N and b too, so that each fits its field of a report record (02, S-30)
+pub record NumbersFit (c : Certificate) : Type 0 where
+  pub degree : c .model .degree ≤ maxDegree
+  pub contraction : c .m < scale
+  pub residual : c .N ≤ maxRadius
+  pub displacement : c .b ≤ c .model .radius
+  pub radius : c .model .radius ≤ maxRadius

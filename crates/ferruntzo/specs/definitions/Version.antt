@@ -3,4 +3,4 @@ use Prim.Native.Nat.{ℕ, _+_, _*_}
 
 -- 65536 times the first number, 256 times the second, and the third
 abbrev pub libraryVersion : ℕ
-libraryVersion = 65536 * 5 + 256 * 0 + 0
+libraryVersion = 65536 * 5 + 256 * 1 + 0

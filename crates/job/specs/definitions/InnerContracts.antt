@@ -3,22 +3,25 @@
 use mathlib.Core.Path.{_≡_}
 use mathlib.Core.Bool.{false, _&&_, _||_}
 use mathlib.Core.List.{List, [], _∷_, _++_}
-use Prim.Native.Nat.{ℕ, _+_, _≤_, _<_}
+use Prim.Native.Nat.{ℕ, _+_, _*_, _≤_, _<_}
 use lib.Dec.{leb}
 use lib.IntN.{ℤ}
-use lib.ListN.{length, drop}
+use lib.ListN.{length, take, drop}
 use Rattle.integer.specs.definitions.Lists.{zeros}
-use Rattle.model.specs.definitions.Models.{coefficientCount}
-use Rattle.model.specs.definitions.Outcomes.{Outcome, accepted, refused, payload, numberOf}
+use Rattle.model.specs.definitions.Models.{coefficientCount, maxDegree}
+use Rattle.model.specs.definitions.Outcomes.{Outcome, accepted, refused, payload, numberOf, passing}
 use Rattle.model.specs.definitions.Area.{Storable}
 use Rattle.certificate.specs.definitions.Tests.{scratchSize, scratchAfter, Certificate}
 use Rattle.model.specs.declared.types.Model.{Model}
 use Rattle.job.specs.definitions.Bytes.{byteAt}
 use Rattle.job.specs.definitions.Operations.{Maker, untested, namesBad, operation}
-use Rattle.job.specs.definitions.Reading.{maxResults, badNames, makesResult}
+use Rattle.job.specs.definitions.Reading.{maxResults, badNames, makesResult, readingPlaces, commandRead}
 use Rattle.job.specs.definitions.Decode.{operandsFor, layoutFor, makerAt, commandAt}
+use Rattle.job.specs.definitions.Decode.{Command, edition, result, finish, unknown}
 use Rattle.job.specs.definitions.Step.{Step, more, over}
 use Rattle.job.specs.definitions.Work.{workSize, workWith}
+use Rattle.job.specs.definitions.Reports.{recordSize, recordBytes, zeroBytes, roomSize}
+use Rattle.job.specs.declared.types.Report.{Report}
 use Rattle.job.specs.declared.types.Step.{Step as CodeStep}
 use Rattle.job.specs.declared.types.Step.the-variants.{More, Over, Refused}
 use Rattle.job.specs.declared.types.Kind.{Kind}
@@ -122,3 +125,46 @@ pub record Cleared (work scratch : List ℤ) : Type 0 where
   pub long : workSize ≤ length work
   pub zero : work ≡ zeros workSize ++ drop workSize work
   pub clear : Clear scratch
+
+-- ---- the records of a command
+
+-- a room with the bytes of the record of result i
+abbrev pub writtenAt : Report → List ℕ → ℕ → List ℕ → List ℕ
+writtenAt report room i bytes =
+    take (recordSize report * i) room ++ (bytes ++ drop (recordSize report * i + recordSize report) room)
+
+-- with the records of results from result i on
+unfoldable pub recordedFrom : Report → List ℕ → ℕ → List Certificate → List ℕ
+recordedFrom report room i [] = room
+recordedFrom report room i (c ∷ cs) = recordedFrom report (writtenAt report room i (recordBytes report i c)) (i + 1) cs
+
+-- the certificates that a command adds: that of its result, or none
+abbrev pub addedOf : Outcome Certificate → List Certificate
+addedOf (accepted c) = c ∷ []
+addedOf (refused n c) = []
+
+abbrev pub addedBy : Command → List Model → List Certificate
+addedBy edition rs = []
+addedBy (result m) rs = addedOf (operation m rs)
+addedBy finish rs = []
+addedBy unknown rs = []
+
+unfoldable pub addedAt : List ℕ → ℕ → List Model → ℕ → List Certificate
+addedAt job k rs at =
+    passing (readingPlaces job k (length rs) at) (addedBy (commandRead job k (length rs) at) rs) (λ n. [])
+
+-- whatever results the area holds before, the code writes the records of the certificates that f gives for them
+abbrev pub RecordsBy : Report → List ℕ → List ℕ → List ℤ → ℕ → (List Model → List Certificate) → Type 0
+RecordsBy report room room′ w count f =
+    (rs : List Model) (t : List ℤ) → Holds w count rs t → room′ ≡ recordedFrom report room count (f rs)
+
+-- a result and the room for its record
+pub record Recordable (report : Report) (room : List ℕ) (i degree : ℕ) : Type 0 where
+  pub long : roomSize report ≤ length room
+  pub inside : i < maxResults
+  pub small : degree ≤ maxDegree
+
+-- the room before the first command
+pub record ClearedRoom (report : Report) (room : List ℕ) : Type 0 where
+  pub long : roomSize report ≤ length room
+  pub zero : room ≡ zeroBytes (roomSize report) ++ drop (roomSize report) room

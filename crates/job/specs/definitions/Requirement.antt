@@ -4,8 +4,10 @@
 --   what each command gives: Operations; model's Models, Intervals (18 and 19), src/types.rt, Load, Add, Multiply;
 --     certificate's Tests, Quotient, Root, src/types.rt; radius's LeastRadius, src/types.rt; chebyshev's Coefficients, Product;
 --     integer's Rounding, Ring, Integer
---   what refusals there are, and their order: `Meets` of Order, `areaPlaces` of Work; model's Outcomes
---   what the code's answer means: `jobOutcomeOf` of Outcomes; for C, `answerIn`, `exportedPlaces` of ferruntzo's Jobs
+--   what refusals there are, and their order: `Meets` of Order, `areaPlaces` of Work, with a report `reportPlaces` of Reports;
+--     model's Outcomes
+--   what the code's answer means: `jobOutcomeOf` of Outcomes; for C, `answerIn`, `exportedPlaces` of ferruntzo's Jobs, with a
+--     report `exportedReportPlaces`
 --   where the models stand in the work area: `storedResult`, `modelsIn` of Work; model's Area
 --   what a model allows, and where: model's Allowed, Intervals; chebyshev's Allows, Coefficients, Recurrences
 --   fractions, their order and division: integer's Fraction, Pairs, FractionRing

@@ -55,25 +55,35 @@ areasFitNeeding need w s = leb workSize (length w) && leb need (length s)
 abbrev pub areasFit : List ℤ → List ℤ → Bool
 areasFit w s = areasFitNeeding scratchSize w s
 
--- "too short; neither is touched"; "refusal 1 goes with command 0"
-unfoldable pub checkNeeding : ℕ → List ℕ → List ℤ → List ℤ → JobOutcome (List Model)
-checkNeeding need job w s = cond (areasFitNeeding need w s) (jobOutcome job) (refused 1 0)
-
-abbrev pub checkOutcome : List ℕ → List ℤ → List ℤ → JobOutcome (List Model)
-checkOutcome job w s = checkNeeding scratchSize job w s
-
 abbrev pub resultsIn : JobOutcome (List Model) → List Model
 resultsIn (accepted rs) = rs
 resultsIn (refused n k) = []
 
+-- what every check of a job answers and leaves, `fit` being that the lent areas are long enough: "too short; neither is touched";
+-- "refusal 1 goes with command 0"
+abbrev pub outcomeIf : Bool → JobOutcome (List Model) → JobOutcome (List Model)
+outcomeIf fit o = cond fit o (refused 1 0)
+
 -- "An accepted job leaves later stretches zero; a refused one leaves all" 1,184, in 01 1,120, "zero, save that refusal 1 touches
 -- nothing. Numbers behind stay."
+abbrev pub workIf : Bool → JobOutcome (List Model) → List ℤ → List ℤ
+workIf fit o w = cond fit (workWith (resultsIn o) ++ drop workSize w) w
+
+-- the 16 numbers of the scratch are zero unless an area was too short
+abbrev pub scratchIf : Bool → List ℤ → List ℤ
+scratchIf fit s = cond fit (zeros scratchSize ++ drop scratchSize s) s
+
+unfoldable pub checkNeeding : ℕ → List ℕ → List ℤ → List ℤ → JobOutcome (List Model)
+checkNeeding need job w s = outcomeIf (areasFitNeeding need w s) (jobOutcome job)
+
+abbrev pub checkOutcome : List ℕ → List ℤ → List ℤ → JobOutcome (List Model)
+checkOutcome job w s = checkNeeding scratchSize job w s
+
 unfoldable pub workNeeding : ℕ → List ℕ → List ℤ → List ℤ → List ℤ
-workNeeding need job w s = cond (areasFitNeeding need w s) (workWith (resultsIn (jobOutcome job)) ++ drop workSize w) w
+workNeeding need job w s = workIf (areasFitNeeding need w s) (jobOutcome job) w
 
 abbrev pub workAfter : List ℕ → List ℤ → List ℤ → List ℤ
 workAfter job w s = workNeeding scratchSize job w s
 
--- the scratch after a job: its 16 numbers are zero unless an area was too short
 unfoldable pub scratchAfterJob : List ℤ → List ℤ → List ℤ
-scratchAfterJob w s = cond (areasFit w s) (zeros scratchSize ++ drop scratchSize s) s
+scratchAfterJob w s = scratchIf (areasFit w s) s

@@ -22,21 +22,21 @@ use Rattle.job.specs.declared.types.Kind.{Kind}
 use Rattle.job.specs.declared.types.Kind.the-variants.{End, Edition, Result, Unknown}
 
 -- the commands of the results after a command
-abbrev commandsAfter : Command → List Command → List Command
+abbrev pub commandsAfter : Command → List Command → List Command
 commandsAfter edition cs = cs
 commandsAfter (result m) cs = cs ++ (result m ∷ [])
 commandsAfter finish cs = cs
 commandsAfter unknown cs = cs
 
 module _ (on : List Command → JobReading) (cs : List Command) (job : List ℕ) (k at : ℕ) where
-  reads-on : (kind : Kind) → isEnd kind ≡ false → badKind k kind ≡ false
+  pub reads-on : (kind : Kind) → isEnd kind ≡ false → badKind k kind ≡ false
       → readOn k on cs (commandAt kind job at) ≡ on (commandsAfter (commandAt kind job at) cs)
   reads-on End e b = absurd (true≢false e)
   reads-on Edition e b = refl
   reads-on (Result o) e b = refl
   reads-on Unknown e b = absurd (true≢false b)
 
-made-after : {cs : List Command} {rs : List Model} (c : Command) → Made cs rs → badNames c (length rs) ≡ false
+pub made-after : {cs : List Command} {rs : List Model} (c : Command) → Made cs rs → badNames c (length rs) ≡ false
     → Passed (operationPlaces c rs) → Made (commandsAfter c cs) (resultsAfter c rs)
 made-after edition d n f = d
 made-after {cs} {rs} (result m) d n f = one-more d m n (operation-passed m rs f)
@@ -71,18 +71,18 @@ module _ {job : List ℕ} {k : ℕ} {rs : List Model} {at : ℕ} (r : Reaches jo
       sym (ap (λ (f : ℕ). readFrom f job k (h .cs) at) f ∙ rw (made-length (h .made))) ∙ h .left
 
   module _ (f : Passed (commandPlaces job k rs at)) where
-    by-reading : readOn k onward (h .cs) c ≡ jobReading job
+    pub by-reading : readOn k onward (h .cs) c ≡ jobReading job
     unfolding commandPlaces
     by-reading = sym (passing-passed reading _ _ (passed-append reading (operationPlaces c rs) .0 f .0)) ∙ reads-there
 
-    reached-next : isLast job k rs at ≡ false → Reached job (k + 1) (resultsAfter c rs) (nextAt job k (length rs) at)
+    abbrev pub reached-next : isLast job k rs at ≡ false → Reached job (k + 1) (resultsAfter c rs) (nextAt job k (length rs) at)
     reached-next e = record {
       cs = commandsAfter c (h .cs);
       made = made-after c (h .made) (command-readable job k rs at f .names-good) (command-passed job k rs at f);
       left = sym (reads-on onward (h .cs) job k at kind e (command-readable job k rs at f .kind-good)) ∙ by-reading;
     }
 
-    reached-end : isLast job k rs at ≡ true → jobReading job ≡ well (h .cs)
+    pub reached-end : isLast job k rs at ≡ true → jobReading job ≡ well (h .cs)
     reached-end e = sym by-reading ∙ ap (λ (x : Kind). readOn k onward (h .cs) (commandAt x job at)) (isEnd-is kind e)
 
 pub reached : {job : List ℕ} {k : ℕ} {rs : List Model} {at : ℕ} → Reaches job k rs at → Reached job k rs at

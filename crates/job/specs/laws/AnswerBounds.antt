@@ -17,6 +17,8 @@ use Rattle.model.specs.definitions.Outcomes.{payload}
 use Rattle.job.specs.definitions.Outcomes.{JobOutcome, accepted, refused, counted, refusedCommand, resultCount}
 use Rattle.job.specs.definitions.Run.{jobOutcome}
 use Rattle.job.specs.definitions.Work.{areasFit, checkOutcome, checkNeeding}
+use Rattle.job.specs.definitions.Reports.{reportFits, reportOutcome}
+use Rattle.job.specs.declared.types.Report.{Report}
 use Rattle.job.specs.definitions.Order.{resultsAfter, Reaches, start, next}
 use Rattle.job.specs.laws.OrderLaws.{reaches-bounds, refused-exactly, accepted-exactly}
 use Rattle.job.specs.laws.CommandLaws.{command-readable}
@@ -54,5 +56,14 @@ module _ (job : List ℕ) where
   answer-small w s = by (areasFit w s) refl
     where
       by : (t : Bool) → areasFit w s ≡ t → Small (counted (checkOutcome job w s))
+      by true e = rw e (outcome-small (jobOutcome job) refl)
+      by false e = rw e (record { results = omega arith; number = omega arith })
+
+  -- with report records too
+  pub report-small : (report : Report) (w s : List ℤ) (room : List ℕ) → Small (counted (reportOutcome report job w s room))
+  unfolding reportOutcome
+  report-small report w s room = by (reportFits report w s room) refl
+    where
+      by : (t : Bool) → reportFits report w s room ≡ t → Small (counted (reportOutcome report job w s room))
       by true e = rw e (outcome-small (jobOutcome job) refl)
       by false e = rw e (record { results = omega arith; number = omega arith })

@@ -1,16 +1,17 @@
 -- Jobs as bytes, for examples. Coefficients are given from the first on, none of them negative.
 use mathlib.Core.List.{List, [], _∷_, _++_}
-use Prim.Native.Nat.{ℕ, zero, suc, _*_, _-_, _/_, _%_}
+use Prim.Native.Nat.{ℕ, zero, suc, _*_, _-_}
 use lib.IntN.{ℤ, pos}
 use lib.ListN.{replicate, length}
 use Rattle.model.specs.definitions.Models.{standardModel}
 use Rattle.model.specs.declared.types.Candidate.{Candidate}
 use Rattle.model.specs.declared.types.Model.{Model}
+use Rattle.job.specs.definitions.Reports.{littleEndian}
 
 -- natural numbers as four bytes each, the lowest first
 abbrev pub wordsFor : List ℕ → List ℕ
 wordsFor [] = []
-wordsFor (n ∷ ns) = n % 256 ∷ n / 256 % 256 ∷ n / 65536 % 256 ∷ n / 16777216 % 256 ∷ wordsFor ns
+wordsFor (n ∷ ns) = littleEndian n ++ wordsFor ns
 
 abbrev pub block : ℕ → List ℕ → List ℕ
 block n cs = n ∷ (wordsFor cs ++ replicate (132 - 4 * length cs) 0)

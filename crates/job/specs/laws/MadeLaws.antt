@@ -80,7 +80,7 @@ module _ (i : ℕ) (rs : List Model) where
   making-named (of-one j g) h = ap g (same-result j (leb-false i j h))
   making-named (of-two j k g) h = let b = both-below i j k h in ap₂ g (same-result j (b .0)) (same-result k (b .1))
 
-  operation-named : (m : Maker) → namesBad m i ≡ false → operation m (take i rs) ≡ operation m rs
+  pub operation-named : (m : Maker) → namesBad m i ≡ false → operation m (take i rs) ≡ operation m rs
   unfolding operation makerPlaces
   operation-named m h = ap (λ (g : Given). outcome (g .places) (g .certificate) zeroCertificate) (making-named (makingFor m) h)
 

@@ -15,6 +15,7 @@ use Rattle.promises.specs.definitions.Benchmarks.{Benchmarks}
 use Rattle.promises.specs.definitions.Calls.{Calls}
 use Rattle.promises.specs.definitions.Former.{FormerNumbers}
 use Rattle.promises.specs.definitions.Editions.{KinderDefault, Conversions}
+use Rattle.promises.specs.definitions.Reports.{ReportRecords, ReportRooms, ReportsExactly}
 
 pub record Promises : Type 0 where
   -- requirement 1, what the contracts do not say
@@ -32,7 +33,7 @@ pub record Promises : Type 0 where
   -- what the contracts say of accepted answers
   pub contracts : ContractClaims
   pub calls : Calls
-  -- 02: S-3, S-5, S-8, S-11, S-14, S-17, S-19, S-22, S-24, S-27
+  -- 02: S-3, S-5, S-8, S-11, S-14, S-17, S-19, S-22, S-24, S-27, S-30
   pub series : SeriesPromises
   pub products : Products
   pub old-sense : OldSense
@@ -46,3 +47,6 @@ pub record Promises : Type 0 where
   pub former-numbers : FormerNumbers
   pub kinder-default : KinderDefault
   pub conversions : Conversions
+  pub report-records : ReportRecords
+  pub report-rooms : ReportRooms
+  pub reports-exactly : ReportsExactly

@@ -14,6 +14,7 @@ use Rattle.promises.specs.laws.Benchmarks.{benchmarks-hold}
 use Rattle.promises.specs.laws.Calls.{calls-kept}
 use Rattle.promises.specs.laws.Former.{former-numbers}
 use Rattle.promises.specs.laws.Editions.{default-kept, conversions-kept}
+use Rattle.promises.specs.laws.Reports.{records-kept, rooms-kept, exactly-kept}
 
 pub promises-kept : Promises
 promises-kept = record {
@@ -40,4 +41,7 @@ promises-kept = record {
   former-numbers = former-numbers;
   kinder-default = default-kept;
   conversions = conversions-kept;
+  report-records = records-kept;
+  report-rooms = rooms-kept;
+  reports-exactly = exactly-kept;
 }
