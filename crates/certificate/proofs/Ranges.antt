@@ -7,16 +7,16 @@ use native.Mathlib.Omega.{arith}
 use native.Mathlib.Nat.{mul-le-mul}
 use lib.IntN.{ℤ, pos}
 use lib.ListN.{length, length-take}
-use Rattle.integer.specs.definitions.Integer.{ℤ_ring}
+use Rattle.ring.specs.definitions.Integer.{ℤ_ring}
 use Rattle.chebyshev.specs.definitions.Coefficients.{weight, subtract_lists}
 use Rattle.chebyshev.specs.definitions.Product.{product}
 use Rattle.model.specs.definitions.Models.{scale, coefficient_count, product_size, max_weight, terms, good}
-use Rattle.model.specs.laws.ModelLaws.{good_is}
+use Rattle.model.proofs.laws.ModelLaws.{good_is}
 use Rattle.model.specs.definitions.Multiply.{product_list}
-use Rattle.model.specs.laws.GoodLaws.{length-terms, weight-terms, weight-product_list}
+use Rattle.model.proofs.laws.GoodLaws.{length-terms, weight-terms, weight-product_list}
 use Rattle.model.specs.declared.types.Model.{Model}
 use Rattle.certificate.specs.definitions.InnerContracts.{residual_list, ProductTerms, Subtrahend, Ready}
-use Rattle.certificate.specs.laws.ResidualLaws.{weight_residual, weight_residual_take, weight-constant}
+use Rattle.certificate.proofs.laws.ResidualLaws.{weight_residual, weight_residual_take, weight-constant}
 
 -- every model of the code has 33 coefficients
 terms_some : (m : Model) → length m.coefficients ≡ coefficient_count → 0 < length (terms m)

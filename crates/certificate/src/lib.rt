@@ -1,4 +1,6 @@
 // The quotient test and the root tests: a posteriori validation of proposed candidates over a lent scratch.
+#![tactic(auto)]
+
 mod numbers;
 pub mod quotient;
 mod residual;

@@ -1,7 +1,7 @@
 // Weights of residuals C - 2S f. The list C is formed in groups as long as a part of the scratch, which may have any length from
 // 1; a group is weighed before the next one is formed.
 ghost use Rattle.std.specs.Prelude.{◌≡◌, ◌+◌, ◌*◌, ◌≤◌, ◌<◌, ◌^◌, length};
-ghost use Rattle.integer.specs.definitions.Integer.{ℤ_ring};
+ghost use Rattle.ring.specs.definitions.Integer.{ℤ_ring};
 ghost use Rattle.chebyshev.specs.definitions.Coefficients.{weight as weight_of};
 ghost use Rattle.chebyshev.specs.definitions.Product.{product};
 ghost use Rattle.model.specs.definitions.Models.{scale, product_size};

@@ -10,8 +10,8 @@ use lib.ListN.{length}
 use Rattle.model.specs.definitions.Models.{coefficient_count}
 use Rattle.model.specs.definitions.Area.{model_size, candidate_size, words, area_model, Storable, fits, area_out}
 use Rattle.model.specs.definitions.Outcomes.{Outcome, number, payload, verdict_number, outcome_of}
-use Rattle.model.specs.laws.AreaLaws.{fit_last, model_stored}
-use Rattle.model.specs.laws.OutcomeLaws.{held_judged, number-judged, payload-judged, zero_accepted}
+use Rattle.model.proofs.laws.AreaLaws.{fit_last, model_stored}
+use Rattle.model.proofs.laws.OutcomeLaws.{held_judged, number-judged, payload-judged, zero_accepted}
 use Rattle.model.specs.declared.types.Model.{Model}
 use Rattle.model.specs.declared.types.ModelOutcome.{ModelOutcome}
 use Rattle.model.specs.declared.types.Verdict.{Verdict}

@@ -11,11 +11,11 @@ use lib.IntN.{ℤ}
 use lib.ListN.{length, drop, take, replicate}
 use Rattle.model.specs.definitions.Area.{area_out}
 use Rattle.model.specs.definitions.Outcomes.{number_of, here}
-use Rattle.model.specs.laws.OutcomeLaws.{number_of_positive}
+use Rattle.model.proofs.laws.OutcomeLaws.{number_of_positive}
 use Rattle.job.specs.definitions.Outcomes.{JobOutcome, accepted, job_outcome_of, refusal_number}
 use Rattle.job.specs.definitions.Work.{area_place}
 use Rattle.job.specs.definitions.Requirement.{Requirement3}
-use Rattle.job.specs.laws.RequirementLaws.{refused_required, required_behind}
+use Rattle.job.proofs.laws.RequirementLaws.{refused_required, required_behind}
 use Rattle.survey.specs.definitions.Editions.{ConvertedJob, edition_conversion, output_after}
 use Rattle.job.specs.declared.types.JobOutcome.{JobOutcome as CodeOutcome}
 use Rattle.job.specs.declared.types.JobOutcome.TheVariants.{Accepted, Refused}

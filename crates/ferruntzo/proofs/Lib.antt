@@ -1,3 +1,4 @@
+pub mod laws
 pub mod Answering
 pub mod JobAnswering
 pub mod SelectionAnswering

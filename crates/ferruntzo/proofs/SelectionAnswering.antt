@@ -10,10 +10,10 @@ use Rattle.model.specs.definitions.Outcomes.{Outcome}
 use Rattle.model.specs.declared.types.Model.{Model}
 use Rattle.certificate.specs.definitions.Tests.{scratch_size, scratch_after}
 use Rattle.selection.specs.definitions.Select.{Selected, selection, selected_of}
-use Rattle.selection.specs.laws.SelectLaws.{selected_number, selected_payload}
+use Rattle.selection.proofs.laws.SelectLaws.{selected_number, selected_payload}
 use Rattle.ferruntzo.specs.definitions.Areas.{selection_size}
 use Rattle.ferruntzo.specs.definitions.Selections.{SelectionAnswer, selection_answer, selection_fits, short_selection, selection_in, quotient_of_two_answer}
-use Rattle.model.specs.laws.AreaLaws.{fit_last, filled}
+use Rattle.model.proofs.laws.AreaLaws.{fit_last, filled}
 use Rattle.ferruntzo.proofs.Answering.{two_fit}
 
 -- the areas have their numbers

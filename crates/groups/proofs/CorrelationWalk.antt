@@ -5,10 +5,10 @@ use Prim.Native.Nat.{ℕ, suc, ◌+◌, ◌*◌, ◌^◌, ◌≤◌, ◌<◌}
 use native.Mathlib.Omega.{arith}
 use lib.IntN.{ℤ, pos, nat_abs, ◌+ℤ◌, ◌*ℤ◌, +ℤ_idr}
 use lib.ListN.{length, get_or, drop}
-use Rattle.integer.specs.definitions.Integer.{ℤ_ring}
+use Rattle.ring.specs.definitions.Integer.{ℤ_ring}
 use Rattle.chebyshev.specs.definitions.Coefficients.{weight}
 use Rattle.chebyshev.specs.definitions.Convolution.{correlation}
-use Rattle.chebyshev.specs.laws.ConvolutionLaws.{correlation_step, correlation_end, correlation_beyond, correlation_small}
+use Rattle.chebyshev.proofs.laws.ConvolutionLaws.{correlation_step, correlation_end, correlation_beyond, correlation_small}
 use Rattle.groups.specs.definitions.InnerContracts.{Below, Holds}
 use Rattle.groups.specs.declared.pairs.TwoPlaces.{TwoPlaces}
 use Rattle.groups.proofs.PairWalks.{step, done, no_pair, begun_small, left_small}

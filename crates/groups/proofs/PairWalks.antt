@@ -6,11 +6,11 @@ use native.Mathlib.Omega.{arith}
 use native.Mathlib.Nat.{mul-le-mul, le_refl}
 use lib.IntN.{ℤ, pos, nat_abs, ◌+ℤ◌, ◌*ℤ◌, +ℤ_assoc, +ℤ_idr}
 use lib.ListN.{drop}
-use Rattle.integer.specs.definitions.Integer.{ℤ_ring}
-use Rattle.integer.specs.laws.Parts.{sum, abs, apart, abs-add}
+use Rattle.ring.specs.definitions.Integer.{ℤ_ring}
+use Rattle.ring.specs.laws.Parts.{sum, abs, apart, abs-add}
 use Rattle.chebyshev.specs.definitions.Coefficients.{weight}
-use Rattle.chebyshev.specs.laws.Weight.{weight-drop}
-use Rattle.chebyshev.specs.laws.ConvolutionLaws.{mul-zero}
+use Rattle.chebyshev.proofs.laws.Weight.{weight-drop}
+use Rattle.chebyshev.proofs.laws.ConvolutionLaws.{mul-zero}
 
 -- a pair p goes from what is left to what is summed
 pub step : (s p r l T s' : ℤ) → s +ℤ l ≡ T → l ≡ p +ℤ r → s' ≡ s +ℤ p → s' +ℤ r ≡ T

@@ -6,9 +6,9 @@ use native.Mathlib.Omega.{arith}
 use native.Mathlib.Nat.{le_refl}
 use lib.IntN.{ℤ, pos, ◌+ℤ◌, ◌*ℤ◌, +ℤ_idl}
 use lib.ListN.{length, get_or, drop}
-use Rattle.integer.specs.definitions.Integer.{ℤ_ring}
+use Rattle.ring.specs.definitions.Integer.{ℤ_ring}
 use Rattle.chebyshev.specs.definitions.Convolution.{convolution, correlation}
-use Rattle.chebyshev.specs.laws.ConvolutionLaws.{convolution_skip, convolution_step, convolution_end, two_sums_zero, two_sums_suc}
+use Rattle.chebyshev.proofs.laws.ConvolutionLaws.{convolution_skip, convolution_step, convolution_end, two_sums_zero, two_sums_suc}
 use Rattle.chebyshev.specs.definitions.TwoSums.{two_sums}
 use Rattle.groups.proofs.PairWalks.{no_pair}
 

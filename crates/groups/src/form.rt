@@ -1,6 +1,6 @@
 // A group of places of the list C, two places at a time, without the rest of the list.
 ghost use Rattle.std.specs.Prelude.{◌≡◌, ◌+◌, ◌*◌, ◌≤◌, ◌<◌, ◌^◌, length};
-ghost use Rattle.integer.specs.definitions.Integer.{ℤ_ring};
+ghost use Rattle.ring.specs.definitions.Integer.{ℤ_ring};
 ghost use Rattle.chebyshev.specs.definitions.Coefficients.{weight};
 ghost use Rattle.chebyshev.specs.definitions.TwoSums.{two_sums, places_from};
 ghost use Rattle.groups.specs.definitions.InnerContracts.{Holds};

@@ -1,6 +1,6 @@
 // The sums over the pairs that belong to a place of the list C, for two places at a time: they share the loads of coefficients.
 ghost use Rattle.std.specs.Prelude.{◌+◌, ◌-◌, ◌*◌, ◌≤◌, ◌<◌, ◌^◌, ◌+ℤ◌, ◌*ℤ◌, length, drop};
-ghost use Rattle.integer.specs.definitions.Integer.{ℤ_ring};
+ghost use Rattle.ring.specs.definitions.Integer.{ℤ_ring};
 ghost use Rattle.chebyshev.specs.definitions.Coefficients.{weight};
 ghost use Rattle.chebyshev.specs.definitions.Convolution.{convolution, correlation};
 ghost use Rattle.groups.specs.definitions.InnerContracts.{Below, Holds};

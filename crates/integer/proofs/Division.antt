@@ -8,11 +8,11 @@ use lib.Signed.{◌<ℤ◌, quot_z, rem_z}
 use mir.Syntax.{w64}
 use mir.Val.{SFits, to_z, of_z}
 use mir.Facts.{to_z-of_z}
-use Rattle.integer.specs.laws.Parts.{◌⁺, ◌⁻, abs, apart, sum, difference}
-use Rattle.integer.specs.laws.Difference.{all3, differences}
-use Rattle.integer.specs.laws.Machine.{fits, within, is_positive, positive_is, positive_bits, Truncated, truncated}
+use Rattle.ring.specs.laws.Parts.{◌⁺, ◌⁻, abs, apart, sum, difference}
+use Rattle.ring.specs.laws.Difference.{all3, differences}
+use Rattle.integer.proofs.laws.Machine.{fits, within, is_positive, positive_is, positive_bits, Truncated, truncated}
 use Rattle.integer.specs.definitions.Rounding.{floor, up}
-use Rattle.integer.specs.laws.RoundingLaws.{floor_left, up_left}
+use Rattle.integer.proofs.laws.RoundingLaws.{floor_left, up_left}
 
 rest : (n m x : ℤ) → n ≡ m +ℤ x → x ≡ n -ℤ m
 rest = all3 _ (simp differences (omega arith))

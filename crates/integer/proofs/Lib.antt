@@ -1,2 +1,3 @@
+pub mod laws
 pub mod Division
 pub mod Nearest

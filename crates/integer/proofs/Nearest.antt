@@ -8,11 +8,11 @@ use lib.IntN.{ℤ, pos, negsuc, nat_abs, ◌+ℤ◌, ◌-ℤ◌, ◌*ℤ◌}
 use lib.Signed.{◌≤ℤ◌, lt_z}
 use mir.Syntax.{w64}
 use mir.Val.{SFits}
-use Rattle.integer.specs.laws.Parts.{◌⁺, ◌⁻, abs, apart, sum, difference, product, lt_yes, lt_no}
-use Rattle.integer.specs.laws.Difference.{≤_parts}
-use Rattle.integer.specs.laws.Machine.{fits, within, is_positive}
+use Rattle.ring.specs.laws.Parts.{◌⁺, ◌⁻, abs, apart, sum, difference, product, lt_yes, lt_no}
+use Rattle.ring.specs.laws.Difference.{≤_parts}
+use Rattle.integer.proofs.laws.Machine.{fits, within, is_positive}
 use Rattle.integer.specs.definitions.Rounding.{floor, parity}
-use Rattle.integer.specs.laws.RoundingLaws.{floor-le, floor_rest, parity_small}
+use Rattle.integer.proofs.laws.RoundingLaws.{floor-le, floor_rest, parity_small}
 use Rattle.integer.proofs.Division.{Operands, divisor}
 
 pub record FloorAndRest (o : Operands) : Type 0 where

@@ -10,22 +10,22 @@ use lib.ListN.{length, drop}
 use lib.Seq.{drop_at}
 use Rattle.model.specs.declared.types.Refusal.TheVariants.{ShortArea}
 use Rattle.certificate.specs.definitions.Tests.{scratch_size, scratch_after}
-use Rattle.certificate.specs.laws.Stages.{scratch_cleared, scratch_twice}
+use Rattle.certificate.proofs.laws.Stages.{scratch_cleared, scratch_twice}
 use Rattle.integer.specs.definitions.Lists.{zeros}
-use Rattle.integer.specs.laws.Clearing.{length-zeros}
+use Rattle.integer.proofs.laws.Clearing.{length-zeros}
 use Rattle.job.specs.definitions.Outcomes.{job_outcome_of, counted}
 use Rattle.job.specs.definitions.Run.{job_outcome}
 use Rattle.job.specs.definitions.Work.{work_size, work_with, results_in}
 use Rattle.job.specs.definitions.Reports.{job_certificates, zero_bytes, room_size, room_with, report_fits, report_places, report_outcome, report_work, report_scratch, room_after}
 use Rattle.job.specs.declared.types.Report.{Report}
-use Rattle.job.specs.laws.ReportLaws.{report_fit, report_short}
+use Rattle.job.proofs.laws.ReportLaws.{report_fit, report_short}
 use Rattle.job.specs.definitions.Requirement.{Requirement3}
-use Rattle.job.specs.laws.RequirementLaws.{refused_required, required_behind}
+use Rattle.job.proofs.laws.RequirementLaws.{refused_required, required_behind}
 use Rattle.job.specs.definitions.InnerContracts.{Clear}
 use Rattle.job.specs.declared.types.JobOutcome.{JobOutcome as CodeOutcome}
 use Rattle.job.specs.declared.types.JobOutcome.TheVariants.{Refused}
 use Rattle.job.proofs.Loop.{Ran}
-use Rattle.job.specs.laws.RecordLaws.{length-zero_bytes}
+use Rattle.job.proofs.laws.RecordLaws.{length-zero_bytes}
 
 -- an area whose first n numbers were cleared
 module _ (n : ℕ) (w w' : List ℤ) (e : w' ≡ zeros n ++ drop n w) where

@@ -1,3 +1,4 @@
+pub mod laws
 pub mod ByteLaws
 pub mod Results
 pub mod Rooms

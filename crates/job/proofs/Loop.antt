@@ -16,20 +16,20 @@ use Rattle.job.specs.definitions.Step.{Step, more, over, command}
 use Rattle.job.specs.definitions.Run.{job_outcome}
 use Rattle.job.specs.definitions.Work.{work_size, work_with, result_words, results_in}
 use Rattle.job.specs.definitions.Order.{Reaches, start}
-use Rattle.job.specs.laws.OrderLaws.{reaches_bounds, stops_there, ends_there, moves_on, refused_exactly}
+use Rattle.job.proofs.laws.OrderLaws.{reaches_bounds, stops_there, ends_there, moves_on, refused_exactly}
 use Rattle.job.specs.definitions.InnerContracts.{Holds, Stepped, ClearedRoom, recorded_from, added_at}
 use Rattle.job.specs.definitions.Reader.{read_from, job_reading}
 use Rattle.job.specs.definitions.Reports.{certificate_by, job_certificates, zero_bytes, room_size, room_with}
-use Rattle.job.specs.laws.Accepted.{Reached}
-use Rattle.job.specs.laws.CertificateLaws.{certificates_onward}
+use Rattle.job.proofs.laws.Accepted.{Reached}
+use Rattle.job.proofs.laws.CertificateLaws.{certificates_onward}
 use Rattle.job.specs.declared.types.Report.{Report}
 use Rattle.job.specs.declared.types.Step.TheVariants.{More, Over, Refused as Stopped}
 use Rattle.job.specs.declared.types.JobOutcome.{JobOutcome as CodeOutcome}
 use Rattle.job.specs.declared.types.JobOutcome.TheVariants.{Accepted, Refused}
 use Rattle.job.specs.definitions.Requirement.{Requirement3, nothing}
-use Rattle.job.specs.laws.RequirementLaws.{refused_required}
+use Rattle.job.proofs.laws.RequirementLaws.{refused_required}
 use Rattle.job.proofs.Results.{behind}
-use Rattle.job.specs.laws.RecordLaws.{room_empty}
+use Rattle.job.proofs.laws.RecordLaws.{room_empty}
 use Rattle.job.proofs.LoopRooms.{room_again, room_ended, room_refused}
 use Rattle.job.proofs.Requirement.{requirement}
 

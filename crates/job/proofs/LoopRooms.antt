@@ -13,9 +13,9 @@ use Rattle.job.specs.definitions.Run.{job_outcome}
 use Rattle.job.specs.definitions.Order.{Reaches}
 use Rattle.job.specs.definitions.InnerContracts.{recorded_from, added_at}
 use Rattle.job.specs.definitions.Reports.{certificate_by, job_certificates, zero_bytes, room_size, room_with}
-use Rattle.job.specs.laws.Accepted.{Reached}
-use Rattle.job.specs.laws.CertificateLaws.{Stops, MovesOn, certificates_count, certificates_end, certificates_refused, certificates_none}
-use Rattle.job.specs.laws.RecordLaws.{room_empty}
+use Rattle.job.proofs.laws.Accepted.{Reached}
+use Rattle.job.proofs.laws.CertificateLaws.{Stops, MovesOn, certificates_count, certificates_end, certificates_refused, certificates_none}
+use Rattle.job.proofs.laws.RecordLaws.{room_empty}
 use Rattle.job.specs.declared.types.Report.{Report}
 use Rattle.job.proofs.Rooms.{room_behind, recorded_holds}
 

@@ -9,17 +9,17 @@ use lib.IntN.{ℤ}
 use Rattle.model.specs.definitions.Models.{good, zero_model}
 use Rattle.model.specs.definitions.Outcomes.{Outcome, accepted, refused, payload, judged}
 use Rattle.model.specs.definitions.Load.{loading_places, loading}
-use Rattle.model.specs.laws.ModelLaws.{good_is}
+use Rattle.model.proofs.laws.ModelLaws.{good_is}
 use Rattle.model.specs.definitions.Area.{Storable}
-use Rattle.model.specs.laws.ResultLaws.{outcome-payload, zero_storable}
-use Rattle.model.specs.laws.OutcomeLaws.{payload-judged}
+use Rattle.model.proofs.laws.ResultLaws.{outcome-payload, zero_storable}
+use Rattle.model.proofs.laws.OutcomeLaws.{payload-judged}
 use Rattle.certificate.specs.definitions.Tests.{Certificate, test_of}
 use Rattle.certificate.specs.declared.types.TestOutcome.{TestOutcome}
 use Rattle.model.specs.declared.types.Model.{Model}
 use Rattle.model.specs.declared.types.Verdict.{Verdict}
 use Rattle.model.specs.declared.types.Verdict.TheVariants.{Accepted, Refused}
 use Rattle.job.specs.definitions.Operations.{Maker, untested, result_at, names_bad, operation}
-use Rattle.job.specs.laws.CommandLaws.{both_below}
+use Rattle.job.proofs.laws.CommandLaws.{both_below}
 use Rattle.job.specs.definitions.Work.{stored_result}
 use Rattle.job.specs.definitions.Decode.{maker_at}
 use Rattle.job.specs.definitions.InnerContracts.{Holds, untested_outcome, Performs, Operable}

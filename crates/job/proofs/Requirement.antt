@@ -7,9 +7,9 @@ use native.Mathlib.Omega.{arith}
 use borrow.Author.Tests.{leb-false}
 use lib.IntN.{ℤ}
 use lib.ListN.{length}
-use Rattle.integer.specs.laws.OrderedRingLaws.{lt-le}
-use Rattle.integer.specs.definitions.Fraction.{ℚ}
-use Rattle.integer.specs.laws.FractionOrder.{ℚ_ordered}
+use Rattle.ring.proofs.laws.OrderedRingLaws.{lt-le}
+use Rattle.fraction.specs.definitions.Fraction.{ℚ}
+use Rattle.integer.proofs.laws.FractionOrder.{ℚ_ordered}
 use Rattle.model.specs.definitions.Allowed.{Allows, OnInterval}
 use Rattle.model.specs.declared.types.Model.{Model}
 use Rattle.job.specs.definitions.Operations.{Maker, quotient, root, result_at, names_bad}
@@ -19,11 +19,11 @@ use Rattle.job.specs.definitions.Run.{job_outcome}
 use Rattle.job.specs.definitions.Reader.{command_for}
 use Rattle.job.specs.definitions.Work.{stored_result}
 use Rattle.job.specs.definitions.InnerContracts.{Holds}
-use Rattle.job.specs.laws.CommandLaws.{both_below}
+use Rattle.job.proofs.laws.CommandLaws.{both_below}
 use Rattle.job.specs.definitions.Requirement.{Overlaps, Made, Results, Requirement3}
-use Rattle.job.specs.laws.MadeLaws.{made_maker}
-use Rattle.job.specs.laws.Accepted.{accepted_read}
-use Rattle.job.specs.laws.Claim.{overlaps, divisor_nonzero, radicand_positive}
+use Rattle.job.proofs.laws.MadeLaws.{made_maker}
+use Rattle.job.proofs.laws.Accepted.{accepted_read}
+use Rattle.job.proofs.laws.Claim.{overlaps, divisor_nonzero, radicand_positive}
 use Rattle.job.proofs.Results.{result_held, models_held}
 
 module _ (job : List ℕ) (rs : List Model) (e : job_outcome job ≡ accepted rs) (work t : List ℤ) (holds : Holds work (length rs) rs t) where

@@ -7,10 +7,10 @@ use lib.IntN.{ℤ}
 use lib.ListN.{length, take, drop, length-append}
 use lib.Seq.{take_at, take-suc, take-length, drop_at, drop-append-add, drop-drop}
 use Rattle.integer.specs.definitions.Lists.{zeros}
-use Rattle.integer.specs.laws.Clearing.{length-zeros, zeros-append}
+use Rattle.integer.proofs.laws.Clearing.{length-zeros, zeros-append}
 use Rattle.model.specs.definitions.Models.{coefficient_count, zero_model}
 use Rattle.model.specs.definitions.Area.{model_size, words, area_model}
-use Rattle.model.specs.laws.AreaLaws.{length-words, model_words}
+use Rattle.model.proofs.laws.AreaLaws.{length-words, model_words}
 use Rattle.model.specs.declared.types.Model.{Model}
 use Rattle.job.specs.definitions.Reading.{max_results}
 use Rattle.job.specs.definitions.Operations.{result_at}

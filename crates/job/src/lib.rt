@@ -1,4 +1,6 @@
 // Jobs: commands from bytes, the work area, and the check of a whole job.
+#![tactic(auto)]
+
 mod bytes;
 mod decode;
 mod operations;

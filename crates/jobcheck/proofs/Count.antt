@@ -4,7 +4,7 @@ use mathlib.Core.List.{List}
 use Prim.Native.Nat.{ℕ, ◌≤◌}
 use native.Mathlib.Omega.{arith}
 use lib.IntN.{ℤ}
-use Rattle.job.specs.laws.AnswerBounds.{answer_small}
+use Rattle.job.proofs.laws.AnswerBounds.{answer_small}
 use Rattle.job.specs.definitions.Reading.{max_results}
 use Rattle.job.specs.definitions.Outcomes.{job_outcome_of, counted, result_count}
 use Rattle.job.specs.definitions.Work.{check_outcome}

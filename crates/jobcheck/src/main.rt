@@ -1,5 +1,7 @@
 // Checks a job from standard input: a line for each result, number, degree, radius, then 'accepted' and the count; or one
 // line: 'refused', number, command; 'too long'; or 'unreadable', if a read failed.
+#![tactic(auto)]
+
 ghost use Rattle.jobcheck.specs.definitions.Main.{Printable};
 ghost use Rattle.std.specs.Prelude.{◌+◌};
 

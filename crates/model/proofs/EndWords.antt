@@ -4,8 +4,8 @@ use lib.IntN.{ℤ, nat_abs, ◌-ℤ◌}
 use Prim.Native.Nat.{◌^◌, ◌≤◌}
 use mir.Syntax.{w32, w64}
 use mir.Val.{SFits}
-use Rattle.integer.specs.laws.Machine.{abs-fits, within}
-use Rattle.integer.specs.laws.Parts.{abs, abs-sub}
+use Rattle.integer.proofs.laws.Machine.{abs-fits, within}
+use Rattle.ring.specs.laws.Parts.{abs, abs-sub}
 
 pub word_size : (x : ℤ) → SFits w32 x → nat_abs x ≤ 2 ^ 32
 word_size x f = omega (arith, within w32 x f, abs x)

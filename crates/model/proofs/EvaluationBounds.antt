@@ -8,18 +8,18 @@ use lib.ListN.{length}
 use mir.Syntax.{w64}
 use mir.Val.{SFits, to_z}
 use mir.Facts.{to_z_pos}
-use Rattle.integer.specs.laws.Parts.{abs-add, abs-sub, abs-mul}
-use Rattle.integer.specs.laws.Machine.{abs-fits}
+use Rattle.ring.specs.laws.Parts.{abs-add, abs-sub, abs-mul}
+use Rattle.integer.proofs.laws.Machine.{abs-fits}
 use Rattle.integer.specs.definitions.Rounding.{floor, up}
-use Rattle.integer.specs.laws.RoundingSize.{floor_size, up_size}
+use Rattle.integer.proofs.laws.RoundingSize.{floor_size, up_size}
 use Rattle.model.specs.definitions.InnerContracts.{Evaluable}
 use Rattle.model.specs.definitions.Models.{scale, coefficient_count, terms, good}
-use Rattle.model.specs.laws.ModelLaws.{Good, good_is}
-use Rattle.model.specs.laws.GoodLaws.{length-terms, weight-terms}
+use Rattle.model.proofs.laws.ModelLaws.{Good, good_is}
+use Rattle.model.proofs.laws.GoodLaws.{length-terms, weight-terms}
 use Rattle.model.specs.definitions.Evaluate.{mapped_point, maps_exactly, value_sum, error_sum, low_bound, high_bound}
 use Rattle.model.specs.definitions.Intervals.{contains}
-use Rattle.model.specs.laws.MappedPoint.{mapped_inside}
-use Rattle.model.specs.laws.EvaluationLaws.{sum_size, error_size, lipschitz_size, growth_size}
+use Rattle.model.proofs.laws.MappedPoint.{mapped_inside}
+use Rattle.model.proofs.laws.EvaluationLaws.{sum_size, error_size, lipschitz_size, growth_size}
 use Rattle.model.specs.declared.types.Model.{Model}
 
 -- v is V of a good model at a point inside, and w is W, which is the sum of two numbers

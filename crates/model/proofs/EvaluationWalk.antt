@@ -11,15 +11,15 @@ use lib.ListN.{length, get_or, take, drop, length-take, length-drop, drop_of_len
 use lib.Seq.{drop-cons}
 use mir.Syntax.{w64}
 use mir.Val.{SFits}
-use Rattle.integer.specs.laws.Parts.{abs, apart, sum, mul_within}
-use Rattle.integer.specs.laws.Machine.{abs-fits}
+use Rattle.ring.specs.laws.Parts.{abs, apart, sum, mul_within}
+use Rattle.integer.proofs.laws.Machine.{abs-fits}
 use Rattle.integer.specs.definitions.Rounding.{near}
 use Rattle.chebyshev.specs.definitions.Coefficients.{weight}
-use Rattle.chebyshev.specs.laws.Weight.{weight-take, weight-drop, weight_at}
+use Rattle.chebyshev.proofs.laws.Weight.{weight-take, weight-drop, weight_at}
 use Rattle.model.specs.definitions.InnerContracts.{Evaluable, error_factor, error_from}
 use Rattle.model.specs.definitions.Models.{scale, coefficient_count, max_weight}
 use Rattle.model.specs.definitions.Evaluate.{point_term, point_sum}
-use Rattle.model.specs.laws.EvaluationLaws.{term_size, sum_size, errors_size}
+use Rattle.model.proofs.laws.EvaluationLaws.{term_size, sum_size, errors_size}
 
 -- at place k: what is summed up and what is left of cs make V and W, and t and `next` are t_k and t_(k+1)
 pub record Walk (exact : Bool) (p : ℤ) (cs : List ℤ) (value : ℤ) (error : ℕ) (t next : ℤ) (k : ℕ) : Type 0 where

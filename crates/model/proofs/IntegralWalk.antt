@@ -12,14 +12,14 @@ use lib.Seq.{drop-cons, drop_at, drop-set-lt, get_or-take, get_or-set_same}
 use mir.Syntax.{w32}
 use mir.Val.{SFits}
 use Rattle.integer.specs.definitions.Rounding.{near}
-use Rattle.integer.specs.laws.Filling.{drop_replicate}
-use Rattle.integer.specs.laws.Machine.{abs-fits}
+use Rattle.integer.proofs.laws.Filling.{drop_replicate}
+use Rattle.integer.proofs.laws.Machine.{abs-fits}
 use Rattle.chebyshev.specs.definitions.Coefficients.{weight}
-use Rattle.chebyshev.specs.laws.Weight.{weight_step, weight-take, weight-drop, weight_at}
+use Rattle.chebyshev.proofs.laws.Weight.{weight_step, weight-take, weight-drop, weight_at}
 use Rattle.model.specs.definitions.InnerContracts.{Integrable, Numerator, rounded_integral, rounded_tail}
 use Rattle.model.specs.definitions.Models.{scale, coefficient_count, max_weight}
 use Rattle.model.specs.definitions.Integrate.{alternating}
-use Rattle.model.specs.laws.IntegralLaws.{length-rounded, get_d_rounded, weight-rounded, alternating_size, weight_integral}
+use Rattle.model.proofs.laws.IntegralLaws.{length-rounded, get_d_rounded, weight-rounded, alternating_size, weight_integral}
 
 -- at place k: `total` is the weight of c_(k+1), c_(k+2), …, which stand in `out` unless it is too large, and `first` is
 -- c_(k+1) − c_(k+2) + …; `above` and `here` are the numbers of ds at places k + 1 and k

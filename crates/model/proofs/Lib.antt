@@ -1,3 +1,4 @@
+pub mod laws
 pub mod EndWords
 pub mod IntegralWalk
 pub mod EvaluationWalk

@@ -6,13 +6,13 @@ use native.Mathlib.Omega.{arith}
 use lib.IntN.{ℤ, pos, nat_abs}
 use lib.ListN.{length, get_or, take, drop, set, replicate, length-replicate}
 use lib.Seq.{length-take-le}
-use Rattle.integer.specs.laws.Filling as Filling
+use Rattle.integer.proofs.laws.Filling as Filling
 use Rattle.chebyshev.specs.definitions.Coefficients.{weight}
-use Rattle.chebyshev.specs.laws.Weight.{weight_step, weight_end}
+use Rattle.chebyshev.proofs.laws.Weight.{weight_step, weight_end}
 use Rattle.model.specs.definitions.Models.{coefficient_count, max_weight}
 use Rattle.model.specs.definitions.InnerContracts.{RoundedFrom}
 use Rattle.model.specs.definitions.Round.{rounded, rounding_loss}
-use Rattle.model.specs.laws.RoundingPassLaws.{rounded_at, loss_at, rounded-length, rounded_at_lem, rounded-weight, loss_step, loss_end, loss_weight}
+use Rattle.model.proofs.laws.RoundingPassLaws.{rounded_at, loss_at, rounded-length, rounded_at_lem, rounded-weight, loss_step, loss_end, loss_weight}
 
 -- k of the numbers are rounded: their weight and their loss in rest form, with `dropped` lost besides; they are written as
 -- long as their weight is within its limit

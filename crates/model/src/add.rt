@@ -1,6 +1,6 @@
 // Add and subtract: coefficient by coefficient, the larger degree, radii added.
 ghost use Rattle.std.specs.Prelude.{◌≡◌, nat_abs};
-ghost use Rattle.integer.specs.definitions.Integer.{ℤ_ring};
+ghost use Rattle.ring.specs.definitions.Integer.{ℤ_ring};
 ghost use Rattle.chebyshev.specs.definitions.Coefficients.{weight, add_lists, scale_list};
 ghost use Rattle.model.specs.definitions.InnerContracts.{Summands, combination};
 ghost use Rattle.model.specs.definitions.Outcomes.{outcome_of};

@@ -1,4 +1,6 @@
 // Models and their plain operations: add, subtract, multiply, integrate, evaluate.
+#![tactic(auto)]
+
 pub mod add;
 pub mod area;
 pub mod evaluate;

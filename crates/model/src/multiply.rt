@@ -1,6 +1,6 @@
 // Multiply with a kept degree: the list C, rounded, and what the rounding and the dropped coefficients lose.
 ghost use Rattle.std.specs.Prelude.{◌≡◌, ◌+◌, ◌*◌, ◌^◌, ◌<◌, ◌≤◌, length};
-ghost use Rattle.integer.specs.definitions.Integer.{ℤ_ring};
+ghost use Rattle.ring.specs.definitions.Integer.{ℤ_ring};
 ghost use Rattle.chebyshev.specs.definitions.Product.{product_walk};
 ghost use Rattle.model.specs.definitions.InnerContracts.{Factors, Limited, Multipliable, RoundedWalk, unless_large};
 ghost use Rattle.model.specs.definitions.Models.{scale, coefficient_count, product_size};

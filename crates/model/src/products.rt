@@ -1,6 +1,6 @@
 // The list C of two lists of coefficients, added to a list: one walk over all pairs, which answers how many it visited.
 ghost use Rattle.std.specs.Prelude.{◌≡◌, suc, ◌+◌, ◌*◌, ◌^◌, ◌<◌, ◌≤◌, nat_abs, length};
-ghost use Rattle.integer.specs.definitions.Integer.{ℤ_ring};
+ghost use Rattle.ring.specs.definitions.Integer.{ℤ_ring};
 ghost use Rattle.chebyshev.specs.definitions.Coefficients.{weight};
 ghost use Rattle.chebyshev.specs.definitions.Product.{distance as distance_of, add_at, add_pair, add_term, add_terms};
 

@@ -11,9 +11,9 @@ use lib.Ieee.{Float}
 use Rattle.model.specs.definitions.Models.{max_degree}
 use Rattle.model.specs.definitions.Area.{model_size, candidate_size, fits}
 use Rattle.model.specs.definitions.Outcomes.{refused}
-use Rattle.model.specs.laws.AreaLaws.{fit_last}
-use Rattle.model.specs.laws.OutcomeLaws.{held_judged}
-use Rattle.model.specs.laws.ResultLaws.{outcome-payload}
+use Rattle.model.proofs.laws.AreaLaws.{fit_last}
+use Rattle.model.proofs.laws.OutcomeLaws.{held_judged}
+use Rattle.model.proofs.laws.ResultLaws.{outcome-payload}
 use Rattle.model.specs.declared.types.Model.{Model}
 use Rattle.model.specs.declared.types.Candidate.{Candidate}
 use Rattle.proposals.specs.definitions.Units.{zero_candidate, in_units, in_units_of}

@@ -1,3 +1,4 @@
+pub mod laws
 pub mod Mapping
 pub mod Reversal
 pub mod Tests

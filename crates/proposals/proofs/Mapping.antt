@@ -4,7 +4,7 @@ use mathlib.Core.List.{List, map}
 use Prim.Native.Nat.{ℕ, ◌+◌, ◌≤◌, ◌<◌}
 use native.Mathlib.Omega.{arith}
 use lib.ListN.{length, get_or, set, length-map, get_or-map}
-use Rattle.integer.specs.laws.Filling.{Filling, begins, turn, next, whole}
+use Rattle.integer.proofs.laws.Filling.{Filling, begins, turn, next, whole}
 
 module _ {A : Type 0} (f : A → A) (start : List A) where
   abbrev pub Mapping : List A → ℕ → Type 0

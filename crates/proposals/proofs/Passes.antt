@@ -10,7 +10,7 @@ use lib.Seq.{take_all}
 use lib.Ieee.{Float, binary64, add, mul}
 use Rattle.chebyshev.specs.definitions.Product.{add_term_by}
 use Rattle.chebyshev.specs.definitions.Passes.{add_from_by}
-use Rattle.chebyshev.specs.laws.PassLaws.{from_part, term_passes}
+use Rattle.chebyshev.proofs.laws.PassLaws.{from_part, term_passes}
 use Rattle.proposals.proofs.Reversal.{reverse-take}
 
 abbrev from : List Float → Float → ℕ → List Float → List Float

@@ -1,3 +1,5 @@
 // The least radius of the tighter root test, from its numbers M, m and b.
+#![tactic(auto)]
+
 pub mod least_radius;
 pub mod types;

@@ -8,17 +8,17 @@ use borrow.Author.Tests.{ne_eqb}
 use lib.IntN.{ℤ}
 use lib.ListN.{length}
 use Rattle.model.specs.definitions.Outcomes.{Outcome, accepted, refused, number_of}
-use Rattle.model.specs.laws.OutcomeLaws.{judged_accepted, number_of_positive}
+use Rattle.model.proofs.laws.OutcomeLaws.{judged_accepted, number_of_positive}
 use Rattle.model.specs.declared.types.Model.{Model}
 use Rattle.model.specs.declared.types.Refusal.{Refusal}
 use Rattle.model.specs.declared.types.Verdict.TheVariants.{Accepted}
 use Rattle.certificate.specs.definitions.Tests.{scratch_after}
-use Rattle.certificate.specs.laws.Stages.{scratch_length, scratch_twice}
+use Rattle.certificate.proofs.laws.Stages.{scratch_length, scratch_twice}
 use Rattle.certificate.specs.definitions.Promise.{QuotientAllowed}
 use Rattle.selection.specs.definitions.Proposal.{proposed_answer, proposal_radius, proposal_of}
 use Rattle.selection.specs.definitions.Select.{Selected, make_selected, tighter, selection, selected_of, part_numbers}
 use Rattle.selection.specs.definitions.Promise.{part_model}
-use Rattle.selection.specs.laws.SelectLaws.{tighter_is_least}
+use Rattle.selection.proofs.laws.SelectLaws.{tighter_is_least}
 use Rattle.selection.specs.declared.types.ProposalOutcome.{ProposalOutcome}
 
 -- the second test finds as many numbers in the scratch as the first, and clears what is cleared

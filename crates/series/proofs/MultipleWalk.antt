@@ -7,11 +7,11 @@ use native.Mathlib.Omega.{arith}
 use lib.IntN.{ℤ, pos, ◌+ℤ◌, ◌*ℤ◌}
 use lib.ListN.{length, get_or, set, take, drop}
 use lib.Seq.{length-take-le, get_or-take}
-use Rattle.integer.specs.laws.Difference.{all2, differences}
-use Rattle.integer.specs.definitions.Integer.{ℤ_ring}
-use Rattle.integer.specs.laws.Filling.{Filling, begins, turn, skip, next, ends}
+use Rattle.ring.specs.laws.Difference.{all2, differences}
+use Rattle.ring.specs.definitions.Integer.{ℤ_ring}
+use Rattle.integer.proofs.laws.Filling.{Filling, begins, turn, skip, next, ends}
 use Rattle.chebyshev.specs.definitions.Coefficients.{add_lists, scale_list}
-use Rattle.chebyshev.specs.laws.CoefficientLaws.{length-add, length-scale, get_d_add, get_d_scale, add_split}
+use Rattle.chebyshev.proofs.laws.CoefficientLaws.{length-add, length-scale, get_d_add, get_d_scale, add_split}
 use Rattle.series.specs.definitions.InnerContracts.{Addable}
 
 -- the places of the row in sums + p·row

@@ -7,14 +7,14 @@ use Prim.Native.Nat.{ℕ, zero, suc, ◌+◌, ◌-◌}
 use lib.Dec.{T, eqb, eqb→eq}
 use lib.IntN.{ℤ, pos, negsuc}
 use lib.ListN.{take, drop, replicate, take-append-drop}
-use Rattle.integer.specs.laws.Polynomial.{both, both_left, both_right}
-use Rattle.integer.specs.definitions.Integer.{ℤ_ring}
+use Rattle.ring.proofs.laws.Polynomial.{both, both_left, both_right}
+use Rattle.ring.specs.definitions.Integer.{ℤ_ring}
 use Rattle.integer.specs.definitions.Rounding.{floor}
 use Rattle.chebyshev.specs.definitions.Coefficients.{scale_list}
 use Rattle.chebyshev.specs.definitions.Neighbours.{neighbour_sums}
 use Rattle.model.specs.definitions.Models.{max_degree}
 use Rattle.series.specs.definitions.Table.{expansion_unit, expansion_row, rows_from, expansion_table}
-use Rattle.series.specs.laws.RowLaws.{halves_of_twice}
+use Rattle.series.proofs.laws.RowLaws.{halves_of_twice}
 
 -- ---- equal lists
 

@@ -1,6 +1,6 @@
 // A model from a power series: its terms expanded in T_0 to T_32 by the table, and the sums rounded.
 ghost use Rattle.std.specs.Prelude.{◌≡◌, true};
-ghost use Rattle.integer.specs.definitions.Integer.{ℤ_ring};
+ghost use Rattle.ring.specs.definitions.Integer.{ℤ_ring};
 ghost use Rattle.chebyshev.specs.definitions.Coefficients.{add_lists, scale_list};
 ghost use Rattle.model.specs.definitions.InnerContracts.{unless_large};
 ghost use Rattle.model.specs.definitions.Outcomes.{outcome_of};

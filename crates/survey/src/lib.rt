@@ -1,4 +1,6 @@
 // What a job's commands tell before any model is checked: the degrees of its results, and with them its other edition.
+#![tactic(auto)]
+
 pub mod areas;
 mod degrees;
 pub mod editions;

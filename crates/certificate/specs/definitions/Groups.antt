@@ -1,7 +1,7 @@
 -- Document 02, S-17: "Let quotient and root tests do with a scratch of 16, forming the list C in groups." The tests once
 -- more, for any group length.
 use Rattle.std.specs.Prelude.{List, [], ◌∷◌, ◌++◌, ℕ, zero, suc, ◌+◌, ◌*◌, ◌-◌, min, max, ℤ, pos, length, take, drop}
-use Rattle.integer.specs.definitions.Integer.{ℤ_ring}
+use Rattle.ring.specs.definitions.Integer.{ℤ_ring}
 use Rattle.integer.specs.definitions.Rounding.{upℕ}
 use Rattle.chebyshev.specs.definitions.Coefficients.{weight, subtract_lists, scale_list}
 use Rattle.chebyshev.specs.definitions.TwoSums.{places_from}

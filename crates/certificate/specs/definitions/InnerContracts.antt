@@ -1,6 +1,6 @@
 -- What inner functions ask of their callers and answer to them. The contracts of the entries do not speak of this.
 use Rattle.std.specs.Prelude.{◌≡◌, Bool, true, List, [], ◌∷◌, ℕ, suc, ◌+◌, ◌*◌, ◌-◌, ◌^◌, ◌≤◌, ◌<◌, ℤ, pos, length}
-use Rattle.integer.specs.definitions.Integer.{ℤ_ring}
+use Rattle.ring.specs.definitions.Integer.{ℤ_ring}
 use Rattle.chebyshev.specs.definitions.Coefficients.{weight, subtract_lists, scale_list}
 use Rattle.model.specs.definitions.Intervals.{standard_interval, same_interval}
 use Rattle.model.specs.definitions.Models.{scale, product_size, max_weight}

@@ -1,6 +1,6 @@
 -- What is promised of the result of a test that passes, of every value that its models allow, at fractions of their interval.
 use Rattle.std.specs.Prelude.{◌≡◌, ◌⊎◌, map, ◌≤◌, ◌<◌, pos}
-use Rattle.integer.specs.definitions.Fraction.{ℚ, whole, ◌*ℚ◌, ◌/ℚ◌, ◌≤ℚ◌, ◌<ℚ◌}
+use Rattle.fraction.specs.definitions.Fraction.{ℚ, whole, ◌*ℚ◌, ◌/ℚ◌, ◌≤ℚ◌, ◌<ℚ◌}
 use Rattle.integer.specs.definitions.FractionRing.{ℚ_ring}
 use Rattle.chebyshev.specs.definitions.Coefficients.{value}
 use Rattle.model.specs.definitions.Allowed.{position, Allows, OnInterval}

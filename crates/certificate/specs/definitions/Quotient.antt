@@ -1,7 +1,7 @@
 -- Document 01, "The two tests", in its whole numbers: the quotient test. "Candidates are h (the answer) and w (a helper); M and H
 -- are the weights of w and h." C( , ) is the whole list, nothing dropped; "inside weight( ) a bare number stands at place 0".
 use Rattle.std.specs.Prelude.{Bool, List, [], ◌∷◌, ◌++◌, ℕ, ◌+◌, ◌*◌, ◌-◌, pos}
-use Rattle.integer.specs.definitions.Integer.{ℤ_ring}
+use Rattle.ring.specs.definitions.Integer.{ℤ_ring}
 use Rattle.integer.specs.definitions.Rounding.{upℕ}
 use Rattle.chebyshev.specs.definitions.Coefficients.{weight, subtract_lists, scale_list}
 use Rattle.model.specs.definitions.Models.{scale, bad_place, different_place, large_place}

@@ -3,7 +3,7 @@
 -- bare number stands at place 0".
 use Rattle.std.specs.Prelude.{Bool, List, [], ◌∷◌, ◌++◌, ℕ, ◌+◌, ◌*◌, ◌-◌, ltb, pos}
 use Rattle.std.specs.Int.Signed.{le_z}
-use Rattle.integer.specs.definitions.Integer.{ℤ_ring}
+use Rattle.ring.specs.definitions.Integer.{ℤ_ring}
 use Rattle.integer.specs.definitions.Rounding.{upℕ}
 use Rattle.chebyshev.specs.definitions.Coefficients.{weight, subtract_lists, scale_list, coefficient_sum}
 use Rattle.model.specs.definitions.Models.{scale, bad_place, large_place}

@@ -1,6 +1,6 @@
 -- Where a square root lies, without taking one: squares are compared.
 use Rattle.std.specs.Prelude.{◌⊎◌, pos}
-use Rattle.integer.specs.definitions.Fraction.{ℚ, whole, ◌+ℚ◌, ◌-ℚ◌, ◌*ℚ◌, ◌≤ℚ◌, ◌<ℚ◌, ◌/ℚ◌}
+use Rattle.fraction.specs.definitions.Fraction.{ℚ, whole, ◌+ℚ◌, ◌-ℚ◌, ◌*ℚ◌, ◌≤ℚ◌, ◌<ℚ◌, ◌/ℚ◌}
 use Rattle.model.specs.definitions.Models.{scale}
 
 -- v > 0, and √v lies between y − ρ and y + ρ

@@ -1,6 +1,6 @@
 -- Document 01, "The two tests", and document 02, S-22, once more, with the list C( , ) formed by its two sums, place by place.
 use Rattle.std.specs.Prelude.{List, [], ◌∷◌, ℕ, ◌+◌, ◌*◌, ◌-◌, ◌^◌, ◌≤◌, ◌<◌, ℤ, pos, ◌<ℤ◌}
-use Rattle.integer.specs.definitions.Integer.{ℤ_ring}
+use Rattle.ring.specs.definitions.Integer.{ℤ_ring}
 use Rattle.integer.specs.definitions.Rounding.{upℕ}
 use Rattle.chebyshev.specs.definitions.Coefficients.{weight, subtract_lists, scale_list, coefficient_sum}
 use Rattle.chebyshev.specs.definitions.TwoSums.{tabulate, two_sums}

@@ -1,6 +1,6 @@
 -- What a list of coefficients with a radius allows at a point.
 use Rattle.std.specs.Prelude.{List, map, ℕ, ℤ, pos}
-use Rattle.integer.specs.definitions.Fraction.{ℚ, whole, ◌-ℚ◌, ◌*ℚ◌, ◌≤ℚ◌, ∣◌∣ℚ}
+use Rattle.fraction.specs.definitions.Fraction.{ℚ, whole, ◌-ℚ◌, ◌*ℚ◌, ◌≤ℚ◌, ∣◌∣ℚ}
 use Rattle.integer.specs.definitions.FractionRing.{ℚ_ring}
 use Rattle.chebyshev.specs.definitions.Coefficients.{value}
 

@@ -1,6 +1,6 @@
 -- Lists of coefficients of T_0, T_1, …: their weights, sums and values.
 use Rattle.std.specs.Prelude.{List, [], ◌∷◌, map, ℕ, suc, ◌+◌, ◌*◌, ℤ, pos, nat_abs, ◌+ℤ◌}
-use Rattle.integer.specs.definitions.Ring.{CommutativeRing}
+use Rattle.ring.specs.definitions.Ring.{CommutativeRing}
 use Rattle.chebyshev.specs.definitions.Recurrences.{first_kind}
 
 -- 01: "Its weight A is the sum of |a_k|", of a list of whole numbers, as a natural number

@@ -1,7 +1,7 @@
 -- Sums of products over the pairs (i, j) of one place of the list C, as walks along the first list: of i + j = k the index of the
 -- second list falls, of j − i = k it rises.
 use Rattle.std.specs.Prelude.{List, [], ◌∷◌, ℕ, zero, suc, pos, get_or}
-use Rattle.integer.specs.definitions.Ring.{CommutativeRing}
+use Rattle.ring.specs.definitions.Ring.{CommutativeRing}
 
 module _ (R : CommutativeRing) where
   open R use {A, add as ◌⊕◌, mul as ◌⊗◌, ι}

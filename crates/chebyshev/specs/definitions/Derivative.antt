@@ -1,7 +1,7 @@
 -- The derivatives T'_k of the Chebyshev polynomials over any commutative ring, by the recurrence of T_k differentiated. That
 -- they are the derivatives is `first_taylor` (DerivativeLaws.antt): T_k(x + h) is T_k(x) + h·T'_k(x) up to a multiple of h².
 use Rattle.std.specs.Prelude.{List, [], ◌∷◌, ℕ, zero, suc, pos}
-use Rattle.integer.specs.definitions.Ring.{CommutativeRing}
+use Rattle.ring.specs.definitions.Ring.{CommutativeRing}
 use Rattle.chebyshev.specs.definitions.Recurrences.{first_kind}
 
 module _ (R : CommutativeRing) where

@@ -1,7 +1,7 @@
 -- 01: "At x = p/q with q ≥ 1 and |p| ≤ q everything is cross-multiplied into whole numbers." The whole numbers
 -- τ_k = q^k·T_k(p/q), the value of a list at p/q times a power of q, and what a list allows at p/q.
 use Rattle.std.specs.Prelude.{◌≡◌, List, [], ◌∷◌, ℕ, zero, suc, ◌-◌, ◌*◌, ◌^◌, ◌≤◌, ◌<◌, ℤ, pos, nat_abs, ◌+ℤ◌, ◌-ℤ◌, ◌*ℤ◌}
-use Rattle.integer.specs.definitions.Fraction.{ℚ, whole, ◌*ℚ◌}
+use Rattle.fraction.specs.definitions.Fraction.{ℚ, whole, ◌*ℚ◌}
 
 -- x = p/q with q ≥ 1
 pub record IsFraction (x : ℚ) (p : ℤ) (q : ℕ) : Type 0 where

@@ -1,6 +1,6 @@
 -- A list of coefficients times 2·x.
 use Rattle.std.specs.Prelude.{List, [], ◌∷◌, pos}
-use Rattle.integer.specs.definitions.Ring.{CommutativeRing}
+use Rattle.ring.specs.definitions.Ring.{CommutativeRing}
 use Rattle.chebyshev.specs.definitions.Coefficients.{add_lists}
 
 module _ (R : CommutativeRing) where

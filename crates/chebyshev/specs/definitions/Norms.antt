@@ -1,7 +1,7 @@
 -- Sums of absolute values of coefficients, over any ordered ring.
 use Rattle.std.specs.Prelude.{List, [], ◌∷◌, ℕ, suc, pos}
-use Rattle.integer.specs.definitions.Fraction.{ℚ, whole, ◌+ℚ◌, ∣◌∣ℚ}
-use Rattle.integer.specs.definitions.OrderedRing.{OrderedRing}
+use Rattle.fraction.specs.definitions.Fraction.{ℚ, whole, ◌+ℚ◌, ∣◌∣ℚ}
+use Rattle.ring.specs.definitions.OrderedRing.{OrderedRing}
 
 -- Σ |c_k| of a list of fractions
 unfoldable pub total_absolute : List ℚ → ℚ

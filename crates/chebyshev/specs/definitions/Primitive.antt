@@ -1,6 +1,6 @@
 -- The primitive from −1 of a list of fractions of any length.
 use Rattle.std.specs.Prelude.{List, [], ◌∷◌, ℕ, suc, ◌*◌, pos, get_or}
-use Rattle.integer.specs.definitions.Fraction.{ℚ, whole, -ℚ◌, ◌-ℚ◌, ◌*ℚ◌, ◌/ℚ◌}
+use Rattle.fraction.specs.definitions.Fraction.{ℚ, whole, -ℚ◌, ◌-ℚ◌, ◌*ℚ◌, ◌/ℚ◌}
 use Rattle.integer.specs.definitions.FractionRing.{ℚ_ring}
 use Rattle.chebyshev.specs.definitions.Coefficients.{value_from}
 

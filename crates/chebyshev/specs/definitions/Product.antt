@@ -1,7 +1,7 @@
 -- The list C(a, b) of 01: 2·a·b in the basis T_0, T_1, …, as one walk over all pairs of coefficients, which counts its visits.
 -- 02, S-5: "let a single walk over the pairs serve the sums and the differences of their places, counting its visits".
 use Rattle.std.specs.Prelude.{List, [], ◌∷◌, ℕ, zero, suc, ◌+◌, ◌-◌, replicate, pos}
-use Rattle.integer.specs.definitions.Ring.{CommutativeRing}
+use Rattle.ring.specs.definitions.Ring.{CommutativeRing}
 
 -- |i − j|
 abbrev pub distance : ℕ → ℕ → ℕ

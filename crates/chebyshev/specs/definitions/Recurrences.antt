@@ -1,6 +1,6 @@
 -- The Chebyshev polynomials T_k and U_k by their recurrences, over any commutative ring.
 use Rattle.std.specs.Prelude.{ℕ, zero, suc, pos}
-use Rattle.integer.specs.definitions.Ring.{CommutativeRing}
+use Rattle.ring.specs.definitions.Ring.{CommutativeRing}
 
 module _ (R : CommutativeRing) where
   open R use {A, add as ◌⊕◌, mul as ◌⊗◌, opp as ⊖◌, ι}

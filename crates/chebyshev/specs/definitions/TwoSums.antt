@@ -1,6 +1,6 @@
 -- The numbers C_k of 01 as two sums for each k, and lists of them.
 use Rattle.std.specs.Prelude.{Bool, cond, List, [], ◌∷◌, ℕ, zero, suc, ◌+◌, eqb, pos, length, get_or}
-use Rattle.integer.specs.definitions.Ring.{CommutativeRing}
+use Rattle.ring.specs.definitions.Ring.{CommutativeRing}
 use Rattle.chebyshev.specs.definitions.Product.{distance}
 
 -- f 0, f 1, …, f (n − 1)

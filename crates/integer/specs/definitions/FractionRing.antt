@@ -1,8 +1,8 @@
 -- ℚ is a commutative ring.
-use Rattle.integer.specs.definitions.Ring.{CommutativeRing}
-use Rattle.integer.specs.definitions.Fraction.{ℚ, ◌+ℚ◌, ◌*ℚ◌, -ℚ◌, whole}
-use Rattle.integer.specs.laws.FractionLaws.{+ℚ_assoc, +ℚ_comm, *ℚ_assoc, *ℚ_comm, *ℚ_dist}
-use Rattle.integer.specs.laws.FractionLaws.{whole-add, whole-mul, zero_+ℚ, zero_*ℚ, one_*ℚ, -ℚ_is}
+use Rattle.ring.specs.definitions.Ring.{CommutativeRing}
+use Rattle.fraction.specs.definitions.Fraction.{ℚ, ◌+ℚ◌, ◌*ℚ◌, -ℚ◌, whole}
+use Rattle.fraction.proofs.laws.FractionLaws.{+ℚ_assoc, +ℚ_comm, *ℚ_assoc, *ℚ_comm, *ℚ_dist}
+use Rattle.fraction.proofs.laws.FractionLaws.{whole-add, whole-mul, zero_+ℚ, zero_*ℚ, one_*ℚ, -ℚ_is}
 
 abbrev pub ℚ_ring : CommutativeRing
 ℚ_ring = record {

@@ -1,7 +1,7 @@
 -- Exact values: what a job's commands mean in fractions, with no boxes and no models but those of the loads. `v` gives each
 -- result number its value; cs are the commands of the results.
 use Rattle.std.specs.Prelude.{◌≡◌, List, ◌⊎◌, ℕ, ◌<◌, pos}
-use Rattle.integer.specs.definitions.Fraction.{ℚ, whole, ◌+ℚ◌, ◌-ℚ◌, ◌*ℚ◌, ◌≤ℚ◌, ∣◌∣ℚ, ◌/ℚ◌}
+use Rattle.fraction.specs.definitions.Fraction.{ℚ, whole, ◌+ℚ◌, ◌-ℚ◌, ◌*ℚ◌, ◌≤ℚ◌, ∣◌∣ℚ, ◌/ℚ◌}
 use Rattle.model.specs.definitions.Allowed.{Allows}
 use Rattle.certificate.specs.declared.types.RootRule.{RootRule}
 use Rattle.model.specs.declared.types.Candidate.{Candidate}

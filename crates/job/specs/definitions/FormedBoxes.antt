@@ -1,7 +1,7 @@
 -- 01, "What boxes a value", by the commands and of any boxes: the rules that `Permitted` (Requirement.antt) has by its
 -- constructors.
 use Rattle.std.specs.Prelude.{◌≡◌, ◌⊎◌, ℕ, pos}
-use Rattle.integer.specs.definitions.Fraction.{ℚ, whole, ◌+ℚ◌, ◌-ℚ◌, ◌*ℚ◌, ◌≤ℚ◌, ◌<ℚ◌, ◌/ℚ◌}
+use Rattle.fraction.specs.definitions.Fraction.{ℚ, whole, ◌+ℚ◌, ◌-ℚ◌, ◌*ℚ◌, ◌≤ℚ◌, ◌<ℚ◌, ◌/ℚ◌}
 use Rattle.model.specs.definitions.Allowed.{Allows}
 use Rattle.job.specs.definitions.Operations.{Maker, load, add, subtract, multiply, quotient, root}
 use Rattle.job.specs.definitions.Requirement.{Box, Lies, ContainsFour}

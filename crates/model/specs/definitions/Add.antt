@@ -1,6 +1,6 @@
 -- Document 01, "Plain operations": add and subtract.
 use Rattle.std.specs.Prelude.{Bool, List, [], ◌∷◌, ℕ, ◌+◌, max}
-use Rattle.integer.specs.definitions.Integer.{ℤ_ring}
+use Rattle.ring.specs.definitions.Integer.{ℤ_ring}
 use Rattle.chebyshev.specs.definitions.Coefficients.{add_lists, subtract_lists}
 use Rattle.model.specs.definitions.Models.{make_model, zero_model, bad_place, different_place, large_place}
 use Rattle.model.specs.definitions.Outcomes.{Outcome, outcome}

@@ -1,6 +1,6 @@
 -- What a model allows at a point of its interval.
 use Rattle.std.specs.Prelude.{pos}
-use Rattle.integer.specs.definitions.Fraction.{ℚ, whole, ◌-ℚ◌, ◌*ℚ◌, ◌/ℚ◌, ◌≤ℚ◌}
+use Rattle.fraction.specs.definitions.Fraction.{ℚ, whole, ◌-ℚ◌, ◌*ℚ◌, ◌/ℚ◌, ◌≤ℚ◌}
 use Rattle.chebyshev.specs.definitions.Allows.{allows}
 use Rattle.model.specs.definitions.Models.{scale}
 use Rattle.model.specs.declared.types.Interval.{Interval}

@@ -1,6 +1,6 @@
 -- Document 01, "Plain operations": evaluate at p/S; with document 02, S-24, at a point of the own interval.
 use Rattle.std.specs.Prelude.{Bool, not, cond, List, [], ◌∷◌, ℕ, zero, suc, ◌+◌, ◌*◌, ◌-◌, ◌^◌, eqb, ℤ, pos, nat_abs, ◌+ℤ◌, ◌-ℤ◌, ◌*ℤ◌}
-use Rattle.integer.specs.definitions.Fraction.{ℚ, ◌/1+◌}
+use Rattle.fraction.specs.definitions.Fraction.{ℚ, ◌/1+◌}
 use Rattle.integer.specs.definitions.Rounding.{floor, up, near}
 use Rattle.chebyshev.specs.definitions.Coefficients.{lipschitz_weight}
 use Rattle.model.specs.definitions.Intervals.{extent, contains}

@@ -1,6 +1,6 @@
 -- What inner functions ask of their callers and answer to them. The contracts of the entries do not speak of this.
 use Rattle.std.specs.Prelude.{◌≡◌, Bool, true, cond, ◌||◌, List, [], ◌∷◌, ◌++◌, ℕ, suc, ◌+◌, ◌*◌, ◌-◌, ◌^◌, ◌≤◌, ◌<◌, max, ltb, ℤ, pos, nat_abs, ◌<ℤ◌, length, take, drop, replicate}
-use Rattle.integer.specs.definitions.Integer.{ℤ_ring}
+use Rattle.ring.specs.definitions.Integer.{ℤ_ring}
 use Rattle.chebyshev.specs.definitions.Coefficients.{weight, add_lists, scale_list, subtract_lists}
 use Rattle.chebyshev.specs.definitions.Product.{Walk}
 use Rattle.model.specs.definitions.Models.{scale, coefficient_count, max_degree, max_weight, max_radius, good}

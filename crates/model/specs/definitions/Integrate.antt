@@ -1,8 +1,8 @@
 -- Document 01, "Plain operations": integrate; with document 02, S-24, from the lower end l/S.
 use Rattle.std.specs.Prelude.{Bool, List, [], ◌∷◌, ◌++◌, map, ℕ, suc, ◌+◌, ◌*◌, ◌-◌, ℤ, pos, ◌-ℤ◌, ◌*ℤ◌, replicate, drop, length}
-use Rattle.integer.specs.definitions.Fraction.{ℚ, whole, ◌*ℚ◌, ◌/ℚ◌, ◌≤ℚ◌}
+use Rattle.fraction.specs.definitions.Fraction.{ℚ, whole, ◌*ℚ◌, ◌/ℚ◌, ◌≤ℚ◌}
 use Rattle.integer.specs.definitions.FractionRing.{ℚ_ring}
-use Rattle.integer.specs.definitions.Integer.{ℤ_ring}
+use Rattle.ring.specs.definitions.Integer.{ℤ_ring}
 use Rattle.integer.specs.definitions.Rounding.{near, upℕ}
 use Rattle.chebyshev.specs.definitions.Coefficients.{subtract_lists, scale_list}
 use Rattle.chebyshev.specs.definitions.Norms.{total_absolute}

@@ -1,6 +1,6 @@
 -- Document 02, S-11: "A mirrored crown must give mirrored models".
 use Rattle.std.specs.Prelude.{Bool, ℕ, ℤ, pos, ◌+ℤ◌, ◌-ℤ◌}
-use Rattle.integer.specs.definitions.Fraction.{ℚ, whole, ◌+ℚ◌, ◌-ℚ◌, ◌/ℚ◌}
+use Rattle.fraction.specs.definitions.Fraction.{ℚ, whole, ◌+ℚ◌, ◌-ℚ◌, ◌/ℚ◌}
 use Rattle.chebyshev.specs.definitions.Negation.{every, odd, negated_from}
 use Rattle.model.specs.definitions.Models.{scale, make_model}
 use Rattle.model.specs.declared.types.Candidate.{Candidate}

@@ -1,6 +1,6 @@
 -- Document 01, "Plain operations": multiply.
 use Rattle.std.specs.Prelude.{Bool, not, cond, ◌&&◌, List, [], ◌∷◌, ◌++◌, ℕ, suc, ◌+◌, ◌*◌, ◌-◌, min, max, ltb, eqb, ℤ, pos, replicate, take, drop}
-use Rattle.integer.specs.definitions.Integer.{ℤ_ring}
+use Rattle.ring.specs.definitions.Integer.{ℤ_ring}
 use Rattle.integer.specs.definitions.Rounding.{upℕ}
 use Rattle.chebyshev.specs.definitions.Coefficients.{weight}
 use Rattle.chebyshev.specs.definitions.Product.{product, product_walk}

@@ -1,7 +1,7 @@
 -- Document 02, request S-8: the sense of integration by strips, which holds also where no list of coefficients describes the
 -- integrand; with S-24, "the strips run from l/S to x".
 use Rattle.std.specs.Prelude.{map, ℕ, ◌*◌, pos}
-use Rattle.integer.specs.definitions.Fraction.{ℚ, whole, ◌+ℚ◌, ◌-ℚ◌, ◌*ℚ◌, ◌/ℚ◌, ◌≤ℚ◌, ∣◌∣ℚ}
+use Rattle.fraction.specs.definitions.Fraction.{ℚ, whole, ◌+ℚ◌, ◌-ℚ◌, ◌*ℚ◌, ◌/ℚ◌, ◌≤ℚ◌, ∣◌∣ℚ}
 use Rattle.integer.specs.definitions.FractionRing.{ℚ_ring}
 use Rattle.chebyshev.specs.definitions.Coefficients.{lipschitz_weight, value}
 use Rattle.chebyshev.specs.definitions.Strips.{left_sum}

@@ -2,7 +2,7 @@
 -- records and definitions of these crates: each said in so many words. Requirement 3 in the contract of a check: Jobs.antt.
 use Rattle.std.specs.Prelude.{◌≡◌, true, List, ◌∷◌, map, ◌⊎◌, ℕ, ◌+◌, ◌^◌, ◌≤◌, ℤ, pos, replicate, take, drop}
 use Rattle.std.specs.Borrow.{Bor}
-use Rattle.integer.specs.definitions.Fraction.{ℚ, whole, ◌+ℚ◌, ◌-ℚ◌, -ℚ◌, ◌*ℚ◌, ◌/ℚ◌, ◌≤ℚ◌, ◌<ℚ◌}
+use Rattle.fraction.specs.definitions.Fraction.{ℚ, whole, ◌+ℚ◌, ◌-ℚ◌, -ℚ◌, ◌*ℚ◌, ◌/ℚ◌, ◌≤ℚ◌, ◌<ℚ◌}
 use Rattle.integer.specs.definitions.FractionRing.{ℚ_ring}
 use Rattle.chebyshev.specs.definitions.Coefficients.{value}
 use Rattle.model.specs.definitions.Intervals.{standard_interval}

@@ -7,26 +7,26 @@ use Rattle.model.specs.definitions.Add.{addition, subtraction}
 use Rattle.model.specs.definitions.Multiply.{multiplication}
 use Rattle.model.specs.definitions.Integrate.{integration}
 use Rattle.model.specs.definitions.Evaluate.{evaluation}
-use Rattle.model.specs.laws.FormerNumbers.{former_loading, former_addition, former_subtraction, former_multiplication}
-use Rattle.model.specs.laws.FormerNumbers.{former_integration, former_evaluation}
+use Rattle.model.proofs.laws.FormerNumbers.{former_loading, former_addition, former_subtraction, former_multiplication}
+use Rattle.model.proofs.laws.FormerNumbers.{former_integration, former_evaluation}
 use Rattle.model.specs.declared.types.Candidate.{Candidate}
 use Rattle.model.specs.declared.types.Model.{Model}
 use Rattle.certificate.specs.definitions.Quotient.{quotient_needing}
 use Rattle.certificate.specs.definitions.Root.{root_needing}
-use Rattle.certificate.specs.laws.FormerTests.{former_quotient, former_root}
+use Rattle.certificate.proofs.laws.FormerTests.{former_quotient, former_root}
 use Rattle.certificate.specs.declared.types.RootRule.{RootRule}
 use Rattle.series.specs.definitions.Convert.{conversion}
-use Rattle.series.specs.laws.FormerConversion.{former_conversion}
+use Rattle.series.proofs.laws.FormerConversion.{former_conversion}
 use Rattle.series.specs.declared.types.Series.{Series}
 use Rattle.selection.specs.definitions.Select.{selection}
-use Rattle.selection.specs.laws.FormerSelection.{former_selection}
+use Rattle.selection.proofs.laws.FormerSelection.{former_selection}
 use Rattle.proposals.specs.definitions.Reciprocal.{reciprocal_proposal}
 use Rattle.proposals.specs.definitions.Quotient.{quotient_proposal}
-use Rattle.proposals.specs.laws.FormerProposals.{former_reciprocal, former_quotient_proposal}
+use Rattle.proposals.proofs.laws.FormerProposals.{former_reciprocal, former_quotient_proposal}
 use Rattle.job.specs.definitions.Run.{job_outcome}
 use Rattle.job.specs.definitions.Work.{check_outcome, work_after, scratch_after_job, results_in}
-use Rattle.job.specs.laws.FormerJob.{FormerFormat, former_job_outcome}
-use Rattle.job.specs.laws.FormerWork.{former_check, former_work, former_scratch, ends_at}
+use Rattle.job.proofs.laws.FormerJob.{FormerFormat, former_job_outcome}
+use Rattle.job.proofs.laws.FormerWork.{former_check, former_work, former_scratch, ends_at}
 
 pub record FormerNumbers : Type 0 where
   pub loading_former : (m : Model) → m.interval ≡ standard_interval → loading m ≡ former_loading m

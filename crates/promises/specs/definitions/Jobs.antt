@@ -1,6 +1,6 @@
 -- Requirement 3, and what else 01 and 02 say of jobs.
 use Rattle.std.specs.Prelude.{◌≡◌, Bool, true, List, ◌↔◌, ℕ, ◌≤◌, ◌<◌, ℤ, pos, length}
-use Rattle.integer.specs.definitions.Fraction.{ℚ, whole, ◌≤ℚ◌, ◌<ℚ◌}
+use Rattle.fraction.specs.definitions.Fraction.{ℚ, whole, ◌≤ℚ◌, ◌<ℚ◌}
 use Rattle.model.specs.definitions.Models.{good}
 use Rattle.model.specs.definitions.Outcomes.{Outcome, Passed, First}
 use Rattle.model.specs.definitions.Allowed.{Allows, OnInterval}

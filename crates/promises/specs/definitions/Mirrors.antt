@@ -1,7 +1,7 @@
 -- 02, S-11: "A mirrored crown must give mirrored models". Equations of whole outcomes, refusals included; with S-24 on any
 -- interval.
 use Rattle.std.specs.Prelude.{◌≡◌, Bool, List, map, ◌↔◌, ℕ, ℤ}
-use Rattle.integer.specs.definitions.Fraction.{ℚ, -ℚ◌}
+use Rattle.fraction.specs.definitions.Fraction.{ℚ, -ℚ◌}
 use Rattle.model.specs.definitions.Outcomes.{accepted, map_outcome}
 use Rattle.model.specs.definitions.Allowed.{Allows, OnInterval}
 use Rattle.model.specs.definitions.Add.{addition, subtraction}

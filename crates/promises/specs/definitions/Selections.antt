@@ -1,6 +1,6 @@
 -- 02, S-14: two proposals for one quotient.
 use Rattle.std.specs.Prelude.{◌≡◌, List, ◌⊎◌, ℕ, ◌≤◌, ◌<◌, ℤ, pos, length}
-use Rattle.integer.specs.definitions.Fraction.{ℚ, whole, ◌/ℚ◌}
+use Rattle.fraction.specs.definitions.Fraction.{ℚ, whole, ◌/ℚ◌}
 use Rattle.model.specs.definitions.Models.{make_model}
 use Rattle.model.specs.definitions.Outcomes.{accepted, refused}
 use Rattle.model.specs.definitions.Allowed.{Allows, OnInterval}

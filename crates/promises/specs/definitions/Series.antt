@@ -1,8 +1,8 @@
 -- 02, S-3: models of power series.
 use Rattle.std.specs.Prelude.{◌≡◌, true, map, ℕ, suc, ◌^◌, ◌≤◌, ◌<◌, pos}
-use Rattle.integer.specs.definitions.Fraction.{ℚ, whole, -ℚ◌, ◌*ℚ◌, ◌/ℚ◌, ◌≤ℚ◌}
+use Rattle.fraction.specs.definitions.Fraction.{ℚ, whole, -ℚ◌, ◌*ℚ◌, ◌/ℚ◌, ◌≤ℚ◌}
 use Rattle.integer.specs.definitions.FractionRing.{ℚ_ring}
-use Rattle.integer.specs.definitions.Integer.{ℤ_ring}
+use Rattle.ring.specs.definitions.Integer.{ℤ_ring}
 use Rattle.chebyshev.specs.definitions.Coefficients.{value, scale_list}
 use Rattle.chebyshev.specs.definitions.Neighbours.{neighbour_sums}
 use Rattle.model.specs.definitions.Intervals.{standard_interval}

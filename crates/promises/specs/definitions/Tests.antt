@@ -2,7 +2,7 @@
 -- accepted result means. The list C( , ) is formed by its two sums (`quotient_m` and the others); h and w stand on their
 -- operand's interval.
 use Rattle.std.specs.Prelude.{◌≡◌, true, ◌↔◌, ◌⊎◌, ℕ, ◌+◌, ◌*◌, ◌-◌, ◌^◌, ◌≤◌, ◌<◌, pos, ◌<ℤ◌}
-use Rattle.integer.specs.definitions.Fraction.{ℚ, whole, ◌*ℚ◌, ◌/ℚ◌, ◌≤ℚ◌, ◌<ℚ◌}
+use Rattle.fraction.specs.definitions.Fraction.{ℚ, whole, ◌*ℚ◌, ◌/ℚ◌, ◌≤ℚ◌, ◌<ℚ◌}
 use Rattle.chebyshev.specs.definitions.Coefficients.{weight, coefficient_sum}
 use Rattle.model.specs.definitions.Intervals.{same_interval}
 use Rattle.model.specs.definitions.Models.{scale, good, make_model}

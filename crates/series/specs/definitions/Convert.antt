@@ -1,7 +1,7 @@
 -- Document 02, S-3: "Clinics own stocks of paths as power series, Σ p_k·x^k with k up to 32, p_k in units and weight at most
 -- 2^28. A converter shall make models of them."
 use Rattle.std.specs.Prelude.{Bool, not, ◌&&◌, List, [], ◌∷◌, ◌++◌, ℕ, suc, ◌-◌, leb, eqb, ℤ, pos, replicate, take, drop}
-use Rattle.integer.specs.definitions.Integer.{ℤ_ring}
+use Rattle.ring.specs.definitions.Integer.{ℤ_ring}
 use Rattle.integer.specs.definitions.Rounding.{upℕ}
 use Rattle.chebyshev.specs.definitions.Coefficients.{weight, add_lists, scale_list}
 use Rattle.model.specs.definitions.Models.{max_degree, max_weight, coefficient_count, standard_model, zero_model, large_place}

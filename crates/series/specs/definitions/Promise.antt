@@ -1,6 +1,6 @@
 -- What is promised of a converted model.
 use Rattle.std.specs.Prelude.{◌≡◌, pos}
-use Rattle.integer.specs.definitions.Fraction.{ℚ, whole, -ℚ◌, ◌/ℚ◌, ◌≤ℚ◌}
+use Rattle.fraction.specs.definitions.Fraction.{ℚ, whole, -ℚ◌, ◌/ℚ◌, ◌≤ℚ◌}
 use Rattle.model.specs.definitions.Models.{scale}
 use Rattle.model.specs.definitions.Intervals.{standard_interval}
 use Rattle.model.specs.definitions.Allowed.{Allows}

@@ -1,6 +1,6 @@
 -- The value of a power series at a fraction.
 use Rattle.std.specs.Prelude.{List, [], ◌∷◌, ℕ, zero, suc, ℤ, pos}
-use Rattle.integer.specs.definitions.Fraction.{ℚ, whole, ◌+ℚ◌, ◌*ℚ◌}
+use Rattle.fraction.specs.definitions.Fraction.{ℚ, whole, ◌+ℚ◌, ◌*ℚ◌}
 
 -- x^k
 unfoldable pub power : ℚ → ℕ → ℚ

@@ -1,7 +1,7 @@
 -- Document 02, S-3: "Each x^k is expanded in T_0..T_32 with weights times 2^32, all whole numbers; that is a table of 33 × 33
 -- entries."
 use Rattle.std.specs.Prelude.{List, [], ◌∷◌, ◌++◌, map, ℕ, zero, suc, ◌-◌, ◌^◌, ℤ, pos, replicate}
-use Rattle.integer.specs.definitions.Integer.{ℤ_ring}
+use Rattle.ring.specs.definitions.Integer.{ℤ_ring}
 use Rattle.integer.specs.definitions.Rounding.{floor}
 use Rattle.chebyshev.specs.definitions.Neighbours.{neighbour_sums}
 use Rattle.model.specs.definitions.Models.{max_degree, coefficient_count}

@@ -5,7 +5,7 @@ use Prim.Native.Nat.{ℕ, ◌^◌}
 use native.Mathlib.Omega.{arith}
 use Rattle.integer.specs.definitions.Rounding.{upℕ}
 use Rattle.certificate.specs.definitions.InnerContracts.{standard_candidate}
-use Rattle.model.specs.laws.ModelLaws.{good_is}
+use Rattle.model.proofs.laws.ModelLaws.{good_is}
 use Rattle.certificate.specs.definitions.Root.{root_contraction}
 use Rattle.certificate.proofs.Ranges.{factors, of_constant, constant}
 use Rattle.certificate.proofs.numbers.root_contraction.Statement.{statement}

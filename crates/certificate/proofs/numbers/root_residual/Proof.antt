@@ -6,7 +6,7 @@ use native.Mathlib.Omega.{arith}
 use Rattle.integer.specs.definitions.Rounding.{upℕ}
 use Rattle.chebyshev.specs.definitions.Coefficients.{weight}
 use Rattle.certificate.specs.definitions.InnerContracts.{standard_candidate}
-use Rattle.model.specs.laws.ModelLaws.{Good, good_is}
+use Rattle.model.proofs.laws.ModelLaws.{Good, good_is}
 use Rattle.model.specs.definitions.Multiply.{product_list}
 use Rattle.model.specs.declared.types.Model.{Model}
 use Rattle.certificate.specs.definitions.Root.{root_residual}

@@ -3,10 +3,10 @@ use borrow.Author.Rules.{rules}
 use mathlib.Core.Path.{sym, ◌∙◌}
 use native.Mathlib.Omega.{arith}
 use lib.ListN.{length}
-use Rattle.certificate.specs.laws.Stages.{quotient_room, scratch_short, scratch_again, scratch_first}
-use Rattle.certificate.specs.laws.QuotientStages.{quotient_short}
+use Rattle.certificate.proofs.laws.Stages.{quotient_room, scratch_short, scratch_again, scratch_first}
+use Rattle.certificate.proofs.laws.QuotientStages.{quotient_short}
 use Rattle.certificate.specs.definitions.Promise.{QuotientAllowed}
-use Rattle.certificate.specs.laws.PromiseLaws.{test_promised, quotient_allowed}
+use Rattle.certificate.proofs.laws.PromiseLaws.{test_promised, quotient_allowed}
 use Rattle.certificate.proofs.quotient.quotient.Statement.{statement}
 use Rattle.certificate.proofs.quotient.quotient.Tie as tie
 

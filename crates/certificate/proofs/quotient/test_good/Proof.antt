@@ -4,12 +4,12 @@ use mathlib.Core.Path.{◌≡◌, sym, ◌∙◌}
 use Prim.Native.Nat.{◌≤◌}
 use native.Mathlib.Omega.{arith}
 use Rattle.model.specs.definitions.Models.{max_weight}
-use Rattle.model.specs.laws.ModelLaws.{good_is}
+use Rattle.model.proofs.laws.ModelLaws.{good_is}
 use Rattle.certificate.specs.definitions.Tests.{test_of, placed, refused_test}
-use Rattle.certificate.specs.laws.Stages.{displacement_bound}
-use Rattle.certificate.specs.laws.QuotientStages.{quotient_not_contracting, quotient_large_residual, quotient_formed}
+use Rattle.certificate.proofs.laws.Stages.{displacement_bound}
+use Rattle.certificate.proofs.laws.QuotientStages.{quotient_not_contracting, quotient_large_residual, quotient_formed}
 use Rattle.certificate.specs.definitions.Quotient.{quotient_contraction, quotient_residual}
-use Rattle.certificate.specs.laws.Stages.{standard_good, quotient_contraction_standard, quotient_residual_standard}
+use Rattle.certificate.proofs.laws.Stages.{standard_good, quotient_contraction_standard, quotient_residual_standard}
 use Rattle.certificate.proofs.quotient.test_good.Statement.{statement}
 use Rattle.certificate.proofs.quotient.test_good.Tie as tie
 

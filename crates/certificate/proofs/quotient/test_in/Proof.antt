@@ -4,12 +4,12 @@ use borrow.Author.Tests.{not-true, not-false}
 use mathlib.Core.Path.{◌≡◌, sym, ◌∙◌, ap}
 use mathlib.Core.Bool.{true}
 use Rattle.model.specs.definitions.Models.{parts_within_limits, good}
-use Rattle.model.specs.laws.ModelLaws.{good_ends_lem}
+use Rattle.model.proofs.laws.ModelLaws.{good_ends_lem}
 use Rattle.model.specs.declared.types.Candidate.{Candidate}
 use Rattle.model.specs.declared.types.Model.{Model}
 use Rattle.certificate.specs.definitions.Tests.{placed, refused_test}
-use Rattle.certificate.specs.laws.QuotientStages.{quotient_bad_f, quotient_bad_g, quotient_bad_h, quotient_bad_w, quotient_different}
-use Rattle.certificate.specs.laws.Stages.{candidate_good, candidate_fault}
+use Rattle.certificate.proofs.laws.QuotientStages.{quotient_bad_f, quotient_bad_g, quotient_bad_h, quotient_bad_w, quotient_different}
+use Rattle.certificate.proofs.laws.Stages.{candidate_good, candidate_fault}
 use Rattle.certificate.proofs.quotient.test_in.Statement.{statement}
 use Rattle.certificate.proofs.quotient.test_in.Tie as tie
 

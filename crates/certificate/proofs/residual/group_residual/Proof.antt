@@ -6,17 +6,17 @@ use Prim.Native.Nat.{ℕ, ◌+◌, ◌*◌, ◌-◌, ◌^◌, ◌≤◌, ◌<◌
 use native.Mathlib.Omega.{arith}
 use lib.IntN.{ℤ}
 use lib.ListN.{length, drop, length-take}
-use Rattle.integer.specs.definitions.Integer.{ℤ_ring}
+use Rattle.ring.specs.definitions.Integer.{ℤ_ring}
 use Rattle.chebyshev.specs.definitions.Coefficients.{weight}
-use Rattle.chebyshev.specs.laws.Weight.{weight-take, weight-drop}
+use Rattle.chebyshev.proofs.laws.Weight.{weight-take, weight-drop}
 use Rattle.chebyshev.specs.definitions.Product.{product}
 use Rattle.chebyshev.specs.definitions.TwoSums.{places_from}
-use Rattle.chebyshev.specs.laws.Tabulated.{product-group}
-use Rattle.chebyshev.specs.laws.ProductWeight.{weight-product}
+use Rattle.chebyshev.proofs.laws.Tabulated.{product-group}
+use Rattle.chebyshev.proofs.laws.ProductWeight.{weight-product}
 use Rattle.model.specs.definitions.Models.{scale, product_size}
 use Rattle.certificate.specs.definitions.Groups.{group}
 use Rattle.certificate.specs.definitions.InnerContracts.{residual_list}
-use Rattle.certificate.specs.laws.ResidualLaws.{weight_residual}
+use Rattle.certificate.proofs.laws.ResidualLaws.{weight_residual}
 use Rattle.certificate.proofs.residual.group_residual.Statement.{statement}
 use Rattle.certificate.proofs.residual.group_residual.Tie as tie
 

@@ -7,14 +7,14 @@ use native.Mathlib.Omega.{arith}
 use lib.IntN.{ℤ}
 use lib.ListN.{length, take, drop, length-append, length-take, length-drop}
 use lib.Seq.{length-take-le}
-use Rattle.integer.specs.definitions.Integer.{ℤ_ring}
+use Rattle.ring.specs.definitions.Integer.{ℤ_ring}
 use Rattle.chebyshev.specs.definitions.Coefficients.{weight}
 use Rattle.chebyshev.specs.definitions.Product.{product}
-use Rattle.chebyshev.specs.laws.ProductWeight.{weight-product}
+use Rattle.chebyshev.proofs.laws.ProductWeight.{weight-product}
 use Rattle.model.specs.definitions.Models.{product_size}
 use Rattle.certificate.specs.definitions.Groups.{group}
 use Rattle.certificate.specs.definitions.InnerContracts.{residual_list}
-use Rattle.certificate.specs.laws.ResidualLaws.{weight_residual, residual_group, residual_end}
+use Rattle.certificate.proofs.laws.ResidualLaws.{weight_residual, residual_group, residual_end}
 use Rattle.certificate.proofs.residual.residual.Statement.{statement}
 use Rattle.certificate.proofs.residual.residual.Tie as tie
 

@@ -11,12 +11,12 @@ use lib.Seq.{length-take-le, get_or-take}
 use mir.Syntax.{w32, w64}
 use mir.Val.{SFits}
 use mir.Facts.{to_z-of_z}
-use Rattle.integer.specs.laws.Filling.{Filling, begins, turn, next, ends}
-use Rattle.integer.specs.laws.Machine.{signed_needs, abs-fits, fits_widens}
-use Rattle.integer.specs.laws.Parts.{abs-mul, abs-sub}
-use Rattle.chebyshev.specs.laws.Weight.{weight_at}
+use Rattle.integer.proofs.laws.Filling.{Filling, begins, turn, next, ends}
+use Rattle.integer.proofs.laws.Machine.{signed_needs, abs-fits, fits_widens}
+use Rattle.ring.specs.laws.Parts.{abs-mul, abs-sub}
+use Rattle.chebyshev.proofs.laws.Weight.{weight_at}
 use Rattle.certificate.specs.definitions.InnerContracts.{residual_list}
-use Rattle.certificate.specs.laws.ResidualLaws.{length_residual, at_residual, residual_split}
+use Rattle.certificate.proofs.laws.ResidualLaws.{length_residual, at_residual, residual_split}
 use Rattle.certificate.proofs.residual.subtract.Statement.{statement}
 use Rattle.certificate.proofs.residual.subtract.Tie as tie
 

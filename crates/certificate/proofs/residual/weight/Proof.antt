@@ -9,7 +9,7 @@ use mir.Syntax.{w64}
 use mir.Val.{SFits}
 use mir.Facts.{to_z-of_z}
 use Rattle.chebyshev.specs.definitions.Coefficients.{weight}
-use Rattle.chebyshev.specs.laws.Weight.{weight_step, weight_end}
+use Rattle.chebyshev.proofs.laws.Weight.{weight_step, weight_end}
 use Rattle.certificate.proofs.residual.weight.Statement.{statement}
 use Rattle.certificate.proofs.residual.weight.Tie as tie
 

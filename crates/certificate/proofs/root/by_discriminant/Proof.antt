@@ -5,7 +5,7 @@ use Prim.Native.Nat.{◌-◌, ◌^◌, ◌≤◌}
 use native.Mathlib.Omega.{arith}
 use native.Mathlib.Nat.{mul-le-mul}
 use Rattle.model.specs.definitions.Models.{scale}
-use Rattle.certificate.specs.laws.RootEnd.{root_end_refused, root_end_radius, root_end_passed}
+use Rattle.certificate.proofs.laws.RootEnd.{root_end_refused, root_end_radius, root_end_passed}
 use Rattle.certificate.proofs.root.by_discriminant.Statement.{statement}
 use Rattle.certificate.proofs.root.by_discriminant.Tie as tie
 

@@ -5,9 +5,9 @@ use Prim.Native.Nat.{ℕ, ◌≤◌}
 use native.Mathlib.Omega.{arith}
 use Rattle.model.specs.definitions.Models.{scale, candidate_model}
 use Rattle.radius.specs.definitions.LeastRadius.{least_radius}
-use Rattle.radius.specs.laws.LeastLaws.{least_found}
+use Rattle.radius.proofs.laws.LeastLaws.{least_found}
 use Rattle.radius.specs.declared.types.FoundRadius.TheVariants.{Found}
-use Rattle.certificate.specs.laws.RootEnd.{root_end_missing, root_end_found}
+use Rattle.certificate.proofs.laws.RootEnd.{root_end_missing, root_end_found}
 use Rattle.certificate.proofs.root.by_least_radius.Statement.{statement}
 use Rattle.certificate.proofs.root.by_least_radius.Tie as tie
 

@@ -6,13 +6,13 @@ use mathlib.Core.Bool.{true}
 use Prim.Native.Nat.{ℕ}
 use Rattle.model.specs.definitions.Models.{parts_within_limits, good}
 use Rattle.model.specs.definitions.Outcomes.{refused}
-use Rattle.model.specs.laws.ModelLaws.{good_ends_lem}
+use Rattle.model.proofs.laws.ModelLaws.{good_ends_lem}
 use Rattle.model.specs.declared.types.Candidate.{Candidate}
 use Rattle.model.specs.declared.types.Model.{Model}
 use Rattle.certificate.specs.definitions.Tests.{placed}
 use Rattle.certificate.specs.definitions.InnerContracts.{zero_reach}
-use Rattle.certificate.specs.laws.NumbersStages.{numbers_bad_f, numbers_bad_h, numbers_bad_w}
-use Rattle.certificate.specs.laws.Stages.{candidate_good, candidate_fault}
+use Rattle.certificate.proofs.laws.NumbersStages.{numbers_bad_f, numbers_bad_h, numbers_bad_w}
+use Rattle.certificate.proofs.laws.Stages.{candidate_good, candidate_fault}
 use Rattle.certificate.proofs.root.numbers_in.Statement.{statement}
 use Rattle.certificate.proofs.root.numbers_in.Tie as tie
 

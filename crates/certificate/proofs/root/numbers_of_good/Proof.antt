@@ -9,11 +9,11 @@ use mir.Syntax.{w64}
 use mir.Val.{SFits, to_z, of_z}
 use mir.Facts.{to_z-of_z}
 use Rattle.chebyshev.specs.definitions.Coefficients.{coefficient_sum}
-use Rattle.model.specs.laws.ModelLaws.{good_is}
+use Rattle.model.proofs.laws.ModelLaws.{good_is}
 use Rattle.certificate.specs.definitions.Tests.{placed}
-use Rattle.certificate.specs.laws.NumbersStages.{numbers_helper, numbers_not_contracting, numbers_large_residual, numbers_reached}
+use Rattle.certificate.proofs.laws.NumbersStages.{numbers_helper, numbers_not_contracting, numbers_large_residual, numbers_reached}
 use Rattle.certificate.specs.definitions.Root.{root_contraction, root_residual}
-use Rattle.certificate.specs.laws.Stages.{standard_good, root_contraction_standard, root_residual_standard}
+use Rattle.certificate.proofs.laws.Stages.{standard_good, root_contraction_standard, root_residual_standard}
 use Rattle.certificate.proofs.root.numbers_of_good.Statement.{statement}
 use Rattle.certificate.proofs.root.numbers_of_good.Tie as tie
 

@@ -6,8 +6,8 @@ use lib.ListN.{length}
 use Rattle.model.specs.definitions.Outcomes.{number_of}
 use Rattle.certificate.specs.definitions.InnerContracts.{reach_of}
 use Rattle.certificate.specs.definitions.Promise.{RootAllowed}
-use Rattle.certificate.specs.laws.PromiseLaws.{test_promised, root_allowed}
-use Rattle.certificate.specs.laws.RootStages.{RootReached, root_reached_is, root_refused_is, root_last}
+use Rattle.certificate.proofs.laws.PromiseLaws.{test_promised, root_allowed}
+use Rattle.certificate.proofs.laws.RootStages.{RootReached, root_reached_is, root_refused_is, root_last}
 use Rattle.certificate.proofs.root.root.Statement.{statement}
 use Rattle.certificate.proofs.root.root.Tie as tie
 

@@ -3,8 +3,8 @@ use borrow.Author.Rules.{rules}
 use mathlib.Core.Path.{sym, ◌∙◌}
 use native.Mathlib.Omega.{arith}
 use lib.ListN.{length}
-use Rattle.certificate.specs.laws.Stages.{scratch_short, scratch_again, scratch_first}
-use Rattle.certificate.specs.laws.NumbersStages.{numbers_short, numbers_room}
+use Rattle.certificate.proofs.laws.Stages.{scratch_short, scratch_again, scratch_first}
+use Rattle.certificate.proofs.laws.NumbersStages.{numbers_short, numbers_room}
 use Rattle.certificate.proofs.root.root_numbers.Statement.{statement}
 use Rattle.certificate.proofs.root.root_numbers.Tie as tie
 

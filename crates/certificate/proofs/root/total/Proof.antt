@@ -11,8 +11,8 @@ use lib.Seq.{drop-cons}
 use mir.Syntax.{w32, w64}
 use mir.Val.{SFits, to_z}
 use mir.Facts.{to_z-of_z}
-use Rattle.integer.specs.laws.Parts.{abs, apart, abs-add}
-use Rattle.integer.specs.laws.Machine.{signed_needs, within, abs-fits, fits_widens}
+use Rattle.ring.specs.laws.Parts.{abs, apart, abs-add}
+use Rattle.integer.proofs.laws.Machine.{signed_needs, within, abs-fits, fits_widens}
 use Rattle.chebyshev.specs.definitions.Coefficients.{coefficient_sum}
 use Rattle.certificate.proofs.root.total.Statement.{statement}
 use Rattle.certificate.proofs.root.total.Tie as tie

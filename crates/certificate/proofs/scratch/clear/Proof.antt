@@ -4,7 +4,7 @@ use mathlib.Core.Path.{refl}
 use Prim.Native.Nat.{◌-◌}
 use native.Mathlib.Omega.{arith}
 use lib.ListN.{length}
-use Rattle.integer.specs.laws.Clearing.{Clearing, clearing_begins, clearing_turn, clearing_ends}
+use Rattle.integer.proofs.laws.Clearing.{Clearing, clearing_begins, clearing_turn, clearing_ends}
 use Rattle.certificate.proofs.scratch.clear.Statement.{statement}
 use Rattle.certificate.proofs.scratch.clear.Tie as tie
 

@@ -6,7 +6,7 @@ use native.Mathlib.Omega.{arith}
 use lib.ListN.{drop}
 use Rattle.integer.specs.definitions.Lists.{zeros}
 use Rattle.certificate.specs.definitions.Tests.{scratch_size}
-use Rattle.certificate.specs.laws.Stages.{scratch_short, scratch_cleared, scratch_first}
+use Rattle.certificate.proofs.laws.Stages.{scratch_short, scratch_cleared, scratch_first}
 use Rattle.certificate.proofs.scratch.clear_scratch.Statement.{statement}
 use Rattle.certificate.proofs.scratch.clear_scratch.Tie as tie
 

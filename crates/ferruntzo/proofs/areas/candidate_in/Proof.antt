@@ -3,7 +3,7 @@ use mathlib.Core.Path.{◌∙◌}
 use native.Mathlib.Omega.{arith}
 use lib.ListN.{length-take}
 use Rattle.model.specs.definitions.Area.{candidate_size}
-use Rattle.model.specs.laws.AreaLaws.{candidate_front}
+use Rattle.model.proofs.laws.AreaLaws.{candidate_front}
 use Rattle.ferruntzo.proofs.areas.candidate_in.Statement.{statement}
 use Rattle.ferruntzo.proofs.areas.candidate_in.Tie as tie
 

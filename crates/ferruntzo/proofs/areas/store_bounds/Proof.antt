@@ -5,7 +5,7 @@ use mathlib.Core.List.{[], ◌∷◌}
 use lib.Seq.{sets-eq}
 use mir.Facts.{to_z-of_z}
 use Rattle.ferruntzo.specs.definitions.Areas.{bounds_size}
-use Rattle.model.specs.laws.AreaLaws.{filled, untouched}
+use Rattle.model.proofs.laws.AreaLaws.{filled, untouched}
 use Rattle.ferruntzo.proofs.areas.store_bounds.Statement.{statement}
 use Rattle.ferruntzo.proofs.areas.store_bounds.Tie as tie
 

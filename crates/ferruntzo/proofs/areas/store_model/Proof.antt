@@ -6,7 +6,7 @@ use native.Mathlib.Omega.{arith}
 use lib.IntN.{ℤ}
 use lib.ListN.{drop, length-take}
 use Rattle.model.specs.definitions.Area.{model_size, words}
-use Rattle.model.specs.laws.AreaLaws.{filled, untouched}
+use Rattle.model.proofs.laws.AreaLaws.{filled, untouched}
 use Rattle.ferruntzo.proofs.areas.store_model.Statement.{statement}
 use Rattle.ferruntzo.proofs.areas.store_model.Tie as tie
 

@@ -6,7 +6,7 @@ use native.Mathlib.Omega.{arith}
 use lib.ListN.{length-set}
 use lib.Seq.{sets-eq}
 use Rattle.ferruntzo.specs.definitions.Areas.{numbers_size}
-use Rattle.model.specs.laws.AreaLaws.{filled, untouched}
+use Rattle.model.proofs.laws.AreaLaws.{filled, untouched}
 use Rattle.ferruntzo.proofs.areas.store_numbers.Statement.{statement}
 use Rattle.ferruntzo.proofs.areas.store_numbers.Tie as tie
 

@@ -4,7 +4,7 @@ use mathlib.Core.Path.{◌∙◌}
 use mathlib.Core.List.{[], ◌∷◌}
 use lib.Seq.{sets-eq}
 use Rattle.ferruntzo.specs.definitions.Areas.{selection_size}
-use Rattle.model.specs.laws.AreaLaws.{filled, untouched}
+use Rattle.model.proofs.laws.AreaLaws.{filled, untouched}
 use Rattle.ferruntzo.proofs.areas.store_selected.Statement.{statement}
 use Rattle.ferruntzo.proofs.areas.store_selected.Tie as tie
 

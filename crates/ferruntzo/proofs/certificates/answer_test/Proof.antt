@@ -3,7 +3,7 @@ use borrow.Author.Rules.{rules}
 use mathlib.Core.Path.{sym, ap, ◌∙◌}
 use mathlib.Core.List.{[], ◌∷◌}
 use Rattle.model.specs.definitions.Area.{model_size, words, area_out}
-use Rattle.model.specs.laws.OutcomeLaws.{number-judged, payload-judged}
+use Rattle.model.proofs.laws.OutcomeLaws.{number-judged, payload-judged}
 use Rattle.certificate.specs.definitions.Tests.{scratch_after, Certificate, make_certificate}
 use Rattle.ferruntzo.specs.definitions.Areas.{numbers_size}
 use Rattle.ferruntzo.specs.definitions.Certificates.{test_answer, test_in}

@@ -9,7 +9,7 @@ use Rattle.model.specs.definitions.Area.{model_size, candidate_size, area_model,
 use Rattle.model.specs.declared.types.Model.{Model}
 use Rattle.certificate.specs.definitions.Quotient.{quotient_test}
 use Rattle.certificate.specs.definitions.Promise.{QuotientAllowed}
-use Rattle.certificate.specs.laws.TestFits.{quotient_storable}
+use Rattle.certificate.proofs.laws.TestFits.{quotient_storable}
 use Rattle.ferruntzo.proofs.Answering.{two_fit, test_fits_lem, test_given, test_storable, test_in_area, short_test_lem}
 use Rattle.ferruntzo.proofs.certificates.ferruntzo_quotient.Statement.{statement}
 use Rattle.ferruntzo.proofs.certificates.ferruntzo_quotient.Tie as tie

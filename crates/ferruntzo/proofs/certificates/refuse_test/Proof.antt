@@ -3,7 +3,7 @@ use borrow.Author.Rules.{rules}
 use mathlib.Core.Path.{ap, ◌∙◌}
 use mathlib.Core.List.{List}
 use lib.IntN.{ℤ}
-use Rattle.model.specs.laws.ResultLaws.{zero_storable}
+use Rattle.model.proofs.laws.ResultLaws.{zero_storable}
 use Rattle.model.specs.definitions.Outcomes.{refused}
 use Rattle.certificate.specs.definitions.Tests.{make_certificate}
 use Rattle.model.specs.declared.types.Model.{Model}

@@ -9,7 +9,7 @@ use Rattle.model.specs.definitions.Area.{model_size, candidate_size, area_model,
 use Rattle.model.specs.declared.types.Model.{Model}
 use Rattle.certificate.specs.definitions.Root.{root_test}
 use Rattle.certificate.specs.definitions.Promise.{RootAllowed}
-use Rattle.certificate.specs.laws.TestFits.{root_storable}
+use Rattle.certificate.proofs.laws.TestFits.{root_storable}
 use Rattle.ferruntzo.proofs.Answering.{test_fits_lem, test_given, test_storable, test_in_area, short_test_lem}
 use Rattle.ferruntzo.proofs.certificates.root_in.Statement.{statement}
 use Rattle.ferruntzo.proofs.certificates.root_in.Tie as tie

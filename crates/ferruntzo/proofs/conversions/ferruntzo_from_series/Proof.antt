@@ -7,7 +7,7 @@ use Rattle.model.specs.definitions.Area.{model_size, area_model}
 use Rattle.series.specs.definitions.Convert.{conversion}
 use Rattle.series.specs.definitions.Promise.{SeriesAllowed}
 use Rattle.series.specs.declared.types.Series.{Series}
-use Rattle.series.specs.laws.ConversionLaws.{conversion_storable}
+use Rattle.series.proofs.laws.ConversionLaws.{conversion_storable}
 use Rattle.ferruntzo.specs.definitions.Conversions.{series_size, area_series}
 use Rattle.ferruntzo.proofs.Answering.{two_fit, answered, outcome_storable, operation_in_area, short_operation}
 use Rattle.ferruntzo.proofs.conversions.ferruntzo_from_series.Statement.{statement}

@@ -6,7 +6,7 @@ use mathlib.Core.List.{List}
 use Prim.Native.Nat.{ℕ}
 use lib.IntN.{ℤ}
 use native.Mathlib.Omega.{arith}
-use Rattle.job.specs.laws.AnswerBounds.{answer_small}
+use Rattle.job.proofs.laws.AnswerBounds.{answer_small}
 use Rattle.job.specs.definitions.Outcomes.{JobOutcome, counted, refused_command, result_count}
 use Rattle.job.specs.definitions.Work.{area_places, check_outcome, work_after, scratch_after_job}
 use Rattle.ferruntzo.specs.definitions.Jobs.{check_answer}

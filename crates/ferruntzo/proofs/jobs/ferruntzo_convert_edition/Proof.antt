@@ -4,7 +4,7 @@ use mathlib.Core.Path.{ap}
 use native.Mathlib.Omega.{arith}
 use lib.ListN.{length}
 use Rattle.job.specs.definitions.Outcomes.{refused_command, result_count}
-use Rattle.survey.specs.laws.JobLength.{conversion_small}
+use Rattle.survey.proofs.laws.JobLength.{conversion_small}
 use Rattle.ferruntzo.proofs.JobAnswering.{converts, converts_so, unconverted, unconverted_so}
 use Rattle.ferruntzo.proofs.jobs.ferruntzo_convert_edition.Statement.{statement}
 use Rattle.ferruntzo.proofs.jobs.ferruntzo_convert_edition.Tie as tie

@@ -8,7 +8,7 @@ use native.Mathlib.Omega.{arith}
 use borrow.Author.Tests.{le-leb, lt-leb}
 use lib.IntN.{ℤ}
 use lib.ListN.{length}
-use Rattle.job.specs.laws.AnswerBounds.{report_small}
+use Rattle.job.proofs.laws.AnswerBounds.{report_small}
 use Rattle.job.specs.definitions.Outcomes.{JobOutcome, counted, refused_command, result_count}
 use Rattle.job.specs.definitions.Reports.{report_places, report_outcome, report_work, report_scratch}
 use Rattle.ferruntzo.specs.definitions.Jobs.{answer_size, report_answer, room_left}

@@ -2,7 +2,7 @@
 use borrow.Author.Rules.{rules}
 use mathlib.Core.Path.{sym, ap, ◌∙◌}
 use Rattle.model.specs.definitions.Area.{model_size, words, area_out}
-use Rattle.model.specs.laws.OutcomeLaws.{number-judged, payload-judged}
+use Rattle.model.proofs.laws.OutcomeLaws.{number-judged, payload-judged}
 use Rattle.model.specs.declared.types.Model.{Model}
 use Rattle.ferruntzo.specs.definitions.Operations.{operation_answer, outcome_in}
 use Rattle.ferruntzo.proofs.operations.answer_operation.Statement.{statement}

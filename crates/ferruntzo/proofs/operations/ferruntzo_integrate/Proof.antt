@@ -2,7 +2,7 @@
 use borrow.Author.Rules.{rules}
 use Rattle.model.specs.definitions.Area.{model_size}
 use Rattle.model.specs.definitions.Integrate.{integration}
-use Rattle.model.specs.laws.ResultLaws.{integration_storable}
+use Rattle.model.proofs.laws.ResultLaws.{integration_storable}
 use Rattle.ferruntzo.proofs.Answering.{two_fit, answered, outcome_storable}
 use Rattle.ferruntzo.proofs.operations.ferruntzo_integrate.Statement.{statement}
 use Rattle.ferruntzo.proofs.operations.ferruntzo_integrate.Tie as tie

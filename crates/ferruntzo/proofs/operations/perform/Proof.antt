@@ -5,7 +5,7 @@ use Prim.Native.Nat.{◌≤◌}
 use lib.ListN.{length}
 use Rattle.model.specs.definitions.Outcomes.{Outcome, payload}
 use Rattle.model.specs.definitions.Area.{model_size, Storable}
-use Rattle.model.specs.laws.ResultLaws.{addition_storable, subtraction_storable, multiplication_storable}
+use Rattle.model.proofs.laws.ResultLaws.{addition_storable, subtraction_storable, multiplication_storable}
 use Rattle.model.specs.declared.types.Model.{Model}
 use Rattle.ferruntzo.specs.definitions.Operations.{operation_for, outcome_in}
 use Rattle.ferruntzo.specs.declared.operations.Operation.{Operation}

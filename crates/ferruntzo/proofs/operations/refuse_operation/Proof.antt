@@ -1,7 +1,7 @@
 -- `operations::refuse_operation` meets its contract.
 use borrow.Author.Rules.{rules}
 use mathlib.Core.Path.{ap, ◌∙◌}
-use Rattle.model.specs.laws.ResultLaws.{zero_storable}
+use Rattle.model.proofs.laws.ResultLaws.{zero_storable}
 use Rattle.model.specs.definitions.Outcomes.{refused}
 use Rattle.model.specs.declared.types.Model.{Model}
 use Rattle.ferruntzo.specs.definitions.Operations.{outcome_in}

@@ -9,10 +9,10 @@ use lib.ListN.{length, get_or, set, length-set}
 use mir.Syntax.{w64}
 use mir.Val.{SFits, to_z, of_z}
 use mir.Facts.{to_z-of_z}
-use Rattle.integer.specs.definitions.Integer.{ℤ_ring}
-use Rattle.integer.specs.laws.Filling.{Filling, begins, turn, whole}
+use Rattle.ring.specs.definitions.Integer.{ℤ_ring}
+use Rattle.integer.proofs.laws.Filling.{Filling, begins, turn, whole}
 use Rattle.chebyshev.specs.definitions.TwoSums.{two_sums, places_from}
-use Rattle.chebyshev.specs.laws.Tabulated.{length-tabulate, at_tabulate}
+use Rattle.chebyshev.proofs.laws.Tabulated.{length-tabulate, at_tabulate}
 use Rattle.groups.proofs.form.form.Statement.{statement}
 use Rattle.groups.proofs.form.form.Tie as tie
 

@@ -8,11 +8,11 @@ use lib.IntN.{ℤ, nat_abs}
 use mir.Syntax.{w64}
 use mir.Val.{SFits}
 use mir.Facts.{to_z-of_z}
-use Rattle.integer.specs.definitions.Integer.{ℤ_ring}
-use Rattle.integer.specs.laws.Parts.{abs-add}
+use Rattle.ring.specs.definitions.Integer.{ℤ_ring}
+use Rattle.ring.specs.laws.Parts.{abs-add}
 use Rattle.chebyshev.specs.definitions.Coefficients.{weight}
 use Rattle.chebyshev.specs.definitions.Convolution.{convolution, correlation}
-use Rattle.chebyshev.specs.laws.ConvolutionLaws.{convolution_small, correlation_small}
+use Rattle.chebyshev.proofs.laws.ConvolutionLaws.{convolution_small, correlation_small}
 use Rattle.chebyshev.specs.definitions.TwoSums.{two_sums}
 use Rattle.groups.specs.definitions.InnerContracts.{Below}
 use Rattle.groups.proofs.PlaceSums.{place_zero, place_positive}

@@ -8,7 +8,7 @@ use lib.ListN.{length, get_or}
 use mir.Syntax.{w32}
 use mir.Val.{SFits}
 use mir.Facts.{to_z-of_z}
-use Rattle.integer.specs.laws.Machine.{signed_needs}
+use Rattle.integer.proofs.laws.Machine.{signed_needs}
 use Rattle.groups.specs.definitions.InnerContracts.{Below}
 use Rattle.groups.proofs.CorrelationWalk.{CorrelationSoFar, correlation_none, correlation_begins, correlation_below, correlation_turn, correlation_ends, correlation_last}
 use Rattle.groups.proofs.pairs.add_correlations.Statement.{statement}

@@ -10,9 +10,9 @@ use lib.ListN.{length, get_or}
 use mir.Syntax.{w32}
 use mir.Val.{SFits}
 use mir.Facts.{to_z-of_z}
-use Rattle.integer.specs.laws.Parts.{abs-add, abs-mul}
+use Rattle.ring.specs.laws.Parts.{abs-add, abs-mul}
 use Rattle.chebyshev.specs.definitions.Coefficients.{weight}
-use Rattle.chebyshev.specs.laws.Weight.{weight_at}
+use Rattle.chebyshev.proofs.laws.Weight.{weight_at}
 use Rattle.groups.specs.definitions.InnerContracts.{Holds}
 use Rattle.groups.proofs.PairWalks.{no_pair}
 use Rattle.groups.proofs.PlaceSums.{from_zero, first_from, second_from, none_from}

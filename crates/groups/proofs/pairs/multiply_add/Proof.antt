@@ -7,8 +7,8 @@ use lib.IntN.{ℤ, nat_abs, ◌+ℤ◌, ◌*ℤ◌}
 use mir.Syntax.{w32, w64}
 use mir.Val.{SFits, to_z, of_z}
 use mir.Facts.{to_z-of_z}
-use Rattle.integer.specs.laws.Parts.{abs, apart, abs-add, mul_within}
-use Rattle.integer.specs.laws.Machine.{signed_needs, within, abs-fits, fits_widens}
+use Rattle.ring.specs.laws.Parts.{abs, apart, abs-add, mul_within}
+use Rattle.integer.proofs.laws.Machine.{signed_needs, within, abs-fits, fits_widens}
 use Rattle.groups.proofs.pairs.multiply_add.Statement.{statement}
 use Rattle.groups.proofs.pairs.multiply_add.Tie as tie
 

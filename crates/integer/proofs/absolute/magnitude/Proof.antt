@@ -9,8 +9,8 @@ use lib.Signed.{lt_z}
 use mir.Syntax.{w64}
 use mir.Val.{SFits}
 use mir.Facts.{to_z-of_z}
-use Rattle.integer.specs.laws.Parts.{◌⁻, abs, apart, difference, lt_yes, lt_no}
-use Rattle.integer.specs.laws.Machine.{fits, within, non_neg_lem}
+use Rattle.ring.specs.laws.Parts.{◌⁻, abs, apart, difference, lt_yes, lt_no}
+use Rattle.integer.proofs.laws.Machine.{fits, within, non_neg_lem}
 use Rattle.integer.proofs.absolute.magnitude.Statement.{statement}
 use Rattle.integer.proofs.absolute.magnitude.Tie as tie
 

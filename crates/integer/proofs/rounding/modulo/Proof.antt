@@ -5,7 +5,7 @@ use native.Mathlib.Omega.{arith}
 use lib.IntN.{pos, nat_abs, ◌+ℤ◌, ◌-ℤ◌, ◌*ℤ◌}
 use mir.Facts.{to_z-of_z}
 use Rattle.integer.specs.definitions.Rounding.{floor}
-use Rattle.integer.specs.laws.Parts.{◌⁻, apart, lt_yes, lt_no}
+use Rattle.ring.specs.laws.Parts.{◌⁻, apart, lt_yes, lt_no}
 use Rattle.integer.proofs.Division.{Operands, q, r, t, asks, r_is, r_up_fits, divisor, rest_at, rest_down}
 use Rattle.integer.proofs.rounding.modulo.Statement.{statement}
 use Rattle.integer.proofs.rounding.modulo.Tie as tie

@@ -7,8 +7,8 @@ use mir.Syntax.{w64}
 use mir.Val.{SFits, to_z, of_z}
 use mir.Facts.{to_z-of_z}
 use Rattle.integer.specs.definitions.Rounding.{parity}
-use Rattle.integer.specs.laws.Machine.{lowest_bit}
-use Rattle.integer.specs.laws.RoundingLaws.{near_at, near_above}
+use Rattle.integer.proofs.laws.Machine.{lowest_bit}
+use Rattle.integer.proofs.laws.RoundingLaws.{near_at, near_above}
 use Rattle.integer.proofs.Division.{Operands}
 use Rattle.integer.proofs.Nearest.{FloorAndRest, x_left, missing_fits, sum_fits, passes, passes_not, next_fits}
 use Rattle.integer.proofs.rounding.near.Statement.{statement}

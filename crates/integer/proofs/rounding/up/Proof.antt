@@ -3,7 +3,7 @@ use Prim.Native.Nat.{◌<◌}
 use native.Mathlib.Omega.{arith}
 use lib.IntN.{pos, nat_abs}
 use mir.Facts.{to_z-of_z}
-use Rattle.integer.specs.laws.Parts.{◌⁺, apart, lt_yes, lt_no}
+use Rattle.ring.specs.laws.Parts.{◌⁺, apart, lt_yes, lt_no}
 use Rattle.integer.proofs.Division.{Operands, q, r, t, asks, q_is, r_is, q_up_fits, up_above, up_at}
 use Rattle.integer.proofs.rounding.up.Statement.{statement}
 use Rattle.integer.proofs.rounding.up.Tie as tie

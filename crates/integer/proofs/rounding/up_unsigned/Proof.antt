@@ -3,7 +3,7 @@ use borrow.Author.Rules.{rules}
 use Prim.Native.Nat.{◌+◌, ◌*◌, ◌/◌, ◌≤◌}
 use native.Mathlib.Omega.{arith}
 use native.Mathlib.Nat.{div-add-mod, mod-lt, mul-le-mul_left}
-use Rattle.integer.specs.laws.RoundingLaws.{upℕ_unique}
+use Rattle.integer.proofs.laws.RoundingLaws.{upℕ_unique}
 use Rattle.integer.proofs.rounding.up_unsigned.Statement.{statement}
 use Rattle.integer.proofs.rounding.up_unsigned.Tie as tie
 

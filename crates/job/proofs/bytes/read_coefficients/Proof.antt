@@ -9,7 +9,7 @@ use lib.ListN.{length}
 use mir.Syntax.{w32}
 use mir.Facts.{to_z-of_z}
 use Rattle.model.specs.definitions.Models.{coefficient_count}
-use Rattle.integer.specs.laws.Filling.{Filling, begins, turn, ends}
+use Rattle.integer.proofs.laws.Filling.{Filling, begins, turn, ends}
 use Rattle.job.specs.definitions.Bytes.{signeds_at, signed, unsigned_at}
 use Rattle.job.proofs.ByteLaws.{length-signeds_at, get_d_signeds_at}
 use Rattle.job.proofs.bytes.read_coefficients.Statement.{statement}

@@ -3,11 +3,11 @@ use mathlib.Core.Path.{ap, sym, ◌∙◌}
 use Prim.Native.Nat.{◌+◌}
 use native.Mathlib.Omega.{arith}
 use Rattle.model.specs.definitions.Add.{addition}
-use Rattle.model.specs.laws.ResultLaws.{addition_storable}
+use Rattle.model.proofs.laws.ResultLaws.{addition_storable}
 use Rattle.job.specs.definitions.Bytes.{byte_at}
 use Rattle.job.specs.definitions.Decode.{maker_at}
 use Rattle.job.specs.definitions.InnerContracts.{untested_outcome}
-use Rattle.job.specs.laws.MakerLaws.{add-operation}
+use Rattle.job.proofs.laws.MakerLaws.{add-operation}
 use Rattle.job.proofs.OperationLaws.{performs_untested, held_two}
 use borrow.Author.Rules.{rules}
 use Rattle.job.proofs.operations.add.Statement.{statement}

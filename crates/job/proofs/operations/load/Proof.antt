@@ -7,7 +7,7 @@ use Rattle.model.specs.definitions.Intervals.{standard_interval}
 use Rattle.job.specs.definitions.Bytes.{block_at, unsigned_at}
 use Rattle.job.specs.definitions.Decode.{maker_at}
 use Rattle.job.specs.definitions.InnerContracts.{untested_outcome}
-use Rattle.job.specs.laws.MakerLaws.{load_operation}
+use Rattle.job.proofs.laws.MakerLaws.{load_operation}
 use Rattle.job.proofs.OperationLaws.{performs_untested, loading_storable}
 use Rattle.job.proofs.operations.load.Statement.{statement}
 use Rattle.job.proofs.operations.load.Tie as tie

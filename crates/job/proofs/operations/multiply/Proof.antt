@@ -3,11 +3,11 @@ use mathlib.Core.Path.{ap, sym, ◌∙◌}
 use Prim.Native.Nat.{ℕ, ◌+◌}
 use native.Mathlib.Omega.{arith}
 use Rattle.model.specs.definitions.Multiply.{multiplication}
-use Rattle.model.specs.laws.ResultLaws.{multiplication_storable}
+use Rattle.model.proofs.laws.ResultLaws.{multiplication_storable}
 use Rattle.job.specs.definitions.Bytes.{byte_at}
 use Rattle.job.specs.definitions.Decode.{edition_of, maker_at, kept_byte}
 use Rattle.job.specs.definitions.InnerContracts.{untested_outcome}
-use Rattle.job.specs.laws.MakerLaws.{multiply_operation}
+use Rattle.job.proofs.laws.MakerLaws.{multiply_operation}
 use Rattle.job.proofs.OperationLaws.{performs_untested, held_two}
 use borrow.Author.Rules.{rules}
 use Rattle.job.proofs.operations.multiply.Statement.{statement}

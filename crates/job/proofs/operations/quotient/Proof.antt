@@ -5,11 +5,11 @@ use native.Mathlib.Omega.{arith}
 use lib.ListN.{length}
 use Rattle.certificate.specs.definitions.Tests.{scratch_size}
 use Rattle.certificate.specs.definitions.Quotient.{quotient_test}
-use Rattle.certificate.specs.laws.Stages.{quotient_room}
-use Rattle.certificate.specs.laws.TestFits.{quotient_storable}
+use Rattle.certificate.proofs.laws.Stages.{quotient_room}
+use Rattle.certificate.proofs.laws.TestFits.{quotient_storable}
 use Rattle.job.specs.definitions.Bytes.{byte_at, candidate_at}
 use Rattle.job.specs.definitions.Decode.{maker_at}
-use Rattle.job.specs.laws.MakerLaws.{quotient_operation}
+use Rattle.job.proofs.laws.MakerLaws.{quotient_operation}
 use Rattle.job.proofs.OperationLaws.{performs, held_two}
 use borrow.Author.Rules.{rules}
 use Rattle.job.proofs.operations.quotient.Statement.{statement}

@@ -6,12 +6,12 @@ use borrow.Author.Tests.{leb-false}
 use lib.ListN.{length}
 use Rattle.certificate.specs.definitions.Tests.{scratch_size}
 use Rattle.certificate.specs.definitions.Root.{root_test}
-use Rattle.certificate.specs.laws.Stages.{root_room}
-use Rattle.certificate.specs.laws.TestFits.{root_storable}
+use Rattle.certificate.proofs.laws.Stages.{root_room}
+use Rattle.certificate.proofs.laws.TestFits.{root_storable}
 use Rattle.job.specs.definitions.Bytes.{byte_at, candidate_at}
 use Rattle.job.specs.definitions.Reading.{max_results}
 use Rattle.job.specs.definitions.Decode.{maker_at}
-use Rattle.job.specs.laws.MakerLaws.{root_operation}
+use Rattle.job.proofs.laws.MakerLaws.{root_operation}
 use Rattle.job.proofs.OperationLaws.{performs, held_one}
 use borrow.Author.Rules.{rules}
 use Rattle.job.proofs.operations.root.Statement.{statement}

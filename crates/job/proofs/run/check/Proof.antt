@@ -3,7 +3,7 @@ use mathlib.Core.Path.{ap, ◌∙◌}
 use mathlib.Core.List.{[]}
 use native.Mathlib.Omega.{arith}
 use Rattle.job.specs.definitions.Outcomes.{counted}
-use Rattle.job.specs.laws.ReportLaws.{report_outcome_lem, report_work_lem, report_scratch_lem, required_empty}
+use Rattle.job.proofs.laws.ReportLaws.{report_outcome_lem, report_work_lem, report_scratch_lem, required_empty}
 use Rattle.job.specs.declared.types.Report.TheVariants.{Empty}
 use borrow.Author.Rules.{rules}
 use Rattle.job.proofs.run.check.Statement.{statement}

@@ -2,8 +2,8 @@
 use borrow.Author.Rules.{rules}
 use Prim.Native.Nat.{◌-◌}
 use Rattle.job.specs.definitions.Work.{work_size}
-use Rattle.integer.specs.laws.Filling.{ends}
-use Rattle.integer.specs.laws.Clearing.{Clearing, clearing_begins, clearing_turn}
+use Rattle.integer.proofs.laws.Filling.{ends}
+use Rattle.integer.proofs.laws.Clearing.{Clearing, clearing_begins, clearing_turn}
 use Rattle.job.proofs.work.clear_work.Statement.{statement}
 use Rattle.job.proofs.work.clear_work.Tie as tie
 

@@ -1,7 +1,7 @@
 -- `add::add` meets its contract.
 use borrow.Author.Rules.{rules}
 use mathlib.Core.Path.{◌∙◌}
-use Rattle.model.specs.laws.CombinationLaws.{addition_is}
+use Rattle.model.proofs.laws.CombinationLaws.{addition_is}
 use Rattle.model.proofs.add.add.Statement.{statement}
 use Rattle.model.proofs.add.add.Tie as tie
 

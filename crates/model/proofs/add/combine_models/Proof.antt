@@ -12,9 +12,9 @@ use Rattle.model.specs.definitions.InnerContracts.{combination, combined_model, 
 use Rattle.model.specs.definitions.Models.{good}
 use Rattle.model.specs.definitions.Intervals.{same_interval}
 use Rattle.model.specs.definitions.Outcomes.{passing}
-use Rattle.model.specs.laws.ModelLaws.{good_is}
-use Rattle.model.specs.laws.FormedLaws.{formed_is}
-use Rattle.model.specs.laws.CombinationLaws.{combination_of_good}
+use Rattle.model.proofs.laws.ModelLaws.{good_is}
+use Rattle.model.proofs.laws.FormedLaws.{formed_is}
+use Rattle.model.proofs.laws.CombinationLaws.{combination_of_good}
 use Rattle.model.specs.declared.types.Model.{Model}
 use Rattle.model.proofs.add.combine_models.Statement.{statement}
 use Rattle.model.proofs.add.combine_models.Tie as tie

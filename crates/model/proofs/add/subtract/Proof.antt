@@ -1,7 +1,7 @@
 -- `add::subtract` meets its contract.
 use borrow.Author.Rules.{rules}
 use mathlib.Core.Path.{◌∙◌}
-use Rattle.model.specs.laws.CombinationLaws.{subtraction_is}
+use Rattle.model.proofs.laws.CombinationLaws.{subtraction_is}
 use Rattle.model.proofs.add.subtract.Statement.{statement}
 use Rattle.model.proofs.add.subtract.Tie as tie
 

@@ -7,7 +7,7 @@ use lib.IntN.{pos}
 use lib.ListN.{length, get_or}
 use mir.Syntax.{w32}
 use mir.Facts.{to_z-of_z}
-use Rattle.integer.specs.laws.Filling.{Filling, begins, turn, whole}
+use Rattle.integer.proofs.laws.Filling.{Filling, begins, turn, whole}
 use Rattle.model.proofs.area.copy.Statement.{statement}
 use Rattle.model.proofs.area.copy.Tie as tie
 

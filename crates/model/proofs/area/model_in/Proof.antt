@@ -3,7 +3,7 @@ use mathlib.Core.Path.{◌∙◌}
 use native.Mathlib.Omega.{arith}
 use lib.ListN.{length-take}
 use Rattle.model.specs.definitions.Area.{model_size}
-use Rattle.model.specs.laws.AreaLaws.{model_front}
+use Rattle.model.proofs.laws.AreaLaws.{model_front}
 use Rattle.model.proofs.area.model_in.Statement.{statement}
 use Rattle.model.proofs.area.model_in.Tie as tie
 

@@ -6,7 +6,7 @@ use lib.ListN.{get_or, length-take}
 use mir.Syntax.{w32}
 use mir.Facts.{to_z-of_z}
 use Rattle.model.specs.definitions.Area.{candidate_size, unsigned_of, area_candidate}
-use Rattle.model.specs.laws.AreaLaws.{candidate_front}
+use Rattle.model.proofs.laws.AreaLaws.{candidate_front}
 use Rattle.model.proofs.area.read.Statement.{statement}
 use Rattle.model.proofs.area.read.Tie as tie
 

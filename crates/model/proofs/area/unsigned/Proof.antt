@@ -9,8 +9,8 @@ use lib.Signed.{lt_z}
 use mir.Syntax.{w32}
 use mir.Val.{SFits, to_z, of_z}
 use mir.Facts.{to_z-of_z}
-use Rattle.integer.specs.laws.Parts.{abs, apart, lt_yes, lt_no}
-use Rattle.integer.specs.laws.Machine.{signed_needs, within, fits_widens}
+use Rattle.ring.specs.laws.Parts.{abs, apart, lt_yes, lt_no}
+use Rattle.integer.proofs.laws.Machine.{signed_needs, within, fits_widens}
 use Rattle.model.specs.definitions.Area.{unsigned_of}
 use Rattle.model.proofs.area.unsigned.Statement.{statement}
 use Rattle.model.proofs.area.unsigned.Tie as tie

@@ -9,14 +9,14 @@ use lib.IntN.{ℤ, pos, ◌+ℤ◌, ◌-ℤ◌, ◌*ℤ◌}
 use mir.Syntax.{w64}
 use mir.Val.{SFits}
 use mir.Facts.{to_z-of_z}
-use Rattle.integer.specs.laws.Machine.{abs-fits}
+use Rattle.integer.proofs.laws.Machine.{abs-fits}
 use Rattle.integer.specs.definitions.Rounding.{floor, up}
 use Rattle.model.specs.definitions.Intervals.{contains}
 use Rattle.model.specs.definitions.Models.{terms, good}
 use Rattle.model.specs.definitions.Outcomes.{accepted, passing}
-use Rattle.model.specs.laws.ModelLaws.{good_ends_lem}
+use Rattle.model.proofs.laws.ModelLaws.{good_ends_lem}
 use Rattle.model.specs.definitions.Evaluate.{mapped_point, maps_exactly, growth, point_sum, point_error, error_sum, evaluation}
-use Rattle.model.specs.laws.EvaluationLaws.{evaluation_accepted, errors_are}
+use Rattle.model.proofs.laws.EvaluationLaws.{evaluation_accepted, errors_are}
 use Rattle.model.specs.declared.types.Model.{Model}
 use Rattle.model.proofs.EvaluationBounds.{fits_mapped, evaluable, Sums, error_small, error_word, radius_word, fits_value, fits_fourfold, fits_below, fits_above, low, high}
 use Rattle.model.proofs.evaluate.evaluate.Statement.{statement}

@@ -10,13 +10,13 @@ use mir.Syntax.{w32, w64}
 use mir.Val.{SFits}
 use mir.Facts.{to_z-of_z}
 use Rattle.integer.specs.definitions.Rounding.{near}
-use Rattle.integer.specs.laws.Difference.{<_parts}
-use Rattle.integer.specs.laws.Machine.{abs-fits, fits_widens}
-use Rattle.integer.specs.laws.Parts.{abs, apart, abs-sub, abs-mul, difference}
-use Rattle.integer.specs.laws.RoundingLaws.{near_error}
+use Rattle.ring.specs.laws.Difference.{<_parts}
+use Rattle.integer.proofs.laws.Machine.{abs-fits, fits_widens}
+use Rattle.ring.specs.laws.Parts.{abs, apart, abs-sub, abs-mul, difference}
+use Rattle.integer.proofs.laws.RoundingLaws.{near_error}
 use Rattle.model.specs.definitions.Evaluate.{mapped_numerator, mapped_point, maps_exactly}
 use Rattle.model.specs.definitions.Intervals.{extent}
-use Rattle.model.specs.laws.IntervalLaws.{GoodEnds, ends_are, extent_positive, extent-fits, extent_is}
+use Rattle.model.proofs.laws.IntervalLaws.{GoodEnds, ends_are, extent_positive, extent-fits, extent_is}
 use Rattle.model.proofs.EndWords.{word_size, difference-fits}
 use Rattle.model.proofs.evaluate.map_point.Statement.{statement}
 use Rattle.model.proofs.evaluate.map_point.Tie as tie

@@ -12,7 +12,7 @@ use mir.Syntax.{w32, w64}
 use mir.Val.{SFits, to_z}
 use mir.Facts.{to_z-of_z}
 use Rattle.integer.specs.definitions.Rounding.{near}
-use Rattle.integer.specs.laws.Machine.{abs-fits, fits_widens, signed_needs}
+use Rattle.integer.proofs.laws.Machine.{abs-fits, fits_widens, signed_needs}
 use Rattle.model.specs.definitions.InnerContracts.{error_factor}
 use Rattle.model.specs.definitions.Models.{scale}
 use Rattle.model.proofs.EvaluationWalk.{Walk, begins, turn, ends, first_fits, Turn, length_list, bounded, turn_fits}

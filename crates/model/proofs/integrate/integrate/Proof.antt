@@ -10,20 +10,20 @@ use lib.ListN.{length, get_or, take, set, length-set}
 use mir.Syntax.{w32}
 use mir.Val.{SFits}
 use mir.Facts.{to_z-of_z}
-use Rattle.integer.specs.laws.Parts.{abs-mul}
-use Rattle.integer.specs.laws.Machine.{abs-fits}
+use Rattle.ring.specs.laws.Parts.{abs-mul}
+use Rattle.integer.proofs.laws.Machine.{abs-fits}
 use Rattle.chebyshev.specs.definitions.Coefficients.{weight}
-use Rattle.chebyshev.specs.laws.Weight.{weight_at}
+use Rattle.chebyshev.proofs.laws.Weight.{weight_at}
 use Rattle.model.specs.definitions.Models.{scale, max_weight, good}
 use Rattle.model.specs.definitions.Intervals.{extent}
 use Rattle.model.specs.definitions.InnerContracts.{rounded_integral, formed_outcome}
-use Rattle.model.specs.laws.IntervalLaws.{extent-fits}
+use Rattle.model.proofs.laws.IntervalLaws.{extent-fits}
 use Rattle.integer.specs.definitions.Rounding.{upℕ}
-use Rattle.integer.specs.laws.RoundingLaws.{upℕ_least}
+use Rattle.integer.proofs.laws.RoundingLaws.{upℕ_least}
 use Rattle.model.specs.definitions.Outcomes.{passing}
-use Rattle.model.specs.laws.ModelLaws.{Good, good_is}
+use Rattle.model.proofs.laws.ModelLaws.{Good, good_is}
 use Rattle.model.specs.definitions.Integrate.{integral_model, integration}
-use Rattle.model.specs.laws.IntegralLaws.{integral_doubled, weight_doubled, integration_formed, integration_degree}
+use Rattle.model.proofs.laws.IntegralLaws.{integral_doubled, weight_doubled, integration_formed, integration_degree}
 use Rattle.model.specs.declared.types.Model.{Model}
 use Rattle.model.proofs.integrate.integrate.Statement.{statement}
 use Rattle.model.proofs.integrate.integrate.Tie as tie

@@ -3,7 +3,7 @@ use native.Mathlib.Omega.{arith}
 use mir.Syntax.{w32}
 use mir.Val.{SFits}
 use mir.Facts.{to_z-of_z}
-use Rattle.integer.specs.laws.Machine.{abs-fits}
+use Rattle.integer.proofs.laws.Machine.{abs-fits}
 use Rattle.model.proofs.integrate.narrowed.Statement.{statement}
 use Rattle.model.proofs.integrate.narrowed.Tie as tie
 

@@ -6,9 +6,9 @@ use lib.IntN.{ℤ, pos, nat_abs, ◌-ℤ◌, ◌*ℤ◌}
 use mir.Syntax.{w64}
 use mir.Val.{SFits, to_z}
 use mir.Facts.{to_z-of_z, to_z_pos}
-use Rattle.integer.specs.laws.Difference.{<_parts}
-use Rattle.integer.specs.laws.Machine.{abs-fits}
-use Rattle.integer.specs.laws.Parts.{abs-sub, mul_within}
+use Rattle.ring.specs.laws.Difference.{<_parts}
+use Rattle.integer.proofs.laws.Machine.{abs-fits}
+use Rattle.ring.specs.laws.Parts.{abs-sub, mul_within}
 use Rattle.model.specs.definitions.Models.{scale}
 use Rattle.model.proofs.integrate.rounded_coefficient.Statement.{statement}
 use Rattle.model.proofs.integrate.rounded_coefficient.Tie as tie

@@ -13,8 +13,8 @@ use mir.Facts.{to_z-of_z}
 use borrow.Author.Tests.{ltb-false}
 use Rattle.integer.specs.definitions.Rounding.{near}
 use Rattle.model.specs.definitions.Models.{scale, max_weight}
-use Rattle.integer.specs.laws.Machine.{abs-fits, fits_widens, signed_needs}
-use Rattle.model.specs.laws.IntegralLaws.{coefficient_narrow}
+use Rattle.integer.proofs.laws.Machine.{abs-fits, fits_widens, signed_needs}
+use Rattle.model.proofs.laws.IntegralLaws.{coefficient_narrow}
 use Rattle.model.proofs.IntegralWalk.{Walk, begins, turn, ends, narrow, length_list, bounded, inside, below_is, numerator}
 use Rattle.model.proofs.integrate.rounded_integral.Statement.{statement}
 use Rattle.model.proofs.integrate.rounded_integral.Tie as tie

@@ -12,10 +12,10 @@ use borrow.Author.Tests.{le-leb, lt-leb}
 use mir.Syntax.{w32}
 use mir.Val.{SFits}
 use mir.Facts.{to_z-of_z}
-use Rattle.integer.specs.laws.Parts.{abs}
-use Rattle.integer.specs.laws.Machine.{signed_needs, within, fits_widens}
+use Rattle.ring.specs.laws.Parts.{abs}
+use Rattle.integer.proofs.laws.Machine.{signed_needs, within, fits_widens}
 use Rattle.chebyshev.specs.definitions.Coefficients.{weight}
-use Rattle.chebyshev.specs.laws.Weight.{weight_step, weight_end}
+use Rattle.chebyshev.proofs.laws.Weight.{weight_step, weight_end}
 use Rattle.model.specs.definitions.Models.{parts_within_limits}
 use Rattle.model.proofs.measure.measure_parts.Statement.{statement}
 use Rattle.model.proofs.measure.measure_parts.Tie as tie

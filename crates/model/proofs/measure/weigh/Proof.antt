@@ -7,9 +7,9 @@ use lib.ListN.{length, get_or, drop}
 use mir.Syntax.{w64}
 use mir.Val.{SFits}
 use mir.Facts.{to_z-of_z}
-use Rattle.integer.specs.laws.Machine.{signed_needs}
+use Rattle.integer.proofs.laws.Machine.{signed_needs}
 use Rattle.chebyshev.specs.definitions.Coefficients.{weight}
-use Rattle.chebyshev.specs.laws.Weight.{weight_step, weight_end}
+use Rattle.chebyshev.proofs.laws.Weight.{weight_step, weight_end}
 use Rattle.model.proofs.measure.weigh.Statement.{statement}
 use Rattle.model.proofs.measure.weigh.Tie as tie
 

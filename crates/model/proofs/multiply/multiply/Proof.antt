@@ -10,8 +10,8 @@ use Rattle.model.specs.definitions.Models.{max_degree, good}
 use Rattle.model.specs.definitions.Intervals.{same_interval}
 use Rattle.model.specs.definitions.Outcomes.{passing}
 use Rattle.model.specs.definitions.Multiply.{bad_kept, kept_degree, product_model, multiplication}
-use Rattle.model.specs.laws.MultiplicationLaws.{kept_within, multiplication_of_good}
-use Rattle.model.specs.laws.ModelLaws.{good_is}
+use Rattle.model.proofs.laws.MultiplicationLaws.{kept_within, multiplication_of_good}
+use Rattle.model.proofs.laws.ModelLaws.{good_is}
 use Rattle.model.specs.declared.types.Model.{Model}
 use Rattle.model.proofs.multiply.multiply.Statement.{statement}
 use Rattle.model.proofs.multiply.multiply.Tie as tie

@@ -8,14 +8,14 @@ use native.Mathlib.Numerals.{add-one}
 use lib.ListN.{length, take}
 use lib.Seq.{length-take-le}
 use Rattle.integer.specs.definitions.Rounding.{upℕ}
-use Rattle.chebyshev.specs.laws.Weight.{weight-take}
+use Rattle.chebyshev.proofs.laws.Weight.{weight-take}
 use Rattle.model.specs.definitions.InnerContracts.{RoundedFrom, formed_outcome}
 use Rattle.model.specs.definitions.Models.{scale}
-use Rattle.model.specs.laws.ModelLaws.{Good, good_is}
+use Rattle.model.proofs.laws.ModelLaws.{Good, good_is}
 use Rattle.model.specs.definitions.Multiply.{product_degree, product_list, product_visits}
-use Rattle.model.specs.laws.GoodLaws.{weight-product_list}
-use Rattle.model.specs.laws.MultiplicationLaws.{kept_is, radius_loss, walk_rounded, product_formed}
-use Rattle.model.specs.laws.RoundingPassLaws.{rounded_loss}
+use Rattle.model.proofs.laws.GoodLaws.{weight-product_list}
+use Rattle.model.proofs.laws.MultiplicationLaws.{kept_is, radius_loss, walk_rounded, product_formed}
+use Rattle.model.proofs.laws.RoundingPassLaws.{rounded_loss}
 use Rattle.model.specs.declared.types.Model.{Model}
 use Rattle.model.proofs.multiply.multiply_good.Statement.{statement}
 use Rattle.model.proofs.multiply.multiply_good.Tie as tie

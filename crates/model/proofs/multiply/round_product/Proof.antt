@@ -9,15 +9,15 @@ use lib.IntN.{ℤ}
 use lib.ListN.{length, take}
 use lib.Seq.{length-take-le}
 use lib.Signed.{lt_z_yes}
-use Rattle.integer.specs.definitions.Integer.{ℤ_ring}
+use Rattle.ring.specs.definitions.Integer.{ℤ_ring}
 use Rattle.chebyshev.specs.definitions.Coefficients.{weight}
-use Rattle.chebyshev.specs.laws.Weight.{weight-take, weight-zeros}
+use Rattle.chebyshev.proofs.laws.Weight.{weight-take, weight-zeros}
 use Rattle.chebyshev.specs.definitions.Product.{product}
-use Rattle.chebyshev.specs.laws.ProductLaws.{length-product}
-use Rattle.chebyshev.specs.laws.ProductWeight.{weight-product}
-use Rattle.chebyshev.specs.laws.ProductEnd.{product_end}
+use Rattle.chebyshev.proofs.laws.ProductLaws.{length-product}
+use Rattle.chebyshev.proofs.laws.ProductWeight.{weight-product}
+use Rattle.chebyshev.proofs.laws.ProductEnd.{product_end}
 use Rattle.model.specs.definitions.Models.{scale, coefficient_count, product_size}
-use Rattle.model.specs.laws.RoundingPassLaws.{rounded_prefix}
+use Rattle.model.proofs.laws.RoundingPassLaws.{rounded_prefix}
 use Rattle.model.proofs.multiply.round_product.Statement.{statement}
 use Rattle.model.proofs.multiply.round_product.Tie as tie
 

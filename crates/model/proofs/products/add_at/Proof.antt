@@ -7,11 +7,11 @@ use lib.ListN.{get_or}
 use mir.Syntax.{w64}
 use mir.Val.{SFits}
 use mir.Facts.{to_z-of_z}
-use Rattle.integer.specs.laws.Parts.{abs-add}
-use Rattle.integer.specs.definitions.Integer.{ℤ_ring}
-use Rattle.integer.specs.laws.Machine.{abs-fits}
-use Rattle.chebyshev.specs.laws.Weight.{weight_at}
-use Rattle.chebyshev.specs.laws.ProductLaws.{add_at_set}
+use Rattle.ring.specs.laws.Parts.{abs-add}
+use Rattle.ring.specs.definitions.Integer.{ℤ_ring}
+use Rattle.integer.proofs.laws.Machine.{abs-fits}
+use Rattle.chebyshev.proofs.laws.Weight.{weight_at}
+use Rattle.chebyshev.proofs.laws.ProductLaws.{add_at_set}
 use Rattle.model.proofs.products.add_at.Statement.{statement}
 use Rattle.model.proofs.products.add_at.Tie as tie
 

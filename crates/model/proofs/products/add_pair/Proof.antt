@@ -6,10 +6,10 @@ use Prim.Native.Nat.{◌+◌}
 use native.Mathlib.Omega.{arith}
 use lib.IntN.{ℤ}
 use mir.Facts.{to_z-of_z}
-use Rattle.integer.specs.definitions.Integer.{ℤ_ring}
+use Rattle.ring.specs.definitions.Integer.{ℤ_ring}
 use Rattle.chebyshev.specs.definitions.Product.{add_at, add_pair_by}
-use Rattle.chebyshev.specs.laws.ProductLaws.{length_add_at}
-use Rattle.chebyshev.specs.laws.ProductWeight.{weight_add_at}
+use Rattle.chebyshev.proofs.laws.ProductLaws.{length_add_at}
+use Rattle.chebyshev.proofs.laws.ProductWeight.{weight_add_at}
 use Rattle.model.proofs.products.add_pair.Statement.{statement}
 use Rattle.model.proofs.products.add_pair.Tie as tie
 

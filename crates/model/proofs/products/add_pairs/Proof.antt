@@ -9,14 +9,14 @@ use lib.ListN.{length, get_or, drop}
 use mir.Syntax.{w64, w32}
 use mir.Val.{SFits, to_z}
 use mir.Facts.{to_z-of_z}
-use Rattle.integer.specs.laws.Parts.{abs-mul}
-use Rattle.integer.specs.definitions.Integer.{ℤ_ring}
-use Rattle.integer.specs.laws.Machine.{signed_needs, abs-fits, fits_widens}
+use Rattle.ring.specs.laws.Parts.{abs-mul}
+use Rattle.ring.specs.definitions.Integer.{ℤ_ring}
+use Rattle.integer.proofs.laws.Machine.{signed_needs, abs-fits, fits_widens}
 use Rattle.chebyshev.specs.definitions.Coefficients.{weight}
-use Rattle.chebyshev.specs.laws.Weight.{weight_step}
+use Rattle.chebyshev.proofs.laws.Weight.{weight_step}
 use Rattle.chebyshev.specs.definitions.Product.{add_pair, add_term}
-use Rattle.chebyshev.specs.laws.ProductLaws.{length_add_pair, term_step, term_end}
-use Rattle.chebyshev.specs.laws.ProductWeight.{weight_add_pair}
+use Rattle.chebyshev.proofs.laws.ProductLaws.{length_add_pair, term_step, term_end}
+use Rattle.chebyshev.proofs.laws.ProductWeight.{weight_add_pair}
 use Rattle.model.proofs.products.add_pairs.Statement.{statement}
 use Rattle.model.proofs.products.add_pairs.Tie as tie
 

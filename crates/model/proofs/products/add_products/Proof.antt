@@ -10,14 +10,14 @@ use lib.ListN.{length, get_or, drop}
 use mir.Syntax.{w32}
 use mir.Val.{SFits}
 use mir.Facts.{to_z-of_z}
-use Rattle.integer.specs.definitions.Integer.{ℤ_ring}
-use Rattle.integer.specs.laws.Machine.{signed_needs, fits_widens}
+use Rattle.ring.specs.definitions.Integer.{ℤ_ring}
+use Rattle.integer.proofs.laws.Machine.{signed_needs, fits_widens}
 use Rattle.chebyshev.specs.definitions.Coefficients.{weight}
-use Rattle.chebyshev.specs.laws.Weight.{weight_step}
+use Rattle.chebyshev.proofs.laws.Weight.{weight_step}
 use Rattle.chebyshev.specs.definitions.Product.{add_term, add_terms}
-use Rattle.chebyshev.specs.laws.PairVisits.{term_visits}
-use Rattle.chebyshev.specs.laws.ProductLaws.{length_add_term, term_counted, terms_step, terms_end}
-use Rattle.chebyshev.specs.laws.ProductWeight.{weight_add_term}
+use Rattle.chebyshev.proofs.laws.PairVisits.{term_visits}
+use Rattle.chebyshev.proofs.laws.ProductLaws.{length_add_term, term_counted, terms_step, terms_end}
+use Rattle.chebyshev.proofs.laws.ProductWeight.{weight_add_term}
 use Rattle.model.proofs.products.add_products.Statement.{statement}
 use Rattle.model.proofs.products.add_products.Tie as tie
 

@@ -8,13 +8,13 @@ use lib.IntN.{ℤ, nat_abs}
 use lib.ListN.{length, take, drop, length-drop}
 use lib.Seq.{length-take-le, take_all}
 use mir.Facts.{to_z-of_z}
-use Rattle.integer.specs.definitions.Integer.{ℤ_ring}
+use Rattle.ring.specs.definitions.Integer.{ℤ_ring}
 use Rattle.chebyshev.specs.definitions.Coefficients.{weight}
-use Rattle.chebyshev.specs.laws.Weight.{weight_split}
+use Rattle.chebyshev.proofs.laws.Weight.{weight_split}
 use Rattle.chebyshev.specs.definitions.Product.{add_term}
-use Rattle.chebyshev.specs.laws.PairVisits.{term_visits}
-use Rattle.chebyshev.specs.laws.ProductLaws.{length_add_term, term_joined}
-use Rattle.chebyshev.specs.laws.ProductWeight.{weight_add_term}
+use Rattle.chebyshev.proofs.laws.PairVisits.{term_visits}
+use Rattle.chebyshev.proofs.laws.ProductLaws.{length_add_term, term_joined}
+use Rattle.chebyshev.proofs.laws.ProductWeight.{weight_add_term}
 use Rattle.model.proofs.products.add_term.Statement.{statement}
 use Rattle.model.proofs.products.add_term.Tie as tie
 

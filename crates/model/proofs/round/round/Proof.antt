@@ -11,11 +11,11 @@ use lib.Seq.{length-take-le, get_or-take, take_all}
 use mir.Syntax.{w64, w32}
 use mir.Val.{SFits, to_z, of_z}
 use mir.Facts.{to_z-of_z}
-use Rattle.integer.specs.laws.Machine.{signed_needs, abs-fits, is_positive, above_one, positive_is}
+use Rattle.integer.proofs.laws.Machine.{signed_needs, abs-fits, is_positive, above_one, positive_is}
 use Rattle.chebyshev.specs.definitions.Coefficients.{weight}
-use Rattle.chebyshev.specs.laws.Weight.{weight_at, weight-drop, weight_split}
+use Rattle.chebyshev.proofs.laws.Weight.{weight_at, weight-drop, weight_split}
 use Rattle.model.specs.definitions.Models.{max_weight}
-use Rattle.model.specs.laws.RoundingPassLaws.{rounded_at, loss_at, loss_small, product_small}
+use Rattle.model.proofs.laws.RoundingPassLaws.{rounded_at, loss_at, loss_small, product_small}
 use Rattle.model.proofs.RoundingWalk.{Walk, begins, turn, ends, small}
 use Rattle.model.proofs.round.round.Statement.{statement}
 use Rattle.model.proofs.round.round.Tie as tie

@@ -3,7 +3,7 @@ use borrow.Author.Rules.{rules}
 use mathlib.Core.Path.{sym, ap, ◌∙◌}
 use mathlib.Core.List.{[], ◌∷◌}
 use Rattle.model.specs.definitions.Area.{candidate_size, area_out}
-use Rattle.model.specs.laws.OutcomeLaws.{number-judged, payload-judged}
+use Rattle.model.proofs.laws.OutcomeLaws.{number-judged, payload-judged}
 use Rattle.proposals.specs.definitions.Areas.{quotient_size, outcome_size, quotient_numbers, candidate_numbers, ending_number, quotient_answer, quotient_in}
 use Rattle.proposals.specs.definitions.Quotient.{Quotient, make_quotient}
 use Rattle.proposals.proofs.areas.answer_quotient.Statement.{statement}

@@ -3,7 +3,7 @@ use borrow.Author.Rules.{rules}
 use mathlib.Core.Path.{sym, ap, ◌∙◌}
 use mathlib.Core.List.{[], ◌∷◌}
 use Rattle.model.specs.definitions.Area.{candidate_size, area_out}
-use Rattle.model.specs.laws.OutcomeLaws.{number-judged, payload-judged}
+use Rattle.model.proofs.laws.OutcomeLaws.{number-judged, payload-judged}
 use Rattle.proposals.specs.definitions.Areas.{round_size, outcome_size, round_numbers, candidate_numbers, ending_number, reciprocal_answer, reciprocal_in}
 use Rattle.proposals.specs.definitions.Reciprocal.{Reciprocal, make_reciprocal}
 use Rattle.proposals.proofs.areas.answer_reciprocal.Statement.{statement}

@@ -2,7 +2,7 @@
 use borrow.Author.Rules.{rules}
 use mathlib.Core.Path.{sym, ap, ◌∙◌}
 use Rattle.model.specs.definitions.Area.{candidate_size, area_out}
-use Rattle.model.specs.laws.OutcomeLaws.{number-judged, payload-judged}
+use Rattle.model.proofs.laws.OutcomeLaws.{number-judged, payload-judged}
 use Rattle.model.specs.declared.types.Candidate.{Candidate}
 use Rattle.proposals.specs.definitions.Areas.{candidate_numbers, units_answer, units_in}
 use Rattle.proposals.proofs.areas.answer_units.Statement.{statement}

@@ -5,7 +5,7 @@ use Prim.Native.Nat.{◌-◌}
 use native.Mathlib.Omega.{arith}
 use lib.ListN.{length, get_or}
 use lib.Ieee.{nan}
-use Rattle.integer.specs.laws.Filling.{Filling, begins, turn, whole}
+use Rattle.integer.proofs.laws.Filling.{Filling, begins, turn, whole}
 use Rattle.proposals.proofs.areas.copy_values.Statement.{statement}
 use Rattle.proposals.proofs.areas.copy_values.Tie as tie
 

@@ -10,7 +10,7 @@ use lib.ListN.{length, set, drop, length-take, length-drop}
 use mir.Syntax.{w32}
 use mir.ValLaws.{to_z_pos}
 use Rattle.model.specs.definitions.Area.{candidate_size}
-use Rattle.model.specs.laws.AreaLaws.{filled, untouched}
+use Rattle.model.proofs.laws.AreaLaws.{filled, untouched}
 use Rattle.proposals.specs.definitions.Areas.{candidate_numbers}
 use Rattle.proposals.proofs.areas.store_candidate.Statement.{statement}
 use Rattle.proposals.proofs.areas.store_candidate.Tie as tie

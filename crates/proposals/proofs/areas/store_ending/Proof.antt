@@ -4,7 +4,7 @@ use mathlib.Core.Path.{◌∙◌, ap}
 use mathlib.Core.List.{[], ◌∷◌}
 use lib.ListN.{set}
 use lib.Seq.{sets-eq}
-use Rattle.model.specs.laws.AreaLaws.{filled, untouched}
+use Rattle.model.proofs.laws.AreaLaws.{filled, untouched}
 use Rattle.proposals.specs.definitions.Areas.{outcome_size, ending_number}
 use Rattle.proposals.proofs.areas.store_ending.Statement.{statement}
 use Rattle.proposals.proofs.areas.store_ending.Tie as tie

@@ -9,7 +9,7 @@ use lib.ListN.{length, drop, length-take, length-drop}
 use lib.Seq.{take_at, drop_at, drop-drop}
 use lib.Ieee.{Float}
 use Rattle.model.specs.definitions.Area.{area_out}
-use Rattle.model.specs.laws.AreaLaws.{filled, untouched}
+use Rattle.model.proofs.laws.AreaLaws.{filled, untouched}
 use Rattle.proposals.proofs.Passes.{part_rest, put_rest}
 use Rattle.proposals.specs.definitions.Areas.{round_size, quotient_size, round_numbers, quotient_numbers}
 use Rattle.proposals.proofs.areas.store_quotient.Statement.{statement}

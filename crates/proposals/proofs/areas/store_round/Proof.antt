@@ -7,7 +7,7 @@ use native.Mathlib.Omega.{arith}
 use lib.ListN.{length, get_or, set, drop, length-take}
 use lib.Seq.{drop-cons, set_at}
 use lib.Ieee.{Float, nan}
-use Rattle.model.specs.laws.AreaLaws.{filled, untouched}
+use Rattle.model.proofs.laws.AreaLaws.{filled, untouched}
 use Rattle.proposals.specs.definitions.Areas.{round_size, round_numbers}
 use Rattle.proposals.proofs.areas.store_round.Statement.{statement}
 use Rattle.proposals.proofs.areas.store_round.Tie as tie

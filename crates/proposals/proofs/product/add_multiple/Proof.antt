@@ -6,9 +6,9 @@ use native.Mathlib.Omega.{arith}
 use lib.ListN.{length, get_or, drop, length-set}
 use lib.Ieee.{nan, binary64, add, mul}
 use Rattle.chebyshev.specs.definitions.Passes.{add_from_by}
-use Rattle.chebyshev.specs.laws.ProductLaws.{add_at_by_set}
+use Rattle.chebyshev.proofs.laws.ProductLaws.{add_at_by_set}
 use Rattle.proposals.proofs.Tests.{both_below, not_both}
-use Rattle.chebyshev.specs.laws.PassLaws.{from_step, from_end, from_beyond}
+use Rattle.chebyshev.proofs.laws.PassLaws.{from_step, from_end, from_beyond}
 use Rattle.proposals.proofs.product.add_multiple.Statement.{statement}
 use Rattle.proposals.proofs.product.add_multiple.Tie as tie
 

@@ -7,10 +7,10 @@ use native.Mathlib.Omega.{arith}
 use lib.ListN.{length, get_or, drop, replicate}
 use lib.Ieee.{nan, binary64, add, mul}
 use Rattle.chebyshev.specs.definitions.Product.{add_term_by, add_terms_by}
-use Rattle.chebyshev.specs.laws.ProductLaws.{length_add_term_by, terms_list, terms_by_step, terms_by_end}
+use Rattle.chebyshev.proofs.laws.ProductLaws.{length_add_term_by, terms_list, terms_by_step, terms_by_end}
 use Rattle.proposals.specs.definitions.Values.{nought}
 use Rattle.proposals.specs.definitions.Product.{half, product_wide}
-use Rattle.proposals.specs.laws.ValueLaws.{nought_is}
+use Rattle.proposals.proofs.laws.ValueLaws.{nought_is}
 use Rattle.proposals.proofs.product.multiply.Statement.{statement}
 use Rattle.proposals.proofs.product.multiply.Tie as tie
 

@@ -6,7 +6,7 @@ use Prim.Native.Nat.{◌-◌}
 use native.Mathlib.Omega.{arith}
 use lib.ListN.{length, get_or, replicate, length-reverse}
 use lib.Ieee.{nan, binary64, of_bits}
-use Rattle.integer.specs.laws.Filling.{Filling, begins, turn, whole}
+use Rattle.integer.proofs.laws.Filling.{Filling, begins, turn, whole}
 use Rattle.proposals.proofs.Reversal.{get_d_reverse}
 use Rattle.proposals.proofs.product.reversed.Statement.{statement}
 use Rattle.proposals.proofs.product.reversed.Tie as tie

@@ -15,8 +15,8 @@ use Rattle.proposals.specs.definitions.Product.{product}
 use Rattle.proposals.specs.definitions.Units.{in_units}
 use Rattle.proposals.specs.definitions.Reciprocal.{values_of}
 use Rattle.proposals.specs.definitions.Quotient.{Quotient, quotient_record, make_quotient, refused_quotient, quotient_proposal}
-use Rattle.proposals.specs.laws.MakerLaws.{quotient_of_bad, quotient_by_bad, quotient_different, quotient_not_finite, quotient_in_units, then_units, units_stop, units_go_on}
-use Rattle.proposals.specs.laws.ExactQuotient.{with_exact_quotient}
+use Rattle.proposals.proofs.laws.MakerLaws.{quotient_of_bad, quotient_by_bad, quotient_different, quotient_not_finite, quotient_in_units, then_units, units_stop, units_go_on}
+use Rattle.proposals.proofs.laws.ExactQuotient.{with_exact_quotient}
 use Rattle.proposals.proofs.quotient.make_quotient.Statement.{statement}
 use Rattle.proposals.proofs.quotient.make_quotient.Tie as tie
 

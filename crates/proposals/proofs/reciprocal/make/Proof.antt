@@ -10,7 +10,7 @@ use Rattle.proposals.specs.definitions.Rounds.{rounds, round_of, made_of}
 use Rattle.proposals.specs.definitions.Reciprocal.{constant_list, zero_round, reciprocal_rounds}
 use Rattle.proposals.specs.declared.types.Round.{Round}
 use Rattle.proposals.specs.declared.types.Ending.TheVariants.{GivenUp}
-use Rattle.proposals.specs.laws.ValueLaws.{nought_is, one_is}
+use Rattle.proposals.proofs.laws.ValueLaws.{nought_is, one_is}
 use Rattle.proposals.proofs.reciprocal.make.Statement.{statement}
 use Rattle.proposals.proofs.reciprocal.make.Tie as tie
 

@@ -10,8 +10,8 @@ use Rattle.model.specs.declared.types.Model.{Model}
 use Rattle.model.specs.declared.types.Candidate.{Candidate}
 use Rattle.proposals.specs.definitions.Units.{in_units}
 use Rattle.proposals.specs.definitions.Reciprocal.{Reciprocal, make_reciprocal, refused_reciprocal, reciprocal_proposal}
-use Rattle.proposals.specs.laws.MakerLaws.{reciprocal_of_bad, reciprocal_not_finite, reciprocal_in_units, then_units, units_stop, units_go_on}
-use Rattle.proposals.specs.laws.ExactQuotient.{with_exact_reciprocal}
+use Rattle.proposals.proofs.laws.MakerLaws.{reciprocal_of_bad, reciprocal_not_finite, reciprocal_in_units, then_units, units_stop, units_go_on}
+use Rattle.proposals.proofs.laws.ExactQuotient.{with_exact_reciprocal}
 use Rattle.proposals.proofs.reciprocal.make_reciprocal.Statement.{statement}
 use Rattle.proposals.proofs.reciprocal.make_reciprocal.Tie as tie
 

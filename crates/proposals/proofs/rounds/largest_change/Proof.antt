@@ -6,8 +6,8 @@ use native.Mathlib.Omega.{arith}
 use lib.ListN.{length, drop}
 use Rattle.proposals.specs.definitions.Values.{nought}
 use Rattle.proposals.specs.definitions.Rounds.{change_from}
-use Rattle.proposals.specs.laws.ValueLaws.{nought_is}
-use Rattle.proposals.specs.laws.RoundsLaws.{change_again, change_end}
+use Rattle.proposals.proofs.laws.ValueLaws.{nought_is}
+use Rattle.proposals.proofs.laws.RoundsLaws.{change_again, change_end}
 use Rattle.proposals.proofs.rounds.largest_change.Statement.{statement}
 use Rattle.proposals.proofs.rounds.largest_change.Tie as tie
 

@@ -6,7 +6,7 @@ use native.Mathlib.Omega.{arith}
 use lib.ListN.{length, get_or}
 use lib.Ieee.{Float, nan, binary64, sub, of_bits}
 use Rattle.proposals.specs.definitions.Values.{nought}
-use Rattle.proposals.specs.laws.ValueLaws.{nought_is}
+use Rattle.proposals.proofs.laws.ValueLaws.{nought_is}
 use Rattle.proposals.proofs.Mapping.{Mapping, map_begins, map_turn, map_ends}
 use Rattle.proposals.proofs.rounds.negate.Statement.{statement}
 use Rattle.proposals.proofs.rounds.negate.Tie as tie

@@ -10,8 +10,8 @@ use lib.Ieee.{Float, binary64, of_bits, le}
 use Rattle.proposals.specs.definitions.Values.{nought, settled_limit}
 use Rattle.proposals.specs.definitions.Rounds.{rounds, round_of}
 use Rattle.proposals.specs.declared.types.Round.{Round}
-use Rattle.proposals.specs.laws.ValueLaws.{nought_is, limit_is}
-use Rattle.proposals.specs.laws.RoundsLaws.{round_not_finite, round_settled, round_again, rounds_end}
+use Rattle.proposals.proofs.laws.ValueLaws.{nought_is, limit_is}
+use Rattle.proposals.proofs.laws.RoundsLaws.{round_not_finite, round_settled, round_again, rounds_end}
 use Rattle.proposals.proofs.rounds.run_rounds.Statement.{statement}
 use Rattle.proposals.proofs.rounds.run_rounds.Tie as tie
 

@@ -1,7 +1,7 @@
 -- `rounds::two_less` meets its contract.
 use borrow.Author.Rules.{rules}
-use Rattle.proposals.specs.laws.ValueLaws.{two_is}
-use Rattle.proposals.specs.laws.RoundsLaws.{two_less-set}
+use Rattle.proposals.proofs.laws.ValueLaws.{two_is}
+use Rattle.proposals.proofs.laws.RoundsLaws.{two_less-set}
 use Rattle.proposals.proofs.rounds.two_less.Statement.{statement}
 use Rattle.proposals.proofs.rounds.two_less.Tie as tie
 

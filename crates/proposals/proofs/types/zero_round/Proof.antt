@@ -1,6 +1,6 @@
 -- `types::zero_round` meets its contract.
 use Rattle.proposals.specs.definitions.Reciprocal.{zero_round}
-use Rattle.proposals.specs.laws.ValueLaws.{nought_is}
+use Rattle.proposals.proofs.laws.ValueLaws.{nought_is}
 use Rattle.proposals.proofs.types.zero_round.Statement.{statement}
 use Rattle.proposals.proofs.types.zero_round.Tie as tie
 

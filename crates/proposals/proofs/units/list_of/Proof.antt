@@ -9,9 +9,9 @@ use lib.Ieee.{nan}
 use mir.Syntax.{w32}
 use mir.Val.{SFits}
 use mir.Facts.{to_z-of_z}
-use Rattle.integer.specs.laws.Machine.{signed_needs}
+use Rattle.integer.proofs.laws.Machine.{signed_needs}
 use Rattle.proposals.specs.definitions.InnerContracts.{limited_units}
-use Rattle.proposals.specs.laws.ValueLaws.{finite_at}
+use Rattle.proposals.proofs.laws.ValueLaws.{finite_at}
 use Rattle.proposals.proofs.Mapping.{Making, make_begins, make_turn, make_ends}
 use Rattle.proposals.proofs.units.list_of.Statement.{statement}
 use Rattle.proposals.proofs.units.list_of.Tie as tie

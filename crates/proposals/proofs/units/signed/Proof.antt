@@ -8,8 +8,8 @@ use lib.IntN.{pos, negsuc, neg_ℤ, ◌-ℤ◌, +ℤ_idl}
 use mir.Syntax.{w64}
 use mir.Val.{SFits, to_z}
 use mir.Facts.{to_z-of_z, to_z_pos}
-use Rattle.integer.specs.laws.Machine.{abs-fits}
-use Rattle.proposals.specs.laws.UnitsLaws.{signed_size}
+use Rattle.integer.proofs.laws.Machine.{abs-fits}
+use Rattle.proposals.proofs.laws.UnitsLaws.{signed_size}
 use Rattle.proposals.proofs.units.signed.Statement.{statement}
 use Rattle.proposals.proofs.units.signed.Tie as tie
 

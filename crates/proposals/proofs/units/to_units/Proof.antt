@@ -4,7 +4,7 @@ use borrow.Author.Tests.{not-true, not-false}
 use mathlib.Core.Path.{◌≡◌, sym, ◌∙◌}
 use mathlib.Core.Bool.{true}
 use Rattle.proposals.specs.definitions.Values.{all_finite}
-use Rattle.proposals.specs.laws.MakerLaws.{units_not_finite, units_too_large, units_accepted}
+use Rattle.proposals.proofs.laws.MakerLaws.{units_not_finite, units_too_large, units_accepted}
 use Rattle.proposals.proofs.units.to_units.Statement.{statement}
 use Rattle.proposals.proofs.units.to_units.Tie as tie
 

@@ -13,12 +13,12 @@ use mir.Syntax.{w32, w64}
 use mir.Val.{SFits, to_z, of_z}
 use mir.Facts.{to_z-of_z, to_z_pos}
 use Rattle.integer.specs.definitions.Rounding.{near}
-use Rattle.integer.specs.laws.Difference.{<_parts}
-use Rattle.integer.specs.laws.Machine.{abs-fits}
+use Rattle.ring.specs.laws.Difference.{<_parts}
+use Rattle.integer.proofs.laws.Machine.{abs-fits}
 use Rattle.proposals.specs.definitions.Units.{signed}
-use Rattle.proposals.specs.laws.ValueLaws.{no_nan}
-use Rattle.proposals.specs.laws.UnitsLaws.{signed_size}
-use Rattle.proposals.specs.laws.BitsLaws.{shifted_one, between_size, units_none, units_large, units_shifted}
+use Rattle.proposals.proofs.laws.ValueLaws.{no_nan}
+use Rattle.proposals.proofs.laws.UnitsLaws.{signed_size}
+use Rattle.proposals.proofs.laws.BitsLaws.{shifted_one, between_size, units_none, units_large, units_shifted}
 use Rattle.proposals.proofs.units.units_of.Statement.{statement}
 use Rattle.proposals.proofs.units.units_of.Tie as tie
 

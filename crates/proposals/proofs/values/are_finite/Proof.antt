@@ -6,7 +6,7 @@ use Prim.Native.Nat.{◌-◌, ◌≤◌}
 use native.Mathlib.Omega.{arith}
 use lib.ListN.{length, drop}
 use Rattle.proposals.specs.definitions.Values.{all_finite}
-use Rattle.proposals.specs.laws.ValueLaws.{finite_stop, finite_again, finite_end}
+use Rattle.proposals.proofs.laws.ValueLaws.{finite_stop, finite_again, finite_end}
 use Rattle.proposals.proofs.values.are_finite.Statement.{statement}
 use Rattle.proposals.proofs.values.are_finite.Tie as tie
 

@@ -1,6 +1,6 @@
 -- `values::difference` meets its contract: each arm is what `cond` picks.
 use Rattle.proposals.specs.definitions.Values.{magnitude, difference}
-use Rattle.proposals.specs.laws.ValueLaws.{nought_is}
+use Rattle.proposals.proofs.laws.ValueLaws.{nought_is}
 use Rattle.proposals.proofs.values.difference.Statement.{statement}
 use Rattle.proposals.proofs.values.difference.Tie as tie
 

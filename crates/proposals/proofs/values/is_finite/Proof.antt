@@ -1,6 +1,6 @@
 -- `values::is_finite` meets its contract: 1.0 / 0.0 is the infinity.
 use lib.Ieee.{of_bits, div, neg}
-use Rattle.proposals.specs.laws.ValueLaws.{finite_between}
+use Rattle.proposals.proofs.laws.ValueLaws.{finite_between}
 use Rattle.proposals.proofs.values.is_finite.Statement.{statement}
 use Rattle.proposals.proofs.values.is_finite.Tie as tie
 

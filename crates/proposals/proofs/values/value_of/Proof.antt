@@ -3,7 +3,7 @@ use borrow.Author.Rules.{rules}
 use mathlib.Core.Path.{refl}
 use mir.Facts.{to_z-of_z}
 use Rattle.proposals.specs.definitions.Values.{value_of}
-use Rattle.proposals.specs.laws.ValueLaws.{scale_is}
+use Rattle.proposals.proofs.laws.ValueLaws.{scale_is}
 use Rattle.proposals.proofs.values.value_of.Statement.{statement}
 use Rattle.proposals.proofs.values.value_of.Tie as tie
 

@@ -8,7 +8,7 @@ use lib.Ieee.{binary64, of_bits}
 use mir.Syntax.{w32}
 use mir.Val.{SFits}
 use mir.Facts.{to_z-of_z}
-use Rattle.integer.specs.laws.Machine.{signed_needs}
+use Rattle.integer.proofs.laws.Machine.{signed_needs}
 use Rattle.proposals.specs.definitions.Values.{value_of}
 use Rattle.proposals.proofs.Mapping.{Making, make_begins, make_turn, make_ends}
 use Rattle.proposals.proofs.values.values_of.Statement.{statement}

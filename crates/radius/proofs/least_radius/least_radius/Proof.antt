@@ -5,8 +5,8 @@ use Prim.Native.Nat.{ℕ, ◌+◌, ◌*◌, ◌-◌, ◌/◌, ◌≤◌, ◌<◌
 use native.Mathlib.Omega.{arith}
 use native.Mathlib.Nat.{mul-le-mul_left}
 use Rattle.model.specs.definitions.Models.{scale}
-use Rattle.radius.specs.laws.LeastLaws.{test_holds, test_fails}
-use Rattle.radius.specs.laws.SearchLaws.{large_displacement, no_displacement, next_found, next_missing, scale_missing, quotient_below, quotient_beyond}
+use Rattle.radius.proofs.laws.LeastLaws.{test_holds, test_fails}
+use Rattle.radius.proofs.laws.SearchLaws.{large_displacement, no_displacement, next_found, next_missing, scale_missing, quotient_below, quotient_beyond}
 use Rattle.radius.proofs.least_radius.least_radius.Statement.{statement}
 use Rattle.radius.proofs.least_radius.least_radius.Tie as tie
 

@@ -2,7 +2,7 @@
 use borrow.Author.Rules.{rules}
 use native.Mathlib.Omega.{arith}
 use native.Mathlib.Nat.{mul_assoc}
-use Rattle.radius.specs.laws.SearchLaws.{Small, small}
+use Rattle.radius.proofs.laws.SearchLaws.{Small, small}
 use Rattle.radius.proofs.least_radius.satisfies.Statement.{statement}
 use Rattle.radius.proofs.least_radius.satisfies.Tie as tie
 

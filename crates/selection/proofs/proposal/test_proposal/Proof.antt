@@ -4,7 +4,7 @@ use mathlib.Core.Path.{sym, ap}
 use native.Mathlib.Omega.{arith}
 use lib.ListN.{length, length-take}
 use Rattle.model.specs.definitions.Outcomes.{verdict_number}
-use Rattle.selection.specs.laws.ProposalLaws.{short_radius, test_read, proposal_read, proposal_promised}
+use Rattle.selection.proofs.laws.ProposalLaws.{short_radius, test_read, proposal_read, proposal_promised}
 use Rattle.selection.proofs.proposal.test_proposal.Statement.{statement}
 use Rattle.selection.proofs.proposal.test_proposal.Tie as tie
 

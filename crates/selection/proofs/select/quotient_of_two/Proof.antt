@@ -8,8 +8,8 @@ use Rattle.certificate.specs.definitions.Tests.{scratch_after}
 use Rattle.selection.specs.definitions.Proposal.{proposal_radius}
 use Rattle.selection.specs.definitions.Select.{Selected, selection, selection_of}
 use Rattle.selection.specs.definitions.Promise.{Tightest}
-use Rattle.selection.specs.laws.SelectSound.{chosen_long}
-use Rattle.selection.specs.laws.SelectLaws.{tighter_is_least}
+use Rattle.selection.proofs.laws.SelectSound.{chosen_long}
+use Rattle.selection.proofs.laws.SelectLaws.{tighter_is_least}
 use Rattle.selection.specs.declared.types.Selection.{Selection}
 use Rattle.selection.proofs.Selecting.{two_tests, Promised, chosen_promised, not_zero, none_selected}
 use Rattle.selection.proofs.select.quotient_of_two.Statement.{statement}

@@ -1,7 +1,7 @@
 -- `select::select` meets its contract, case by case.
 use borrow.Author.Rules.{rules}
 use mathlib.Core.Path.{sym}
-use Rattle.selection.specs.laws.SelectLaws.{smaller_second, first_not_larger, only_first, only_second, neither}
+use Rattle.selection.proofs.laws.SelectLaws.{smaller_second, first_not_larger, only_first, only_second, neither}
 use Rattle.selection.proofs.select.select.Statement.{statement}
 use Rattle.selection.proofs.select.select.Tie as tie
 

@@ -10,13 +10,13 @@ use lib.Seq.{get_or-take}
 use mir.Syntax.{w64}
 use mir.Val.{SFits, to_z, of_z}
 use mir.Facts.{to_z-of_z}
-use Rattle.integer.specs.laws.Parts.{abs-mul, abs-add}
-use Rattle.integer.specs.definitions.Integer.{ℤ_ring}
-use Rattle.integer.specs.laws.Machine.{signed_needs, abs-fits}
-use Rattle.integer.specs.laws.Filling.{next}
+use Rattle.ring.specs.laws.Parts.{abs-mul, abs-add}
+use Rattle.ring.specs.definitions.Integer.{ℤ_ring}
+use Rattle.integer.proofs.laws.Machine.{signed_needs, abs-fits}
+use Rattle.integer.proofs.laws.Filling.{next}
 use Rattle.chebyshev.specs.definitions.Coefficients.{weight, scale_list}
-use Rattle.chebyshev.specs.laws.CoefficientLaws.{get_d_add, get_d_scale}
-use Rattle.chebyshev.specs.laws.Weight.{weight_at}
+use Rattle.chebyshev.proofs.laws.CoefficientLaws.{get_d_add, get_d_scale}
+use Rattle.chebyshev.proofs.laws.Weight.{weight_at}
 use Rattle.series.proofs.MultipleWalk.{filled, Walked, start_at, turn_at, end_at}
 use Rattle.series.proofs.convert.add_multiple.Statement.{statement}
 use Rattle.series.proofs.convert.add_multiple.Tie as tie

@@ -10,12 +10,12 @@ use lib.ListN.{length, take}
 use lib.Seq.{length-take-le}
 use lib.Signed.{lt_z_yes}
 use Rattle.chebyshev.specs.definitions.Coefficients.{weight}
-use Rattle.chebyshev.specs.laws.Weight.{weight-take, weight-zeros}
+use Rattle.chebyshev.proofs.laws.Weight.{weight-take, weight-zeros}
 use Rattle.model.specs.definitions.InnerContracts.{formed_outcome}
 use Rattle.model.specs.definitions.Models.{standard_model}
-use Rattle.model.specs.laws.ModelLaws.{Good}
+use Rattle.model.proofs.laws.ModelLaws.{Good}
 use Rattle.series.specs.definitions.Convert.{series_terms, expanded_from}
-use Rattle.series.specs.laws.ConversionLaws.{limits, length-expanded, weight-expanded, from_zeros, series_formed}
+use Rattle.series.proofs.laws.ConversionLaws.{limits, length-expanded, weight-expanded, from_zeros, series_formed}
 use Rattle.series.specs.declared.types.Series.{Series}
 use Rattle.series.proofs.convert.convert_good.Statement.{statement}
 use Rattle.series.proofs.convert.convert_good.Tie as tie

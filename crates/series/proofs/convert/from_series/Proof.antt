@@ -2,8 +2,8 @@
 use borrow.Author.Rules.{rules}
 use mathlib.Core.Path.{◌≡◌, sym, ◌∙◌}
 use Rattle.series.specs.definitions.Convert.{good_series}
-use Rattle.series.specs.laws.ConversionLaws.{series_good, conversion_of_good, conversion_of_bad}
-use Rattle.series.specs.laws.ConversionSound.{series_allowed}
+use Rattle.series.proofs.laws.ConversionLaws.{series_good, conversion_of_good, conversion_of_bad}
+use Rattle.series.proofs.laws.ConversionSound.{series_allowed}
 use Rattle.series.proofs.convert.from_series.Statement.{statement}
 use Rattle.series.proofs.convert.from_series.Tie as tie
 

@@ -1,7 +1,7 @@
 -- `degrees::stands_for` meets its contract.
 use borrow.Author.Rules.{rules}
 use mathlib.Core.Path.{◌∙◌}
-use Rattle.survey.specs.laws.NameLaws.{stands_itself, stands_all, stands_larger}
+use Rattle.survey.proofs.laws.NameLaws.{stands_itself, stands_all, stands_larger}
 use Rattle.survey.proofs.degrees.stands_for.Statement.{statement}
 use Rattle.survey.proofs.degrees.stands_for.Tie as tie
 

@@ -4,7 +4,7 @@ use mathlib.Core.Path.{ap₂, ◌∙◌}
 use Prim.Native.Nat.{◌+◌, max}
 use Rattle.job.specs.definitions.Decode.{maker_at}
 use Rattle.survey.specs.definitions.Degrees.{maker_degree}
-use Rattle.survey.specs.laws.NameLaws.{first_named, second_named}
+use Rattle.survey.proofs.laws.NameLaws.{first_named, second_named}
 use Rattle.survey.proofs.degrees.sum_degree.Statement.{statement}
 use Rattle.survey.proofs.degrees.sum_degree.Tie as tie
 

@@ -10,8 +10,8 @@ use Rattle.job.specs.definitions.Reader.{job_reading}
 use Rattle.survey.specs.definitions.Editions.{converted, convert_from, ConvertedJob, edition_conversion, output_after}
 use Rattle.job.specs.definitions.Outcomes.{JobOutcome, accepted, job_outcome_of}
 use Rattle.survey.specs.definitions.InnerContracts.{short_output}
-use Rattle.survey.specs.laws.ConvertedOutput.{output_claim}
-use Rattle.survey.specs.laws.OutputLaws.{read_well, refused_ill, conversion_well, conversion_ill, conversion_refused, output_well, output_ill, output_short, lent_twice, lent_length}
+use Rattle.survey.proofs.laws.ConvertedOutput.{output_claim}
+use Rattle.survey.proofs.laws.OutputLaws.{read_well, refused_ill, conversion_well, conversion_ill, conversion_refused, output_well, output_ill, output_short, lent_twice, lent_length}
 use Rattle.survey.proofs.editions.convert_edition.Statement.{statement}
 use Rattle.survey.proofs.editions.convert_edition.Tie as tie
 

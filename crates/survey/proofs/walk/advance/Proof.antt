@@ -7,7 +7,7 @@ use lib.ListN.{length, set}
 use Rattle.job.specs.declared.types.Kind.{Kind}
 use Rattle.job.specs.declared.types.Kind.TheVariants.{End, Edition, Result, Unknown}
 use Rattle.survey.specs.definitions.InnerContracts.{Advancing}
-use Rattle.survey.specs.laws.AdvanceLaws.{advance_tells, advance_few, advanced_result}
+use Rattle.survey.proofs.laws.AdvanceLaws.{advance_tells, advance_few, advanced_result}
 use Rattle.survey.proofs.walk.advance.Statement.{statement}
 use Rattle.survey.proofs.walk.advance.Tie as tie
 

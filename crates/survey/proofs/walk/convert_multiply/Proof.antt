@@ -6,7 +6,7 @@ use lib.ListN.{set}
 use Rattle.job.specs.definitions.Bytes.{byte_at}
 use Rattle.job.specs.definitions.Decode.{edition_of, kept_in, maker_at}
 use Rattle.survey.specs.definitions.Degrees.{maker_degree}
-use Rattle.survey.specs.laws.NameLaws.{first_named, second_named}
+use Rattle.survey.proofs.laws.NameLaws.{first_named, second_named}
 use Rattle.survey.proofs.walk.convert_multiply.Statement.{statement}
 use Rattle.survey.proofs.walk.convert_multiply.Tie as tie
 

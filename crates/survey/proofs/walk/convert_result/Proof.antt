@@ -8,7 +8,7 @@ use Rattle.job.specs.definitions.Decode.{maker_at}
 use Rattle.job.specs.declared.types.Operation.TheVariants.{Add, Subtract}
 use Rattle.survey.specs.definitions.Degrees.{maker_degree}
 use Rattle.survey.specs.definitions.InnerContracts.{NamesTwo, TellsDegree}
-use Rattle.survey.specs.laws.NameLaws.{multiply_names}
+use Rattle.survey.proofs.laws.NameLaws.{multiply_names}
 use Rattle.survey.proofs.walk.convert_result.Statement.{statement}
 use Rattle.survey.proofs.walk.convert_result.Tie as tie
 

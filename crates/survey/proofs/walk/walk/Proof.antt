@@ -5,12 +5,12 @@ use mathlib.Core.List.{List}
 use Prim.Native.Nat.{ℕ, ◌+◌, ◌-◌, ◌<◌}
 use native.Mathlib.Omega.{arith}
 use lib.ListN.{length}
-use Rattle.survey.specs.laws.WalkLaws.{Walking, walking_begins, found_advancing, walk_ends, walk_again, walk_refused}
+use Rattle.survey.proofs.laws.WalkLaws.{Walking, walking_begins, found_advancing, walk_ends, walk_again, walk_refused}
 use Rattle.job.specs.definitions.Outcomes.{accepted}
 use Rattle.job.specs.definitions.Reading.{found, command_reading, command_reading_of}
 use Rattle.job.specs.declared.types.Kind.{Kind}
 use Rattle.survey.specs.definitions.InnerContracts.{reading_outcome}
-use Rattle.survey.specs.laws.ConvertedSame.{ill_not_well}
+use Rattle.survey.proofs.laws.ConvertedSame.{ill_not_well}
 use Rattle.survey.proofs.walk.walk.Statement.{statement}
 use Rattle.survey.proofs.walk.walk.Tie as tie
 

@@ -4,7 +4,7 @@ use borrow.Author.Tests.{lt-ltb, le-ltb}
 use native.Mathlib.Omega.{arith}
 use Rattle.model.specs.definitions.Models.{max_radius, candidate_model}
 use Rattle.model.specs.definitions.Outcomes.{passing}
-use Rattle.certificate.specs.laws.Stages.{large_radius}
+use Rattle.certificate.proofs.laws.Stages.{large_radius}
 use Rattle.certificate.proofs.types.TestOutcome.formed.Statement.{statement}
 use Rattle.certificate.proofs.types.TestOutcome.formed.Tie as tie
 

@@ -8,7 +8,7 @@ use lib.IntN.{nat_abs, ◌-ℤ◌}
 use mir.Syntax.{w32, w64}
 use mir.Val.{SFits}
 use mir.Facts.{to_z-of_z}
-use Rattle.integer.specs.laws.Machine.{fits_widens}
+use Rattle.integer.proofs.laws.Machine.{fits_widens}
 use Rattle.model.specs.definitions.Intervals.{same_interval}
 use Rattle.model.proofs.EndWords.{difference-fits}
 use Rattle.model.proofs.types.Interval.is_same.Statement.{statement}

@@ -1,7 +1,7 @@
 -- `QuotientOutcome::refused` meets its contract.
 use borrow.Author.Rules.{rules}
 use Rattle.proposals.specs.definitions.Quotient.{refused_quotient}
-use Rattle.proposals.specs.laws.ValueLaws.{nought_is}
+use Rattle.proposals.proofs.laws.ValueLaws.{nought_is}
 use Rattle.proposals.proofs.types.QuotientOutcome.refused.Statement.{statement}
 use Rattle.proposals.proofs.types.QuotientOutcome.refused.Tie as tie
 

@@ -1,7 +1,7 @@
 -- `ReciprocalOutcome::refused` meets its contract.
 use borrow.Author.Rules.{rules}
 use Rattle.proposals.specs.definitions.Reciprocal.{refused_reciprocal}
-use Rattle.proposals.specs.laws.ValueLaws.{nought_is}
+use Rattle.proposals.proofs.laws.ValueLaws.{nought_is}
 use Rattle.proposals.proofs.types.ReciprocalOutcome.refused.Statement.{statement}
 use Rattle.proposals.proofs.types.ReciprocalOutcome.refused.Tie as tie
 

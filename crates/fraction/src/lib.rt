@@ -1,0 +1,2 @@
+// The fractions: definitions and theorems, no code.
+#![tactic(auto)]

@@ -1,0 +1,15 @@
+pub mod Embedding
+pub mod FractionSolver
+pub mod FractionOrder
+pub mod FractionInverse
+pub mod FractionLinear
+pub mod RoundingLaws
+pub mod RoundingExamples
+pub mod RoundingSize
+pub mod NearLaws
+pub mod FractionRounding
+pub mod Archimedean
+pub mod Machine
+pub mod Filling
+pub mod Clearing
+pub mod Examples

@@ -1,0 +1,4 @@
+pub mod Ring
+pub mod Integer
+pub mod OrderedRing
+pub mod Pairs
