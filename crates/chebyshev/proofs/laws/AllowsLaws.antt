@@ -1,7 +1,7 @@
 -- What a list of coefficients allows, in 01's own form and in whole numbers.
 use Rattle.std.specs.Prelude.{◌≡◌, ◌↔◌, List, [], ◌∷◌, map, ℕ, suc, ◌*◌, ◌^◌, ◌≤◌, ◌<◌, ℤ, pos, nat_abs, ◌-ℤ◌, ◌*ℤ◌, drop}
 use Rattle.std.proofs.Common.{◌∙◌, ap, mul-pos}
-use Rattle.std.proofs.Math.Logic.{Iff·symm, Iff·trans}
+use Rattle.std.proofs.Math.Logic.Iff
 use Rattle.std.proofs.Math.Nat.{one-le-pow}
 use Rattle.integer.proofs.laws.FractionRounding.{natural_positive}
 use Rattle.ring.proofs.laws.OrderedRingLaws.{le_of_eq, abs-scale}
@@ -61,7 +61,7 @@ pub allows-whole : (s : ℕ) (a : List ℤ) (e n : ℕ) {x v : ℚ} {p u : ℤ} 
     → allows s a e x v ↔ allows_whole s a e n p q u d
 unfolding allows allows_whole
 allows-whole s a e n {x} {v} {p} {u} {q} {d} fx fv h =
-    Iff·trans
+    Iff.trans
     (cross_multiplied (whole (pos s)) (whole (pos e)) v (whole (pos d)) (whole (pos (q ^ n))) (value ℚ_ring x (map whole a))
     above fv.equation (value_homogeneous ℚ_ring x p q fx.equation n a h))
     (embedded s e d (q ^ n) u (homogeneous_value p q n a))
@@ -73,4 +73,4 @@ allows-whole s a e n {x} {v} {p} {u} {q} {d} fx fv h =
 pub allows_whole_same : (s : ℕ) (a : List ℤ) (e n n' : ℕ) {x v : ℚ} {p p' u u' : ℤ} {q q' d d' : ℕ}
     → IsFraction x p q → IsFraction x p' q' → IsFraction v u d → IsFraction v u' d' → weight (drop (suc n) a) ≡ 0 → weight (drop (suc n') a) ≡ 0
     → allows_whole s a e n p q u d ↔ allows_whole s a e n' p' q' u' d'
-allows_whole_same s a e n n' fx fx' fv fv' h h' = Iff·trans (Iff·symm (allows-whole s a e n fx fv h)) (allows-whole s a e n' fx' fv' h')
+allows_whole_same s a e n n' fx fx' fv fv' h h' = Iff.trans (Iff.symm (allows-whole s a e n fx fv h)) (allows-whole s a e n' fx' fv' h')

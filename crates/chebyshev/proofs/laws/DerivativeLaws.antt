@@ -49,7 +49,9 @@ module _ (R : CommutativeRing) where
   pub second_difference : (x : A) (k : ℕ) → second_kind R x (suc (suc k)) ≡ ι (pos 2) ⊗ first_kind R x (suc k) ⊕ second_kind R x k
   unfolding second_kind
   second_difference x k =
-      rw ((pair_step R x k).0, (pair_step R x k).1) (solve R (x ∷ first_kind R x k ∷ second_kind R x k ∷ []) (search reify depth 20) (search reify depth 20) tt)
+      ap (λ u. ι (pos 2) ⊗ x ⊗ u ⊕ ⊖ second_kind R x k) (pair_step R x k).1
+      ∙ solve R (x ∷ first_kind R x k ∷ second_kind R x k ∷ []) (search reify depth 20) (search reify depth 20) tt
+      ∙ ap (λ t. ι (pos 2) ⊗ t ⊕ second_kind R x k) (sym (pair_step R x k).0)
 
   -- T'_k = k·U_(k−1)
   pub derivative_second : (x : A) (k : ℕ) → derivative R x k ≡ ι (pos k) ⊗ second_kind R x k

@@ -3,7 +3,7 @@
 use Rattle.std.specs.Prelude.{◌≡◌, ◌↔◌, ℤ, pos, nat_abs, ◌+ℤ◌, ◌-ℤ◌, ◌*ℤ◌, drop}
 use Rattle.std.proofs.Math.Path.{sym, ap}
 use Rattle.std.proofs.Common.{◌∙◌, pow-suc, mul-pos}
-use Rattle.std.proofs.Math.Logic.{Iff·trans}
+use Rattle.std.proofs.Math.Logic.Iff
 use mathlib.Core.List.{List, [], ◌∷◌, map}
 use Prim.Native.Nat.{ℕ, zero, suc, ◌+◌, ◌-◌, ◌*◌, ◌^◌, ◌≤◌, ◌<◌}
 use native.Mathlib.Omega.{arith}
@@ -135,7 +135,7 @@ fraction_scale {x} {p} {q} m h f = record {
 -- |x| ≤ 1 exactly where |p| ≤ q
 pub fraction_range : {x : ℚ} {p : ℤ} {q : ℕ} → IsFraction x p q → (∣ x ∣ℚ ≤ℚ whole (pos 1)) ↔ (nat_abs p ≤ q)
 fraction_range {x} {p} {q} f =
-    Iff·trans (abs-scale ℚ_ordered (whole (pos q)) x (whole (pos 1)) (natural_positive q f.positive))
+    Iff.trans (abs-scale ℚ_ordered (whole (pos q)) x (whole (pos 1)) (natural_positive q f.positive))
     (rw (*ℚ_comm (whole (pos q)) x, f.equation, *ℚ_one, whole-abs, ∣∣_is) (embedded (nat_abs p) q))
   where
     embedded : (m n : ℕ) → (whole (pos m) ≤ℚ whole (pos n)) ↔ (m ≤ n)

@@ -52,7 +52,8 @@ module _ (R : CommutativeRing) where
   unfolding first_kind
   first_one zero = refl
   first_one (suc zero) = refl
-  first_one (suc (suc k)) = rw (first_one (suc k), first_one k) (solve R [] (search reify depth 20) (search reify depth 20) tt)
+  first_one (suc (suc k)) =
+      ap₂ (λ a b. ι (pos 2) ⊗ ι (pos 1) ⊗ a ⊕ ⊖ b) (first_one (suc k)) (first_one k) ∙ solve R [] (search reify depth 20) (search reify depth 20) tt
 
   -- T_k(−1) = (−1)^k
   pub first_minus_one : (k : ℕ) → first_kind R (⊖ ι (pos 1)) k ≡ sign R k

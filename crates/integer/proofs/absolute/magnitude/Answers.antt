@@ -1,5 +1,5 @@
--- `absolute::magnitude` meets its contract: below 0 it is (−1 − x) + 1, and −1 − x fits at every x.
-use borrow.Author.Rules.{rules}
+-- `absolute::magnitude` : below 0 it is (−1 − x) + 1, and −1 − x fits at every x.
+use Rattle.std.proofs.Common.{rules}
 use mathlib.Core.Path.{◌≡◌}
 use mathlib.Core.Bool.{true}
 use Prim.Native.Nat.{◌+◌, ◌^◌, ◌≤◌}
@@ -11,11 +11,10 @@ use mir.Val.{SFits}
 use mir.Facts.{to_z-of_z}
 use Rattle.ring.specs.laws.Parts.{◌⁻, abs, apart, difference, lt_yes, lt_no}
 use Rattle.integer.proofs.laws.Machine.{fits, within, non_neg_lem}
-use Rattle.integer.proofs.absolute.magnitude.Statement.{statement}
-use Rattle.integer.proofs.absolute.magnitude.Tie as tie
+use Rattle.integer.proofs.absolute.magnitude.Goals as goal
 
 -- x < 0, and y = −1 − x
-module _ (c : tie.Then1) where
+module _ (c : goal.Then-x-lt0) where
   abbrev x : ℤ
   x = c.before.args.x
 
@@ -26,7 +25,7 @@ module _ (c : tie.Then1) where
   fits-x = c.before.ranges.x
 
   negative : lt_z x (pos 0) ≡ true
-  negative = simp (to_z-of_z fits-x) at c.if1.true
+  negative = simp (to_z-of_z fits-x) at c.if-x-lt0.true
 
   y-is : (nat_abs y + 1 ≡ nat_abs x) × (y ⁻ ≡ 0)
   y-is = omega (arith, difference (negsuc 0) x, abs x, abs y, apart x, apart y, lt_yes x (pos 0) negative)
@@ -37,23 +36,21 @@ module _ (c : tie.Then1) where
   fits-y : SFits w64 y
   fits-y = fits w64 y (omega (arith, abs y, y-is, small)) (omega (arith, y-is))
 
-cast-result : tie.Need-overflow-cast-result
-cast-result c = simp (to_z-of_z (fits-x c), to_z-of_z (fits-y c)) (non_neg_lem (y c) (y-is c).1, record { fits = omega (arith, y-is c, small c) })
+pub overflow_cast-result : goal.overflow_cast-result
+overflow_cast-result c = simp (to_z-of_z (fits-x c), to_z-of_z (fits-y c)) (non_neg_lem (y c) (y-is c).1, record { fits = omega (arith, y-is c, small c) })
 
-add-result : tie.Need-overflow-add-result
-add-result c = simp (to_z-of_z (fits-x c), to_z-of_z (fits-y c)) (record { fits = omega (arith, y-is c, small c) })
+pub overflow_add-result : goal.overflow_add-result
+overflow_add-result c = simp (to_z-of_z (fits-x c), to_z-of_z (fits-y c)) (record { fits = omega (arith, y-is c, small c) })
 
-cast-result-2 : tie.Need-overflow-cast-result-2
-cast-result-2 c =
+pub overflow_cast-result-else-x-lt0 : goal.overflow_cast-result-else-x-lt0
+overflow_cast-result-else-x-lt0 c =
     let x = c.before.args.x in
     let f = c.before.ranges.x in
-    let e = simp (to_z-of_z f) at c.if1.false in
+    let e = simp (to_z-of_z f) at c.if-x-lt0.false in
     simp (to_z-of_z f) (non_neg_lem x (omega (arith, lt_no x (pos 0) e, apart x)), record { fits = omega (arith, within w64 x f, abs x) })
 
-returns : tie.Need-returns
-returns c = simp (to_z-of_z (fits-x c), to_z-of_z (fits-y c)) (y-is c).0
+pub returns-then-x-lt0 : goal.returns-then-x-lt0
+returns-then-x-lt0 c = simp (to_z-of_z (fits-x c), to_z-of_z (fits-y c)) (y-is c).0
 
-pub magnitude-spec : {M : Type 1} → statement M
-magnitude-spec =
-    tie.close (tie.spec
-    (λ c. simp (to_z-of_z (fits-x c)) (fits-y c)) cast-result add-result cast-result-2 returns (λ c. search rules))
+pub overflow_sub-result : goal.overflow_sub-result
+overflow_sub-result c = simp (to_z-of_z (fits-x c)) (fits-y c)
