@@ -11,7 +11,7 @@ use model::types::{Candidate, Interval, Model, Refusal, Verdict};
 pub const SCRATCH_SIZE: usize = 16;
 
 // The verdict, the result, and document 01's m, N and b; on refusal the zero model and three zeros.
-#[derive(Drop)]
+#[derive(Clone, Copy)]
 pub struct TestOutcome {
     pub verdict: Verdict,
     pub model: Model,
@@ -81,14 +81,14 @@ impl TestOutcome {
 }
 
 // What is asked of a root behind N and b, and its radius: command 0x21's discriminant and radius, or command 0x22's least radius.
-#[derive(Drop)]
+#[derive(Clone, Copy)]
 pub enum RootRule {
     ByDiscriminant,
     ByLeastRadius,
 }
 
 // A root test up to N and b: refused, or M, m, N and b.
-#[derive(Drop)]
+#[derive(Clone, Copy)]
 pub(crate) enum RootNumbers {
     Refused(Refusal),
     Reached {

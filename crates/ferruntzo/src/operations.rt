@@ -20,7 +20,7 @@ use model::multiply::multiply;
 use model::types::{BoundsOutcome, Model, ModelOutcome, Refusal, Verdict, verdict_number};
 
 // An operation on two models; multiply with its kept degree.
-#[derive(Drop)]
+#[derive(Clone, Copy)]
 enum Operation {
     Add,
     Subtract,

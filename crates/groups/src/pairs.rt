@@ -8,7 +8,7 @@ ghost use Rattle.groups.specs.definitions.InnerContracts.{Below, Holds};
 use integer::lengths::min;
 
 // The numbers at places k and k+1 of C, or what is summed of them.
-#[derive(Drop)]
+#[derive(Clone, Copy)]
 pub(crate) struct TwoPlaces {
     pub(crate) first: i64,
     pub(crate) second: i64,

@@ -23,7 +23,7 @@ fn named(job: &[u8], i: usize, work: &[i32]) -> Model
 }
 
 // The results that the two bytes after a command name.
-#[derive(Drop)]
+#[derive(Clone, Copy)]
 struct Operands {
     first: Model,
     second: Model,

@@ -6,7 +6,7 @@ ghost use Rattle.job.specs.definitions.Reading.{command_reading, command_reading
 use crate::reading::read_command;
 use crate::types::CommandReading;
 
-#[derive(Drop)]
+#[derive(Clone, Copy)]
 struct Reader<'a> {
     job: &'a [u8],
     at: usize,

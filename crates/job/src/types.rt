@@ -6,7 +6,7 @@ use model::types::Refusal;
 pub const MAX_RESULTS: usize = 32;
 
 // The operations of the commands that make a result.
-#[derive(Drop)]
+#[derive(Clone, Copy)]
 pub enum Operation {
     Load,
     Add,
@@ -18,7 +18,7 @@ pub enum Operation {
 }
 
 // A command is the end, the edition or one that makes a result.
-#[derive(Drop)]
+#[derive(Clone, Copy)]
 pub enum Kind {
     End,
     Edition,
@@ -27,7 +27,7 @@ pub enum Kind {
 }
 
 // How many of a command's operand bytes, from the first on, name results.
-#[derive(Drop)]
+#[derive(Clone, Copy)]
 pub enum Names {
     Nothing,
     One,
@@ -35,7 +35,7 @@ pub enum Names {
 }
 
 // What values are asked of a command's operand bytes: none, a known edition, or a kept degree after two names.
-#[derive(Drop)]
+#[derive(Clone, Copy)]
 pub enum OperandValues {
     Any,
     KnownEdition,
@@ -43,7 +43,7 @@ pub enum OperandValues {
 }
 
 // A command's shape: its kind, the width of its operands in bytes, which of them name results, and what values are asked.
-#[derive(Drop)]
+#[derive(Clone, Copy)]
 pub struct Shape {
     pub kind: Kind,
     pub width: usize,
@@ -52,14 +52,14 @@ pub struct Shape {
 }
 
 // What reading a command answers: its kind and the next position, or a refusal.
-#[derive(Drop)]
+#[derive(Clone, Copy)]
 pub enum CommandReading {
     Found(Kind, usize),
     Refused(Refusal),
 }
 
 // What one command does: the count of results then and the next position, the end of the job, or a refusal.
-#[derive(Drop)]
+#[derive(Clone, Copy)]
 pub enum Step {
     More(usize, usize),
     Over,
@@ -67,14 +67,14 @@ pub enum Step {
 }
 
 // Accepted with the count of results, or refused with the refusal and the command's number, counted from 0.
-#[derive(Drop)]
+#[derive(Clone, Copy)]
 pub enum JobOutcome {
     Accepted(usize),
     Refused(Refusal, usize),
 }
 
 // Which report records a check writes: none, the workshop's of 6 bytes, or the service's of 18.
-#[derive(Drop)]
+#[derive(Clone, Copy)]
 pub enum Report {
     Empty,
     Workshop,

@@ -5,7 +5,7 @@ ghost use Rattle.jobcheck.specs.definitions.Input.{read_of, Inside};
 use libc::STDIN_FILENO;
 
 // What one read answers: bytes came, the input has ended, or the read failed.
-#[derive(Drop)]
+#[derive(Clone, Copy)]
 pub enum Read {
     Bytes(usize),
     End,
@@ -13,7 +13,7 @@ pub enum Read {
 }
 
 // The length of an input that was read to its end; more bytes than a job may have; or a read failed before the end.
-#[derive(Drop)]
+#[derive(Clone, Copy)]
 pub enum Input {
     Whole(usize),
     TooLong,

@@ -9,7 +9,7 @@ ghost use Rattle.model.specs.definitions.Add.{addition, subtraction};
 use crate::measure::{fault_of, is_good};
 use crate::types::{COEFFICIENTS, Interval, Model, ModelOutcome, Refusal};
 
-#[derive(Drop)]
+#[derive(Clone, Copy)]
 struct Combined {
     coefficients: [i32; COEFFICIENTS],
     weight: u64,

@@ -16,14 +16,14 @@ const POINT_FACTOR: i64 = 1024;
 const SUM_SCALE: i64 = 4294967296;
 
 // V and W of document 01, at the mapped point.
-#[derive(Drop)]
+#[derive(Clone, Copy)]
 struct PointSums {
     value: i64,
     error: u64,
 }
 
 // A point of an interval taken to one from -1 to 1, and whether that is exact.
-#[derive(Drop)]
+#[derive(Clone, Copy)]
 struct MappedPoint {
     point: i64,
     exact: bool,

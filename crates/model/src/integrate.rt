@@ -19,7 +19,7 @@ const DIVISOR: i64 = 4 * Model::SCALE;
 const NARROW: u64 = 4194304;
 
 // The coefficients count only where their weight is within its limit.
-#[derive(Drop)]
+#[derive(Clone, Copy)]
 struct Integral {
     coefficients: [i32; COEFFICIENTS],
     weight: u64,

@@ -6,7 +6,7 @@ ghost use Rattle.model.specs.definitions.Outcomes.{number_of};
 
 use crate::types::{COEFFICIENTS, Candidate, Interval, Model, Refusal};
 
-#[derive(Drop)]
+#[derive(Clone, Copy)]
 pub struct Measured {
     pub good: bool,
     pub weight: u64,

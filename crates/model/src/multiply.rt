@@ -41,14 +41,14 @@ fn kept_degree(kept: u32, first: u32, second: u32) -> u32
 }
 
 // A list C, rounded, and how many pairs the walk that formed it visited.
-#[derive(Drop)]
+#[derive(Clone, Copy)]
 pub struct RoundedProduct {
     pub rounded: Rounded,
     pub visits: usize,
 }
 
 // A product, and how many pairs were visited for it.
-#[derive(Drop)]
+#[derive(Clone, Copy)]
 pub struct Multiplied {
     pub outcome: ModelOutcome,
     pub visits: usize,

@@ -9,7 +9,7 @@ use integer::rounding::near;
 
 // The rounded coefficients, which count only where their weight is within its limit, their weight, and what the rounding
 // and the dropped coefficients lose, in units of the list.
-#[derive(Drop)]
+#[derive(Clone, Copy)]
 pub struct Rounded {
     pub coefficients: [i32; COEFFICIENTS],
     pub weight: u64,

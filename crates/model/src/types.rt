@@ -12,13 +12,13 @@ pub const COEFFICIENTS: usize = 33;
 pub const PRODUCT_SIZE: usize = 65;
 
 // Two ends in units.
-#[derive(Drop)]
+#[derive(Clone, Copy)]
 pub struct Interval {
     pub lower: i32,
     pub upper: i32,
 }
 
-#[derive(Drop)]
+#[derive(Clone, Copy)]
 pub struct Model {
     pub degree: u32,
     pub coefficients: [i32; COEFFICIENTS],
@@ -27,14 +27,14 @@ pub struct Model {
 }
 
 // A proposed quotient, root or helper: a model without a radius, on its operand's interval.
-#[derive(Drop)]
+#[derive(Clone, Copy)]
 pub struct Candidate {
     pub degree: u32,
     pub coefficients: [i32; COEFFICIENTS],
 }
 
 // The numbered refusals of documents 01 and 02; `number_of` gives the number of each.
-#[derive(Drop)]
+#[derive(Clone, Copy)]
 pub enum Refusal {
     ShortArea,
     BadModel,
@@ -59,21 +59,21 @@ pub enum Refusal {
 }
 
 // How an operation ends.
-#[derive(Drop)]
+#[derive(Clone, Copy)]
 pub enum Verdict {
     Accepted,
     Refused(Refusal),
 }
 
 // A refused operation answers its refusal beside the zero model.
-#[derive(Drop)]
+#[derive(Clone, Copy)]
 pub struct ModelOutcome {
     pub verdict: Verdict,
     pub model: Model,
 }
 
 // A refused evaluation answers 0 and 0.
-#[derive(Drop)]
+#[derive(Clone, Copy)]
 pub struct BoundsOutcome {
     pub verdict: Verdict,
     pub low: i64,

@@ -8,21 +8,21 @@ ghost use Rattle.proposals.specs.definitions.Units.{zero_candidate as zero_candi
 use model::types::{COEFFICIENTS, Candidate, Refusal, Verdict};
 
 // The f64 coefficients and the largest change of a round.
-#[derive(Drop)]
+#[derive(Clone, Copy)]
 pub struct Round {
     pub coefficients: [f64; COEFFICIENTS],
     pub change: f64,
 }
 
 // How the rounds end, each with the last change.
-#[derive(Drop)]
+#[derive(Clone, Copy)]
 pub enum Ending {
     Settled(f64),
     GivenUp(f64),
 }
 
 // The outcome beside the record; `finite` is false where refusal 15 is due.
-#[derive(Drop)]
+#[derive(Clone, Copy)]
 pub(crate) struct Made {
     pub finite: bool,
     pub ending: Ending,
@@ -30,14 +30,14 @@ pub(crate) struct Made {
 }
 
 // A list in units; a refused one is zero.
-#[derive(Drop)]
+#[derive(Clone, Copy)]
 pub struct CandidateOutcome {
     pub verdict: Verdict,
     pub candidate: Candidate,
 }
 
 // A refused reciprocal is given up with change 0, and its lists are zero.
-#[derive(Drop)]
+#[derive(Clone, Copy)]
 pub struct ReciprocalOutcome {
     pub verdict: Verdict,
     pub ending: Ending,
@@ -46,14 +46,14 @@ pub struct ReciprocalOutcome {
 }
 
 // The record of a quotient: the f64 coefficients of f·w, and the round that keeps w.
-#[derive(Drop)]
+#[derive(Clone, Copy)]
 pub struct QuotientRecord {
     pub quotient: [f64; COEFFICIENTS],
     pub round: Round,
 }
 
 // A refused quotient likewise.
-#[derive(Drop)]
+#[derive(Clone, Copy)]
 pub struct QuotientOutcome {
     pub verdict: Verdict,
     pub ending: Ending,

@@ -2,14 +2,14 @@
 use model::types::{Refusal, Verdict};
 
 // The verdict and the radius; on refusal the radius is 0.
-#[derive(Drop)]
+#[derive(Clone, Copy)]
 pub(crate) struct ProposalOutcome {
     pub verdict: Verdict,
     pub radius: u32,
 }
 
 // Which proposal is chosen, with its radius; where neither passes, the refusal of the first.
-#[derive(Drop)]
+#[derive(Clone, Copy)]
 pub(crate) enum Selection {
     First(u32),
     Second(u32),

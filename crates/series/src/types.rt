@@ -1,7 +1,7 @@
 // A power series: its degree, and the coefficients of x^0 to x^32 in units of 1/S.
 use model::types::COEFFICIENTS;
 
-#[derive(Drop)]
+#[derive(Clone, Copy)]
 pub struct Series {
     pub degree: u32,
     pub coefficients: [i32; COEFFICIENTS],

@@ -1,0 +1,82 @@
+-- `pairs::multiply_add` : a sum below 2^62 and a product of two 32-bit numbers fit 64 bits.
+use Rattle.std.proofs.Common.{rules}
+use mathlib.Core.Path.{◌≡◌}
+use Prim.Native.Nat.{◌*◌, ◌≤◌, ◌<◌, ◌^◌}
+use native.Mathlib.Omega.{arith}
+use lib.IntN.{ℤ, nat_abs, ◌+ℤ◌, ◌*ℤ◌}
+use mir.Syntax.{w32, w64}
+use mir.Val.{SFits, to_z, of_z}
+use mir.Facts.{to_z-of_z}
+use Rattle.ring.specs.laws.Parts.{abs, apart, abs-add, mul_within}
+use Rattle.integer.proofs.laws.Machine.{signed_needs, within, abs-fits, fits_widens}
+use Rattle.groups.proofs.pairs.multiply_add.Goals as goal
+
+small : (z : ℤ) → SFits w32 z → nat_abs z ≤ 2 ^ 31
+small z f = omega (arith, abs z, apart z, within w32 z f)
+
+module _ {x y : ℤ} (fx : SFits w32 x) (fy : SFits w32 y) where
+  product_small : nat_abs (x *ℤ y) ≤ 2 ^ 31 * 2 ^ 31
+  product_small = mul_within (2 ^ 31) (2 ^ 31) x y (small x fx) (small y fy)
+
+  fits-product : SFits w64 (x *ℤ y)
+  fits-product = abs-fits w64 (x *ℤ y) (omega (arith, product_small))
+
+  fits_sum : (s : ℤ) → nat_abs s < 2 ^ 62 → SFits w64 (s +ℤ x *ℤ y)
+  fits_sum s h = abs-fits w64 (s +ℤ x *ℤ y) (omega (arith, product_small, abs-add s (x *ℤ y), h))
+
+-- as the machine forms them
+module _ (s x y : ℤ) (fs : SFits w64 s) (fx : SFits w32 x) (fy : SFits w32 y) (h : nat_abs s < 2 ^ 62) where
+  abbrev raw : ℤ
+  raw = to_z w64 (of_z w64 (to_z w32 (of_z w32 x))) *ℤ to_z w64 (of_z w64 (to_z w32 (of_z w32 y)))
+
+  raw-product : SFits w64 raw
+  raw-product = simp (to_z-of_z fx, to_z-of_z fy, to_z-of_z (fits_widens fx), to_z-of_z (fits_widens fy)) (fits-product fx fy)
+
+  raw-sum : SFits w64 (to_z w64 (of_z w64 s) +ℤ to_z w64 (of_z w64 raw))
+  raw-sum =
+      simp (to_z-of_z fs, to_z-of_z fx, to_z-of_z fy, to_z-of_z (fits_widens fx), to_z-of_z (fits_widens fy), to_z-of_z (fits-product fx fy)) (fits_sum fx fy s h)
+
+  sum_is : to_z w64 (of_z w64 (to_z w64 (of_z w64 s) +ℤ to_z w64 (of_z w64 raw))) ≡ s +ℤ x *ℤ y
+  sum_is =
+      simp
+      (to_z-of_z fs, to_z-of_z fx, to_z-of_z fy, to_z-of_z (fits_widens fx), to_z-of_z (fits_widens fy), to_z-of_z (fits-product fx fy), to_z-of_z (fits_sum fx fy s h))
+
+module _ (c : goal.Start) where
+  fits-first : SFits w64 c.args.sums.first
+  fits-first = search rules
+
+  fits-second : SFits w64 c.args.sums.second
+  fits-second = search rules
+
+pub overflow_add-result : goal.overflow_add-result
+overflow_add-result c = let s = c.before.before in raw-sum s.args.sums.first s.args.x s.args.y (fits-first s) s.ranges.x s.ranges.y s.requires.0
+
+pub overflow_add-result-2 : goal.overflow_add-result-2
+overflow_add-result-2 c =
+    let s = c.before.before.before.before in
+    raw-sum s.args.sums.second s.args.x s.args.z (fits-second s) s.ranges.x s.ranges.z s.requires.1
+
+pub returns : goal.returns
+returns c =
+    let s = c.before.before.before.before in (
+      sum_is s.args.sums.first s.args.x s.args.y (fits-first s) s.ranges.x s.ranges.y s.requires.0,
+      sum_is s.args.sums.second s.args.x s.args.z (fits-second s) s.ranges.x s.ranges.z s.requires.1,
+    )
+
+pub overflow_cast-result : goal.overflow_cast-result
+overflow_cast-result c = search signed_needs
+
+pub overflow_cast-result-2 : goal.overflow_cast-result-2
+overflow_cast-result-2 c = search signed_needs
+
+pub overflow_mul-result : goal.overflow_mul-result
+overflow_mul-result c = raw-product c.args.sums.first c.args.x c.args.y (fits-first c) c.ranges.x c.ranges.y c.requires.0
+
+pub overflow_cast-result-3 : goal.overflow_cast-result-3
+overflow_cast-result-3 c = search signed_needs
+
+pub overflow_cast-result-4 : goal.overflow_cast-result-4
+overflow_cast-result-4 c = search signed_needs
+
+pub overflow_mul-result-2 : goal.overflow_mul-result-2
+overflow_mul-result-2 c = let s = c.before.before in raw-product s.args.sums.second s.args.x s.args.z (fits-second s) s.ranges.x s.ranges.z s.requires.1

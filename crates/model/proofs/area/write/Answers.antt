@@ -1,0 +1,55 @@
+-- `area::write` meets its contract: the coefficients are copied into the part lent on, then the degree and the radius.
+use Rattle.std.proofs.Common.{rules}
+use borrow.Rule.Slice.PartMut.{put_mid, same_len_mid}
+use mathlib.Core.Path.{◌≡◌, ap, ◌∙◌}
+use mathlib.Core.List.{List, [], ◌∷◌, ◌++◌}
+use Prim.Native.Nat.{ℕ, zero, suc, ◌+◌}
+use native.Mathlib.Omega.{arith}
+use lib.IntN.{ℤ, pos}
+use lib.ListN.{length, set, drop, length-set, length-take, length-drop}
+use mir.Syntax.{w32}
+use mir.Val.{SFits}
+use mir.Facts.{to_z-of_z}
+use mir.ValLaws.{to_z_pos}
+use Rattle.model.specs.definitions.Models.{coefficient_count}
+use Rattle.model.proofs.area.write.Goals as goal
+use Rattle.model.proofs.area.write.Lts
+use Rattle.model.proofs.area.write.Reads
+use Rattle.model.proofs.area.write.Tie
+
+abbrev Start : Type 0
+Start = Lts.Start Tie.the-claims Reads.Pre Reads.Post
+
+set-behind : (a b : List ℤ) (n k : ℕ) (v : ℤ) → n ≡ length a + k → set (a ++ b) n v ≡ a ++ set b k v
+set-behind [] b n k v e = ap (λ (j : ℕ). set b j v) (omega arith)
+set-behind (c ∷ a) b zero k v e = absurd (omega arith)
+set-behind (c ∷ a) b (suc n) k v e = ap (λ (z : List ℤ). c ∷ z) (set-behind a b n k v (omega arith))
+
+-- n numbers written behind the first of n + 4 places, then a first one and three behind
+written : (o cs : List ℤ) (d r l u : ℤ) (n : ℕ) → length cs ≡ n → length o ≡ n + 4
+    → set (set (set (set (put_mid 1 n o cs) 0 d) (1 + n) r) (2 + n) l) (3 + n) u ≡ d ∷ (cs ++ (r ∷ l ∷ u ∷ []))
+written [] cs d r l u n hc ho = absurd (omega arith)
+written (x ∷ o) cs d r l u n hc ho = go (drop n o) (rw length-drop (omega arith))
+  where
+    go : (t : List ℤ) → length t ≡ 3 → set (set (set (d ∷ (cs ++ t)) (1 + n) r) (2 + n) l) (3 + n) u ≡ d ∷ (cs ++ (r ∷ l ∷ u ∷ []))
+    go (a ∷ b ∷ c ∷ []) h =
+        ap (λ (z : List ℤ). set (set z (2 + n) l) (3 + n) u) (set-behind (d ∷ cs) (a ∷ b ∷ c ∷ []) (1 + n) 0 r (omega arith))
+        ∙ ap (λ (z : List ℤ). set z (3 + n) u) (set-behind (d ∷ cs) (r ∷ b ∷ c ∷ []) (2 + n) 1 l (omega arith))
+        ∙ set-behind (d ∷ cs) (r ∷ l ∷ c ∷ []) (3 + n) 2 u (omega arith)
+    go [] h = absurd (omega arith)
+    go (a ∷ []) h = absurd (omega arith)
+    go (a ∷ b ∷ []) h = absurd (omega arith)
+    go (a ∷ b ∷ c ∷ e ∷ t) h = absurd (omega arith)
+
+long : (c : Start) → length c.args.m.coefficients ≡ coefficient_count
+long c = search rules
+
+pub returns : goal.returns
+returns c =
+    let b = c.before.before.before.before.before.before in
+    let s = b.before.before.before.before in
+    let a = s.args in
+    let lower : SFits w32 a.m.interval.lower = search rules in
+    let upper : SFits w32 a.m.interval.upper = search rules in
+    rw (b.copy.ensures, to_z_pos w32 a.m.degree (omega arith), to_z_pos w32 a.m.radius (omega arith), to_z-of_z lower, to_z-of_z upper)
+    (written a.area-1.now a.m.coefficients (pos a.m.degree) (pos a.m.radius) a.m.interval.lower a.m.interval.upper coefficient_count (long s) (omega arith))

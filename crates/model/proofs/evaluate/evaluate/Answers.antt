@@ -1,0 +1,166 @@
+-- `evaluate::evaluate` meets its contract: the tests are those of the definition, and V, W and the bounds fit 64 bits
+-- (EvaluationBounds.antt).
+use Rattle.std.proofs.Common.{rules}
+use mathlib.Core.Path.{◌≡◌, refl, sym, ◌∙◌, ap, ap₂}
+use mathlib.Core.Bool.{true, cond}
+use Prim.Native.Nat.{ℕ, ◌+◌, ◌*◌, ◌^◌}
+use native.Mathlib.Omega.{arith}
+use lib.IntN.{ℤ, pos, ◌+ℤ◌, ◌-ℤ◌, ◌*ℤ◌}
+use mir.Syntax.{w64}
+use mir.Val.{SFits}
+use mir.Facts.{to_z-of_z}
+use Rattle.integer.proofs.laws.Machine.{abs-fits}
+use Rattle.integer.specs.definitions.Rounding.{floor, up}
+use Rattle.model.specs.definitions.Intervals.{contains}
+use Rattle.model.specs.definitions.Models.{terms, good}
+use Rattle.model.specs.definitions.Outcomes.{accepted, passing}
+use Rattle.model.proofs.laws.ModelLaws.{good_ends_lem}
+use Rattle.model.specs.definitions.Evaluate.{mapped_point, maps_exactly, growth, point_sum, point_error, error_sum, evaluation}
+use Rattle.model.proofs.laws.EvaluationLaws.{evaluation_accepted, errors_are}
+use Rattle.model.specs.declared.types.Model.{Model}
+use Rattle.model.proofs.EvaluationBounds.{fits_mapped, evaluable, Sums, error_small, error_word, radius_word, fits_value, fits_fourfold, fits_below, fits_above, low, high}
+use Rattle.model.proofs.evaluate.evaluate.Goals as goal
+use Rattle.model.proofs.evaluate.evaluate.Lts
+use Rattle.model.proofs.evaluate.evaluate.Reads
+use Rattle.model.proofs.evaluate.evaluate.Tie
+
+abbrev After-contains : Type 0
+After-contains = Lts.After-contains Tie.the-claims Reads.Pre Reads.Post Tie.handed_clauses
+
+abbrev After-map_point-mapped : Type 0
+After-map_point-mapped = Lts.After-map_point Tie.the-claims Reads.Pre Reads.Post Tie.handed_clauses
+
+abbrev After-point_sums-sums : Type 0
+After-point_sums-sums = Lts.After-point_sums Tie.the-claims Reads.Pre Reads.Post Tie.handed_clauses
+
+abbrev Start : Type 0
+Start = Lts.Start Tie.the-claims Reads.Pre Reads.Post Tie.handed_clauses
+
+abbrev Then-contains : Type 0
+Then-contains = Lts.Then2 Tie.the-claims Reads.Pre Reads.Post Tie.handed_clauses
+
+abbrev Then-is_good : Type 0
+Then-is_good = Lts.Then1 Tie.the-claims Reads.Pre Reads.Post Tie.handed_clauses
+
+-- after the model's test
+module _ (c : Then-is_good) where
+  abbrev s : Start
+  s = c.before.before
+
+  abbrev a : Model
+  a = s.args.t1
+
+  abbrev p : ℤ
+  p = s.args.p
+
+  passed : good a ≡ true
+  passed = sym c.before.is_good.ensures ∙ c.if-is_good.true
+
+contains_is : (c : After-contains) → c.contains.result ≡ contains (a c.before.before).interval (p c.before.before)
+contains_is c = simp (to_z-of_z (s c.before.before).ranges.p) at c.contains.ensures
+
+-- after the point's test
+module _ (m : After-map_point-mapped) where
+  abbrev t : Then-contains
+  t = m.before.before
+
+  abbrev c : Then-is_good
+  c = t.before.before.before
+
+  inside : contains (a c).interval (p c) ≡ true
+  inside = sym (contains_is t.before) ∙ t.if-contains.true
+
+  abbrev q : ℤ
+  q = m.map_point-mapped.result.point
+
+  point_is : q ≡ mapped_point (a c).interval (p c)
+  point_is = simp (to_z-of_z (s c).ranges.p) at m.map_point-mapped.ensures.point_value
+
+  exact-is : m.map_point-mapped.result.exact ≡ maps_exactly (a c).interval (p c)
+  exact-is = simp (to_z-of_z (s c).ranges.p) at m.map_point-mapped.ensures.exact_value
+
+  fits-q : SFits w64 q
+  fits-q = fits_mapped (a c) (passed c) (p c) q inside point_is
+
+module _ (k : After-point_sums-sums) where
+  abbrev m : After-map_point-mapped
+  m = k.before.before.before.before
+
+  abbrev v : ℤ
+  v = k.point_sums-sums.result.value
+
+  summed : (w : ℕ) → w ≡ error_sum (a (c m)) (p (c m)) → Sums (a (c m)) (p (c m)) v w
+  summed w e = record {
+    passed = passed (c m);
+    inside = inside m;
+    value_is = (simp (to_z-of_z (fits-q m)) at k.point_sums-sums.ensures.value_value) ∙ ap (λ z. point_sum z 0 (terms (a (c m)))) (point_is m);
+    error_is = e;
+  }
+
+  abbrev w : ℕ
+  w = k.point_sums-sums.result.error
+
+  sums : Sums (a (c m)) (p (c m)) v w
+  sums = summed w (k.point_sums-sums.ensures.error_value ∙ errors_are m.map_point-mapped.result.exact (terms (a (c m))) ∙ ap (λ e. point_error 0 (terms (a (c m))) + growth e (terms (a (c m)))) (exact-is m))
+
+module _ (f : goal.After-floor) where
+  abbrev k₁ : After-point_sums-sums
+  k₁ = f.before.before.before.before
+
+  fits-floor : SFits w64 f.floor.result
+  fits-floor = record { sfits = f.floor.type_inv }
+
+  floor-is : f.floor.result ≡ floor (pos 4 *ℤ v k₁.before.before.before -ℤ pos (w k₁.before.before.before)) (2 ^ 32)
+  floor-is = let n = sums k₁.before.before.before in simp (to_z-of_z (fits_value n), to_z-of_z (fits_fourfold n), error_word n, to_z-of_z (fits_below n)) at f.floor.ensures
+
+module _ (u : goal.After-up) where
+  abbrev k₂ : After-point_sums-sums
+  k₂ = k₁ u.before
+
+  fits-up : SFits w64 u.up.result
+  fits-up = record { sfits = u.up.type_inv }
+
+  up_is : u.up.result ≡ up (pos 4 *ℤ v k₂.before.before.before +ℤ pos (w k₂.before.before.before)) (2 ^ 32)
+  up_is = let n = sums k₂.before.before.before in simp (to_z-of_z (fits_value n), to_z-of_z (fits_fourfold n), error_word n, to_z-of_z (fits_above n)) at u.up.ensures
+
+pub overflow_sub-low : goal.overflow_sub-low
+overflow_sub-low c = let n = sums (k₁ c.before.before.before.before.before.before.before) in simp (to_z-of_z (fits-floor c.before.before.before.before.before.before.before), radius_word n) (low n _ (floor-is c.before.before.before.before.before.before.before)).0
+
+pub overflow_add-high : goal.overflow_add-high
+overflow_add-high c = let n = sums (k₂ c.before.before.before.before.before.before.before.before) in simp (to_z-of_z (fits-up c.before.before.before.before.before.before.before.before), radius_word n) (high n _ (up_is c.before.before.before.before.before.before.before.before)).0
+
+pub returns-then-contains : goal.returns-then-contains
+returns-then-contains u =
+    let n = sums (k₂ u.before.before.before.before.before.before.before.before) in
+    let (Fits-low, low-is) = low n _ (floor-is u.before.before.before.before.before.before.before.before) in
+    let (fits-high, high_is) = high n _ (up_is u.before.before.before.before.before.before.before.before) in
+    let c = c (m (k₂ u.before.before.before.before.before.before.before.before)) in
+    simp (to_z-of_z (fits-floor u.before.before.before.before.before.before.before.before), to_z-of_z (fits-up u.before.before.before.before.before.before.before.before), radius_word n, to_z-of_z Fits-low, to_z-of_z fits-high, evaluation_accepted (a c) (p c) (passed c) n.inside)
+    (λ i. accepted (record { low = low-is i; high = high_is i }))
+
+pub returns-else-contains : goal.returns-else-contains
+unfolding evaluation passing
+returns-else-contains c = rw (passed c.before.before.before, sym (contains_is c.before) ∙ c.if-contains.false)
+
+pub returns-else-is_good : goal.returns-else-is_good
+unfolding evaluation passing
+returns-else-is_good c = rw (c.fault_of.ensures, sym c.before.before.is_good.ensures ∙ c.before.if-is_good.false)
+
+pub map_point-mapped-requires : goal.map_point-mapped-requires
+map_point-mapped-requires c = good_ends_lem (a c.before.before.before.before) (passed c.before.before.before.before)
+
+pub point_sums-sums-requires : goal.point_sums-sums-requires
+point_sums-sums-requires k = let m = k.before.before in
+    let x = c m in simp (to_z-of_z (fits-q m)) (evaluable (a x) (passed x) (p x) (q m) (inside m) (point_is m) (search rules))
+
+pub overflow_mul-value : goal.overflow_mul-value
+overflow_mul-value d = let n = summed d.before.before.before.before.before _ refl in simp (to_z-of_z (fits_value n)) (fits_fourfold n)
+
+pub overflow_cast-error : goal.overflow_cast-error
+overflow_cast-error c = abs-fits w64 _ (omega (arith, error_small (sums c.before.before.before.before.before.before)))
+
+pub overflow_sub-value : goal.overflow_sub-value
+overflow_sub-value c = let n = sums c.before.before.before.before.before.before in simp (to_z-of_z (fits_value n), to_z-of_z (fits_fourfold n), error_word n) (fits_below n)
+
+pub overflow_add-value : goal.overflow_add-value
+overflow_add-value c = let n = sums (k₁ c.before.before.before.before.before.before.before) in simp (to_z-of_z (fits_value n), to_z-of_z (fits_fourfold n), error_word n) (fits_above n)

@@ -1,0 +1,31 @@
+-- `measure::measure_parts` meets its contract. The loop's invariant in rest form: what is summed and what is left of the
+-- weight, of all coefficients and of those beyond the degree n, is the whole of it.
+use mathlib.Core.Path.{◌≡◌, refl, ap}
+use mathlib.Core.Logic.{⊎_elim}
+use mathlib.Core.List.{List}
+use Prim.Native.Nat.{ℕ, suc, ◌+◌, ◌-◌, ◌*◌, ◌^◌, ◌<◌, ◌≤◌, max}
+use native.Mathlib.Omega.{arith}
+use lib.Dec.{eqb}
+use lib.IntN.{ℤ, pos, nat_abs}
+use lib.ListN.{length, get_or, drop}
+use borrow.Author.Tests.{le-leb, lt-leb}
+use mir.Syntax.{w32}
+use mir.Val.{SFits}
+use mir.Facts.{to_z-of_z}
+use Rattle.ring.specs.laws.Parts.{abs}
+use Rattle.integer.proofs.laws.Machine.{signed_needs, within, fits_widens}
+use Rattle.chebyshev.specs.definitions.Coefficients.{weight}
+use Rattle.chebyshev.proofs.laws.Weight.{weight_step, weight_end}
+use Rattle.model.specs.definitions.Models.{parts_within_limits}
+use Rattle.model.proofs.measure.measure_parts.Given as goal
+
+-- what is left at i of the weight beyond n
+abbrev pub left-beyond : ℕ → ℕ → List ℤ → ℕ
+left-beyond n i cs = weight (drop (max i (suc n)) cs)
+
+abbrev pub invariant-loop-i : goal.invariant-loop-i
+invariant-loop-i l =
+    (l.i ≤ 33) × (l.total + weight (drop l.i l.coefficients) ≡ weight l.coefficients) × (l.beyond + left-beyond l.n l.i l.coefficients ≡ left-beyond l.n 0 l.coefficients) × (l.total ≤ l.i * 2 ^ 32) × (l.beyond ≤ l.total)
+
+abbrev pub decreases-loop-i : goal.decreases-loop-i
+decreases-loop-i l = 33 - l.i

@@ -1,0 +1,15 @@
+-- `Interval::is_good` meets its contract.
+use Rattle.std.proofs.Common.{rules}
+use mir.Syntax.{w32}
+use mir.Val.{SFits}
+use mir.Facts.{to_z-of_z}
+use Rattle.model.specs.definitions.Intervals.{good_ends}
+use Rattle.model.proofs.types.Interval.is_good.Goals as goal
+
+pub returns : goal.returns
+unfolding good_ends
+returns c =
+    let a = c.before.before.args in
+    let lower : SFits w32 a.i.lower = search rules in
+    let upper : SFits w32 a.i.upper = search rules in
+    simp (to_z-of_z lower, to_z-of_z upper)
