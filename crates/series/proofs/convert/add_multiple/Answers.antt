@@ -18,28 +18,27 @@ use Rattle.chebyshev.specs.definitions.Coefficients.{weight, scale_list}
 use Rattle.chebyshev.proofs.laws.CoefficientLaws.{get_d_add, get_d_scale}
 use Rattle.chebyshev.proofs.laws.Weight.{weight_at}
 use Rattle.series.proofs.MultipleWalk.{filled, Walked, start_at, turn_at, end_at}
-use Rattle.series.proofs.convert.add_multiple.Statement.{statement}
-use Rattle.series.proofs.convert.add_multiple.Tie as tie
+use Rattle.series.proofs.convert.add_multiple.Goals as goal
+use Rattle.series.proofs.convert.add_multiple.Lts
+use Rattle.series.proofs.convert.add_multiple.Reads
+use Rattle.series.proofs.convert.add_multiple.Tie
 
-abbrev invariant-loop : tie.invariant-loop
-invariant-loop sums₀ p row j₀ sums j = Walked sums₀ (to_z w64 p) row sums j
+abbrev At-loop-j : Type 0
+At-loop-j = Lts.At-loop Reads.Pre Reads.Post goal.the-invariant-loop-j goal.the-decreases-loop-j
 
-abbrev decreases-loop : tie.decreases-loop
-decreases-loop sums₀ p row j₀ sums j = length row - j
-
-loop-holds : tie.Need-loop-init invariant-loop decreases-loop
-loop-holds c = rw (to_z-of_z c.ranges.p) (start_at c.requires _ refl)
+pub loop-j-init : goal.loop-j-init
+loop-j-init c = rw (to_z-of_z c.ranges.p) (start_at c.requires _ refl)
 
 -- in a turn
-module _ (c : tie.After-sums2 invariant-loop decreases-loop) where
-  abbrev l : tie.At-loop invariant-loop decreases-loop
+module _ (c : goal.After-sums-in-loop-j-1) where
+  abbrev l : At-loop-j
   l = c.before.before.before
 
-  abbrev start : tie.Start invariant-loop decreases-loop
+  abbrev start : goal.Start
   start = l.before
 
   abbrev j : ℕ
-  j = l.loop.j
+  j = l.loop-j.j
 
   abbrev sums : List ℤ
   sums = start.args.sums.now
@@ -51,7 +50,7 @@ module _ (c : tie.After-sums2 invariant-loop decreases-loop) where
   p = start.args.p
 
   abbrev x : ℤ
-  x = get_or l.loop.sums j (pos 0)
+  x = get_or l.loop-j.sums j (pos 0)
 
   abbrev y : ℤ
   y = get_or row j (pos 0)
@@ -60,10 +59,10 @@ module _ (c : tie.After-sums2 invariant-loop decreases-loop) where
   v = x +ℤ p *ℤ y
 
   same-p : to_z w64 (of_z w64 p) ≡ p
-  same-p = to_z-of_z start.fits.p
+  same-p = to_z-of_z start.ranges.p
 
-  inv : Walked sums p row l.loop.sums j
-  inv = rw same-p at l.loop.inv
+  inv : Walked sums p row l.loop-j.sums j
+  inv = rw same-p at l.loop-j.invariant
 
   -- the place is as it was
   x_is : x ≡ get_or sums j (pos 0)
@@ -81,32 +80,27 @@ module _ (c : tie.After-sums2 invariant-loop decreases-loop) where
       part = mul-le-mul (omega arith) (weight_at row j)
 
   fits-x : SFits w64 x
-  fits-x = record { sfits = c.before.sums.given }
+  fits-x = record { sfits = c.before.sums-1.given }
 
   fits-y : SFits w64 y
-  fits-y = record { sfits = c.sums2.given }
+  fits-y = record { sfits = c.sums-in-loop-j-1.given }
 
   fits-py : SFits w64 (p *ℤ y)
-  fits-py = abs-fits w64 (p *ℤ y) (omega (arith, product-size, start.pre.light))
+  fits-py = abs-fits w64 (p *ℤ y) (omega (arith, product-size, start.requires.light))
 
   fits-v : SFits w64 v
-  fits-v = abs-fits w64 v (omega (arith, abs-add x (p *ℤ y), ap nat_abs x_is, weight_at sums j, product-size, start.pre.light))
+  fits-v = abs-fits w64 v (omega (arith, abs-add x (p *ℤ y), ap nat_abs x_is, weight_at sums j, product-size, start.requires.light))
 
-add-sums : tie.Need-overflow-add-sums invariant-loop decreases-loop
-add-sums c = simp (same-p c, to_z-of_z (fits-x c), to_z-of_z (fits-y c), to_z-of_z (fits-py c)) (fits-v c)
+pub overflow_add-sums : goal.overflow_add-sums
+overflow_add-sums c = simp (same-p c, to_z-of_z (fits-x c), to_z-of_z (fits-y c), to_z-of_z (fits-py c)) (fits-v c)
 
-loop-again : tie.Need-loop-preserved invariant-loop decreases-loop
-loop-again c =
+pub loop-j-preserved : goal.loop-j-preserved
+loop-j-preserved c =
     simp (same-p c, to_z-of_z (fits-x c), to_z-of_z (fits-y c), to_z-of_z (fits-py c), to_z-of_z (fits-v c))
     (turn_at (v c) (start c).requires (inv c) (omega arith) (v-is c))
 
-returns : tie.Need-returns invariant-loop decreases-loop
-returns c = let s = c.before.before in end_at s.requires (rw (to_z-of_z s.ranges.p) at c.before.loop.invariant) (omega arith)
+pub returns : goal.returns
+returns c = let s = c.before.before in end_at s.requires (rw (to_z-of_z s.ranges.p) at c.before.loop-j.invariant) (omega arith)
 
-pub add-multiple-spec : {M : Type 1} → statement M
-add-multiple-spec =
-    tie.close (tie.spec
-    invariant-loop decreases-loop (λ c. omega arith) loop-holds (λ c. search signed_needs) (λ c. search signed_needs) (λ c. search signed_needs)
-    (λ c. search signed_needs) (λ c. simp (same-p c, to_z-of_z (fits-y c)) (fits-py c)) add-sums (λ c. search signed_needs)
-    (λ c. search signed_needs) (λ c. search signed_needs) (λ c. omega arith) loop-again (λ c. c.before.loop.invariant.done.same)
-    returns)
+pub overflow_mul-sums : goal.overflow_mul-sums
+overflow_mul-sums c = simp (same-p c, to_z-of_z (fits-y c)) (fits-py c)

@@ -2,12 +2,8 @@
 use Rattle.chebyshev.specs.definitions.Coefficients.{add_lists, scale_list}
 use Rattle.chebyshev.specs.definitions.Neighbours.{neighbour_sums}
 use Rattle.series.proofs.TableTest.{table_is}
-use Rattle.series.proofs.table.expansion_table.Statement.{statement}
-use Rattle.series.proofs.table.expansion_table.Tie as tie
+use Rattle.series.proofs.table.expansion_table.Goals as goal
 
-returns : tie.Need-returns
+pub returns : goal.returns
 unfolding neighbour_sums add_lists scale_list
 returns c = table_is _ tt
-
-pub expansion-table-spec : {M : Type 1} → statement M
-expansion-table-spec = tie.close (tie.spec returns)

@@ -19,14 +19,17 @@ use Rattle.series.specs.definitions.Convert.{expanded_from}
 use Rattle.series.specs.definitions.InnerContracts.{Expandable}
 use Rattle.series.proofs.laws.RowLaws.{length_row, row_alternate}
 use Rattle.series.proofs.laws.ConversionLaws.{row_in_table, length_table, expanded_step, expanded_end, multiple_weight}
-use Rattle.series.proofs.convert.add_expanded.Statement.{statement}
-use Rattle.series.proofs.convert.add_expanded.Tie as tie
+use Rattle.series.proofs.convert.add_expanded.Invariants.{Walked}
+use Rattle.series.proofs.convert.add_expanded.Goals as goal
+use Rattle.series.proofs.convert.add_expanded.Lts
+use Rattle.series.proofs.convert.add_expanded.Reads
+use Rattle.series.proofs.convert.add_expanded.Tie
 
-record Walked (sums₀ ps sums : List ℤ) (k : ℕ) : Type 0 where
-  within : k ≤ length ps
-  size : length sums ≡ length sums₀
-  rest : add_lists ℤ_ring sums (expanded_from k (drop k ps)) ≡ add_lists ℤ_ring sums₀ (expanded_from 0 ps)
-  bound : weight sums + expansion_unit * weight (drop k ps) ≤ weight sums₀ + expansion_unit * weight ps
+abbrev At-loop-k : Type 0
+At-loop-k = Lts.At-loop Tie.the-claims Reads.Pre Reads.Post goal.the-invariant-loop-k goal.the-decreases-loop-k
+
+abbrev Start : Type 0
+Start = Lts.Start Tie.the-claims Reads.Pre Reads.Post goal.the-invariant-loop-k goal.the-decreases-loop-k
 
 walk : {sums₀ ps sums table : List ℤ} {k : ℕ} → Expandable sums₀ ps table → Walked sums₀ ps sums k → k < length ps
     → Walked sums₀ ps (add_lists ℤ_ring sums (scale_list ℤ_ring (get_or ps k (pos 0)) (expansion_row k))) (k + 1)
@@ -42,16 +45,7 @@ walk {sums₀} {ps} {sums} {table} {k} e w h =
           omega (arith, w.bound, weight-add sums m, multiple_weight k (get_or ps k (pos 0)) (omega (arith, e.few)), weight_step ps k h);
     }
 
-abbrev invariant-loop : tie.invariant-loop
-invariant-loop sums₀ terms table k₀ sums k = Walked sums₀ terms sums k
-
-abbrev decreases-loop : tie.decreases-loop
-decreases-loop sums₀ terms table k₀ sums k = length terms - k
-
-loop-holds : tie.Need-loop-init invariant-loop decreases-loop
-loop-holds c = record { within = omega arith; size = refl; rest = refl; bound = omega arith }
-
-table-length : (s : tie.Start invariant-loop decreases-loop) → length s.args.table.now ≡ 33 * 33
+table-length : (s : Start) → length s.args.table.now ≡ 33 * 33
 table-length s = ap length s.requires.table_is ∙ length_table
 
 -- the part of the table that is lent in turn k
@@ -62,9 +56,9 @@ lent k e h =
     rw (n, e.table_is) (row_in_table k (omega (arith, e.few)))
 
 -- at the loop's head
-module _ (l : tie.At-loop invariant-loop decreases-loop) where
+module _ (l : At-loop-k) where
   abbrev k : ℕ
-  k = l.loop.k
+  k = l.loop-k.k
 
   abbrev ps : List ℤ
   ps = l.before.args.terms.now
@@ -73,44 +67,38 @@ module _ (l : tie.At-loop invariant-loop decreases-loop) where
   p = get_or ps k (pos 0)
 
 -- in a turn
-module _ (c : tie.After-add-multiple-arg3 invariant-loop decreases-loop) where
-  abbrev head : tie.At-loop invariant-loop decreases-loop
+module _ (c : goal.After-add_multiple-arg-in-loop-k-2-1) where
+  abbrev head : At-loop-k
   head = c.before.before.before.before
 
   fits-p : SFits w32 (p head)
-  fits-p = record { sfits = c.before.add-multiple-arg2.given }
+  fits-p = record { sfits = c.before.add_multiple-arg-in-loop-k-1.given }
 
-add-multiple-requires : tie.Need-add-multiple-requires invariant-loop decreases-loop
-add-multiple-requires c κs =
+pub add_multiple-requires : goal.add_multiple-requires
+add_multiple-requires c =
     let l = head c in
-    let b : k l ≤ max_degree = omega (arith, l.before.pre.few) in
-    rw (lent (k l) l.before.pre (omega arith))
+    let b : k l ≤ max_degree = omega (arith, l.before.requires.few) in
+    rw (lent (k l) l.before.requires (omega arith))
     (simp (to_z-of_z (fits-p c), to_z-of_z (fits_widens (fits-p c))) (record {
-      room = omega (arith, length_row (k l), l.loop.inv, l.before.pre);
+      room = omega (arith, length_row (k l), l.loop-k.invariant, l.before.requires);
       light =
-          omega (arith, l.loop.inv, l.before.pre, weight-scale (p l) (expansion_row (k l)), multiple_weight (k l) (p l) b, weight_step (ps l) (k l) (omega arith));
+          omega (arith, l.loop-k.invariant, l.before.requires, weight-scale (p l) (expansion_row (k l)), multiple_weight (k l) (p l) b, weight_step (ps l) (k l) (omega arith));
       alternate = λ i m e. row_alternate (k l) i m b (e ∙ length_row (k l));
     }))
 
-loop-again : tie.Need-loop-preserved invariant-loop decreases-loop
-loop-again c =
+pub loop-k-preserved : goal.loop-k-preserved
+loop-k-preserved c =
     let d = c.before.before in
     let l = head d in
-    let e = rw (lent (k l) l.before.pre (omega arith)) at (simp (to_z-of_z (fits-p d), to_z-of_z (fits_widens (fits-p d))) at c.before.add-multiple.ensures) in
-    rw e (walk l.before.pre l.loop.inv (omega arith))
+    let e = rw (lent (k l) l.before.requires (omega arith)) at (simp (to_z-of_z (fits-p d), to_z-of_z (fits_widens (fits-p d))) at c.before.add_multiple.ensures) in
+    rw e (walk l.before.requires l.loop-k.invariant (omega arith))
 
-returns : tie.Need-returns invariant-loop decreases-loop
+pub returns : goal.returns
 returns c =
     let l = c.before in
-    sym (add-nil ℤ_ring l.loop.sums)
-    ∙ ap (add_lists ℤ_ring l.loop.sums) (sym (expanded_end l.before.args.terms.now l.loop.k (omega arith)))
-    ∙ l.loop.invariant.rest
+    sym (add-nil ℤ_ring l.loop-k.sums)
+    ∙ ap (add_lists ℤ_ring l.loop-k.sums) (sym (expanded_end l.before.args.terms.now l.loop-k.k (omega arith)))
+    ∙ l.loop-k.invariant.rest
 
-pub add-expanded-spec : {M : Type 1} → statement M
-add-expanded-spec =
-    tie.close (tie.spec
-    invariant-loop decreases-loop loop-holds (λ c. search signed_needs) (λ c. search signed_needs) (λ c. search signed_needs)
-    (λ c. search signed_needs) (λ c. search signed_needs) (λ c. search signed_needs) (λ c. search signed_needs)
-    (λ c. search signed_needs) (λ c. omega (arith, table-length c.before.before.before.before, c.before.before.before.before.requires.few))
-    (λ c. omega (arith, table-length c.before.before.before.before, c.before.before.before.before.requires.few)) add-multiple-requires (λ c. search signed_needs)
-    (λ c. omega arith) loop-again (λ c. c.before.loop.invariant.size) returns)
+pub slice_bounds-add_multiple-end : goal.slice_bounds-add_multiple-end
+slice_bounds-add_multiple-end c = omega (arith, table-length c.before.before.before.before, c.before.before.before.before.requires.few)
