@@ -28,5 +28,4 @@ returns c =
     let d = c.before.before in
     let x = d.terms.ensures in
     let y = d.terms-2.ensures in
-    let s = d.before.before.before.before.before.before.before.before.before in
-    c.up_unsigned.ensures ∙ ap (λ (n : ℕ). upℕ n (2 ^ 20)) (of_constant s.requires x y (2 ^ 19) (omega arith) d.residual-distance.ensures).0
+    c.up_unsigned.ensures ∙ ap (λ (n : ℕ). upℕ n (2 ^ 20)) (of_constant c.requires x y (2 ^ 19) (omega arith) d.residual-distance.ensures).0

@@ -24,7 +24,7 @@ of_f : (s : Start) → Good s.args.f
 of_f s = good_is s.args.f s.requires.1
 
 of-h : (s : Start) → Good (standard_candidate s.args.h)
-of-h s = good_is (standard_candidate s.args.h) s.requires.0.first_Good
+of-h s = good_is (standard_candidate s.args.h) s.requires.0.first_good
 
 pub residual-distance-requires : goal.residual-distance-requires
 residual-distance-requires c =

@@ -10,19 +10,24 @@ use Rattle.certificate.proofs.laws.PromiseLaws.{test_promised, quotient_allowed}
 use Rattle.certificate.proofs.quotient.quotient.Goals as goal
 
 pub returns-then-scratch-lt-SCRATCH_SIZE : goal.returns-then-scratch-lt-SCRATCH_SIZE
-returns-then-scratch-lt-SCRATCH_SIZE c = let it = let a = c.args in
+returns-then-scratch-lt-SCRATCH_SIZE c =
+    let a = c.args in
     let n = length a.scratch.now in
     let e = c.refused.ensures ∙ sym (quotient_short n a.f a.g a.h a.w (omega arith)) in
-    (e, (sym (scratch_short a.scratch.now (omega arith)), test_promised (QuotientAllowed a.f a.g) c.refused.result e (λ _ p. quotient_allowed n a.f a.g a.h a.w p))) in record { result_value = it.0; scratch_after = it.1; quotient_allowed = it.2; }
+    record {
+      result_value = e;
+      scratch_after = sym (scratch_short a.scratch.now (omega arith));
+      quotient_allowed = test_promised (QuotientAllowed a.f a.g) c.refused.result e (λ _ p. quotient_allowed n a.f a.g a.h a.w p);
+    }
+
 pub returns : goal.returns
-returns c = let it = let d = c.before.before.before.before in
-    let a = d.args in
-    let z = d.test_in-outcome in
+returns c =
+    let a = c.args in
+    let z = c.test_in-outcome in
     let n = length a.scratch.now in
-    let e = z.ensures ∙ sym (quotient_room n a.f a.g a.h a.w (omega arith)) in (
-      e,
-      (
-        c.clear_scratch.ensures ∙ scratch_again a.scratch.now z.new.0 (omega arith) (z.auto.0 ∙ scratch_first a.scratch.now (omega arith)),
-        test_promised (QuotientAllowed a.f a.g) z.result e (λ _ p. quotient_allowed n a.f a.g a.h a.w p),
-      ),
-    ) in record { result_value = it.0; scratch_after = it.1; quotient_allowed = it.2; }
+    let e = z.ensures ∙ sym (quotient_room n a.f a.g a.h a.w (omega arith)) in
+    record {
+      result_value = e;
+      scratch_after = c.clear_scratch.ensures ∙ scratch_again a.scratch.now z.new.part (omega arith) (z.auto.part ∙ scratch_first a.scratch.now (omega arith));
+      quotient_allowed = test_promised (QuotientAllowed a.f a.g) z.result e (λ _ p. quotient_allowed n a.f a.g a.h a.w p);
+    }

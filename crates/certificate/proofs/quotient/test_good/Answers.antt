@@ -76,6 +76,7 @@ returns-else-m-lt-SCALE c =
 pub quotient_residual-n-requires : goal.quotient_residual-n-requires
 quotient_residual-n-requires c = let p = c.before.before in
     let s = p.before.before.before in
-    let r = s.requires.quotient_ready in record { ready = (record { room = search rules; first_good = r.good_g; second_good = standard_good s.args.f.interval s.args.h r.good_h }, r.good_f); weight_value = s.requires.h_weight_value.0; }
+    let r = s.requires.quotient_ready in record { ready = (record { room = search rules; first_good = r.good_g; second_good = standard_good s.args.f.interval s.args.h r.good_h }, r.good_f); weight_value = s.requires.h_weight_value.0 }
+
 pub displacement-b-requires : goal.displacement-b-requires
 displacement-b-requires c = (w_fits c.before.before.before.before.before.before.before.before, search rules)

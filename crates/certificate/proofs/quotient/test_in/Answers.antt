@@ -120,11 +120,14 @@ pub test_good-requires : goal.test_good-requires
 test_good-requires c = let o = c.before in
     let b = o.before.before in
     let x = e (d (k b.before.before)) in
-    let n = o.is_same in record { quotient_ready = record {
+    let n = o.is_same in record {
+      quotient_ready = record {
         room = (s x).requires;
         good_f = good_f x;
         good_g = good_g (d (k b.before.before));
         good_h = good_h (k b.before.before);
         good_w = good_w b.before.before;
         same_interval_lem = sym n.ensures ∙ not-false n.result o.if-not-is_same.false-raw;
-      }; h_weight_value = ((k b.before.before).measure_candidate-of_h.ensures.1, b.measure_candidate-of_w.ensures.1); }
+      };
+      h_weight_value = ((k b.before.before).measure_candidate-of_h.ensures.1, b.measure_candidate-of_w.ensures.1);
+    }

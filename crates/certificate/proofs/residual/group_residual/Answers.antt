@@ -75,13 +75,13 @@ module _ (c : goal.After-window) where
 
 pub weight-requires : goal.weight-requires
 weight-requires c =
-    let d = c.before.before in omega (arith, ap weight d.subtract.ensures, weight_residual (G d) (own d), weights d)
+    let d = c.before.before in omega (arith, ap weight c.subtract.ensures, weight_residual (G d) (own d), weights d)
 
 pub returns : goal.returns
 returns c =
     let d = c.before.before.before in
     let w = d in
-    c.weight.ensures ∙ ap weight (d.subtract.ensures ∙ ap₂ residual_list (G-is w) (own_is w))
+    c.weight.ensures ∙ ap weight (c.subtract.ensures ∙ ap₂ residual_list (G-is w) (own_is w))
 
 pub subtract-requires : goal.subtract-requires
 subtract-requires c = (own-short c, weights c)

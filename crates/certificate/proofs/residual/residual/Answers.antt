@@ -68,7 +68,7 @@ loop-start-preserved c =
     let r = c.group_residual-sum in
     let p = (l c).loop-start.part in
     let e = first_part c.before.before in
-    (omega (arith, length-append r.new.0 (drop (n c) p), length-drop (n c) p, r.auto.0, e, length-take (n c) p, (l c).loop-start.invariant.0), turn c)
+    (omega (arith, length-append r.new.part (drop (n c) p), length-drop (n c) p, r.auto.part, e, length-take (n c) p, (l c).loop-start.invariant.0), turn c)
 
 pub returns : goal.returns
 returns c =

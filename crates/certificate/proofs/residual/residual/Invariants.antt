@@ -24,7 +24,5 @@ abbrev pub invariant-loop-start : goal.invariant-loop-start
 invariant-loop-start l =
     (length l.part ≡ length l.initial.part) × (l.sum + weight (residual_list (drop l.start (C l.a l.b)) (drop l.start l.f)) ≡ weight (residual_list (C l.a l.b) l.f))
 
-
 abbrev pub decreases-loop-start : goal.decreases-loop-start
 decreases-loop-start l = l.end - l.start
-

@@ -43,8 +43,8 @@ positive c = sym (sign-is c.before) ∙ c.if-total-le0.false
 
 -- m and N, which do not ask for the interval
 m-is : (c : After-root_contraction-m) → let a = c.args in
-    c.root_contraction-m.result ≡ root_contraction (placed a.f a.h) (placed a.f a.t4)
-m-is c = let a = c.args in c.root_contraction-m.ensures ∙ root_contraction_standard a.f.interval a.h a.t4
+    c.root_contraction-m.result ≡ root_contraction (placed a.f a.h) (placed a.f a.w)
+m-is c = let a = c.args in c.root_contraction-m.ensures ∙ root_contraction_standard a.f.interval a.h a.w
 
 n-is : (c : After-root_residual-n) → let a = c.args in
     c.root_residual-n.result ≡ root_residual a.f (placed a.f a.h)
@@ -76,26 +76,21 @@ displacement-b-requires c =
 pub returns-then-n-le-MAX_RADIUS : goal.returns-then-n-le-MAX_RADIUS
 returns-then-n-le-MAX_RADIUS c =
     let of-n = c.before.before.before in
-    let contracting = c.if-m-lt-SCALE.true in
-    let at-m = c.before.before.before.before.before.before.before in
-    let of-m = at-m in
-    let q = at-m.before.before in
-    let s = q.before.before.before.before in
-    sym (numbers_reached s.requires.0 (positive q) of-m.root_contraction-m.result (m-is of-m) contracting of-n.root_residual-n.result (n-is of-n) (omega arith)
+    let of-m = of-n.before.before.before.before in
+    let q = of-m.before.before in
+    let s = c in
+    sym (numbers_reached s.requires.0 (positive q) of-m.root_contraction-m.result (m-is of-m) c.if-m-lt-SCALE.true of-n.root_residual-n.result (n-is of-n) (omega arith)
     s.args.weight c.displacement-b.result s.requires.1 c.displacement-b.ensures)
 
 pub returns-else-n-le-MAX_RADIUS : goal.returns-else-n-le-MAX_RADIUS
 returns-else-n-le-MAX_RADIUS c =
     let of-n = c.before.before in
-    let at-m = c.before.before.before.before.before.before in
-    let of-m = at-m in
-    let q = at-m.before.before in
-    let s = q.before.before.before.before in
-    sym (numbers_large_residual s.requires.0 (positive q) of-m.root_contraction-m.result (m-is of-m) (omega arith) of-n.root_residual-n.result (n-is of-n) (omega arith))
+    let of-m = of-n.before.before.before.before in
+    let q = of-m.before.before in
+    sym (numbers_large_residual c.requires.0 (positive q) of-m.root_contraction-m.result (m-is of-m) (omega arith) of-n.root_residual-n.result (n-is of-n) (omega arith))
 
 pub returns-else-m-lt-SCALE : goal.returns-else-m-lt-SCALE
 returns-else-m-lt-SCALE c =
     let of-m = c.before.before in
-    let q = c.before.before.before.before in
-    let s = q.before.before.before.before in
-    sym (numbers_not_contracting s.requires.0 (positive q) of-m.root_contraction-m.result (m-is of-m) (omega arith))
+    let q = of-m.before.before in
+    sym (numbers_not_contracting c.requires.0 (positive q) of-m.root_contraction-m.result (m-is of-m) (omega arith))

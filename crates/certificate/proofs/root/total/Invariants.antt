@@ -19,7 +19,5 @@ use Rattle.certificate.proofs.root.total.Given as goal
 abbrev pub invariant-loop-k : goal.invariant-loop-k
 invariant-loop-k l = (l.k ≤ 33) × (l.sum +ℤ coefficient_sum (drop l.k l.coefficients) ≡ coefficient_sum l.coefficients) × (nat_abs l.sum ≤ l.k * 2 ^ 31)
 
-
 abbrev pub decreases-loop-k : goal.decreases-loop-k
 decreases-loop-k l = 33 - l.k
-

@@ -10,7 +10,5 @@ use Rattle.certificate.proofs.scratch.clear.Given as goal
 abbrev pub invariant-loop-i : goal.invariant-loop-i
 invariant-loop-i l = Clearing (length l.initial.part) l.initial.part l.part l.i
 
-
 abbrev pub decreases-loop-i : goal.decreases-loop-i
 decreases-loop-i l = length l.initial.part - l.i
-
