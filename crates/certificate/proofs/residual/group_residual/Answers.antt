@@ -1,5 +1,5 @@
 -- `residual::group_residual` meets its contract.
-use borrow.Author.Rules.{rules}
+use Rattle.std.proofs.Common.{rules}
 use mathlib.Core.Path.{◌≡◌, sym, ◌∙◌, ap, ap₂}
 use mathlib.Core.List.{List}
 use Prim.Native.Nat.{ℕ, ◌+◌, ◌*◌, ◌-◌, ◌^◌, ◌≤◌, ◌<◌, min}
@@ -17,14 +17,19 @@ use Rattle.model.specs.definitions.Models.{scale, product_size}
 use Rattle.certificate.specs.definitions.Groups.{group}
 use Rattle.certificate.specs.definitions.InnerContracts.{residual_list}
 use Rattle.certificate.proofs.laws.ResidualLaws.{weight_residual}
-use Rattle.certificate.proofs.residual.group_residual.Statement.{statement}
-use Rattle.certificate.proofs.residual.group_residual.Tie as tie
+use Rattle.certificate.proofs.residual.group_residual.Goals as goal
+use Rattle.certificate.proofs.residual.group_residual.Lts
+use Rattle.certificate.proofs.residual.group_residual.Reads
+use Rattle.certificate.proofs.residual.group_residual.Tie
+
+abbrev Start : Type 0
+Start = Lts.Start Tie.the-claims Reads.Pre Reads.Post
 
 weight-group : (n start : ℕ) (l : List ℤ) → weight (group n start l) ≤ weight l
 weight-group n start l = omega (arith, weight-take n (drop start l), weight-drop start l)
 
-module _ (c : tie.After-window) where
-  abbrev s : tie.Start
+module _ (c : goal.After-window) where
+  abbrev s : Start
   s = c.before.before.before.before.before
 
   abbrev n : ℕ
@@ -32,7 +37,7 @@ module _ (c : tie.After-window) where
 
   -- the group of C
   abbrev G : List ℤ
-  G = c.before.before.before.form.new.0
+  G = c.form.new.part
 
   -- and what is subtracted from it
   abbrev own : List ℤ
@@ -40,13 +45,13 @@ module _ (c : tie.After-window) where
 
   G-is : G ≡ group n s.args.start (product ℤ_ring product_size s.args.a.now s.args.b.now)
   G-is =
-      let e : min n (product_size - s.args.start) ≡ n = omega (arith, s.pre.2) in
-      c.before.before.before.form.ensures
+      let e : min n (product_size - s.args.start) ≡ n = omega (arith, s.requires.2) in
+      c.form.ensures
       ∙ sym (product-group ℤ_ring product_size n s.args.start s.args.a.now s.args.b.now
       ∙ ap (λ (m : ℕ). places_from ℤ_ring m s.args.start s.args.a.now s.args.b.now) e)
 
   length-G : length G ≡ n
-  length-G = c.before.before.before.form.auto.0
+  length-G = c.form.auto.part
 
   own_is : own ≡ group n s.args.start s.args.f.now
   own_is = c.window.ensures ∙ ap (λ (m : ℕ). group m s.args.start s.args.f.now) length-G
@@ -62,23 +67,21 @@ module _ (c : tie.After-window) where
         ap weight G-is,
         weight-group n s.args.start p,
         weight-product product_size s.args.a.now s.args.b.now,
-        s.pre.0.weights,
+        s.requires.0.weights,
         ap weight own_is,
         weight-group n s.args.start s.args.f.now,
-        s.pre.1.weight-fits,
+        s.requires.1.weight-fits,
       )
 
-weight-requires : tie.Need-weight-requires
-weight-requires c κs =
-    let d = c.before.before in omega (arith, ap weight d.subtract.ensures, weight_residual (G d.before) (own d.before), weights d.before)
+pub weight-requires : goal.weight-requires
+weight-requires c =
+    let d = c.before.before in omega (arith, ap weight d.subtract.ensures, weight_residual (G d) (own d), weights d)
 
-returns : tie.Need-returns
+pub returns : goal.returns
 returns c =
     let d = c.before.before.before in
-    let w = d.before in
+    let w = d in
     c.weight.ensures ∙ ap weight (d.subtract.ensures ∙ ap₂ residual_list (G-is w) (own_is w))
 
-pub group-residual-spec : {M : Type 1} → statement M
-group-residual-spec =
-    tie.close (tie.spec
-    (λ c κs. let p = c.before.requires in (p.0.second_some, p.0.weights, omega (arith, p.2))) (λ c κs. search rules) (λ c κs. (own-short c, weights c)) weight-requires (λ c. search rules) returns)
+pub subtract-requires : goal.subtract-requires
+subtract-requires c = (own-short c, weights c)
