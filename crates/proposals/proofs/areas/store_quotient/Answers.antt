@@ -42,7 +42,7 @@ returns c =
     let a = t.args in
     let e : length a.made.quotient ≡ 33 = search rules in
     let n = round_numbers a.made.round in
-    written a.recorded.now p.copy_values.new.to.0 n s.store_round.new.recorded (ap length p.copy_values.ensures ∙ e) t.if-recorded-lt-QUOTIENT_SIZE.false s.store_round.ensures
+    written a.recorded.now p.copy_values.new.to n s.store_round.new.recorded (ap length p.copy_values.ensures ∙ e) t.if-recorded-lt-QUOTIENT_SIZE.false s.store_round.ensures
     ∙ ap (λ (q : List Float). (q ++ n) ++ drop quotient_size a.recorded.now) p.copy_values.ensures
     ∙ filled quotient_size (quotient_numbers a.made) a.recorded.now t.if-recorded-lt-QUOTIENT_SIZE.false
 

@@ -10,34 +10,24 @@ use Rattle.chebyshev.proofs.laws.ProductLaws.{add_at_by_set}
 use Rattle.proposals.proofs.Tests.{both_below, not_both}
 use Rattle.chebyshev.proofs.laws.PassLaws.{from_step, from_end, from_beyond}
 use Rattle.proposals.proofs.product.add_multiple.Goals as goal
-use Rattle.proposals.proofs.product.add_multiple.Lts
-use Rattle.proposals.proofs.product.add_multiple.Reads
-use Rattle.proposals.proofs.product.add_multiple.Tie
-
-abbrev In-loop-k : Type 0
-In-loop-k = Lts.In-loop Reads.Pre Reads.Post goal.the-invariant-loop-k goal.the-decreases-loop-k
-
--- in a turn place k is in both
-inside : (t : In-loop-k) → (t.loop-k.k < length t.loop-k.c) × (t.loop-k.k < length t.args.b.now)
-inside t = both_below t.loop-k.k (length t.loop-k.c) (length t.args.b.now) t.loop-k-test.true
 
 pub loop-k-preserved : goal.loop-k-preserved
 loop-k-preserved c =
-    let t = c.before.before in
-    let l = t.before in
+    let l = c in
     let x = l.args.x in
     let b = l.args.b.now in
     let k = l.loop-k.k in
+    let inside = both_below k (length l.loop-k.c) (length b) c.loop-k-test.true in
     let v = mul binary64 x (get_or b k nan) in (
       length-set l.loop-k.c k (add binary64 (get_or l.loop-k.c k nan) v) ∙ l.loop-k.invariant.0,
       ap (λ d. add_from_by (add binary64) (mul binary64) d x (k + 1) (drop (k + 1) b)) (sym (add_at_by_set (add binary64) l.loop-k.c k v nan))
-          ∙ sym (from_step (add binary64) (mul binary64) l.loop-k.c x b k nan (inside t).1)
+          ∙ sym (from_step (add binary64) (mul binary64) l.loop-k.c x b k nan inside.1)
           ∙ l.loop-k.invariant.1,
     )
 
 pub returns : goal.returns
 returns c =
-    let l = c.before in
+    let l = c in
     let x = l.args.x in
     let b = l.args.b.now in
     let k = l.loop-k.k in

@@ -15,7 +15,5 @@ abbrev pub invariant-loop-k : goal.invariant-loop-k
 invariant-loop-k l =
     (length l.c ≡ length l.initial.c) × (add_from_by (add binary64) (mul binary64) l.c l.x l.k (drop l.k l.b) ≡ add_from_by (add binary64) (mul binary64) l.initial.c l.x 0 l.b)
 
-
 abbrev pub decreases-loop-k : goal.decreases-loop-k
 decreases-loop-k l = length l.initial.c - l.k
-

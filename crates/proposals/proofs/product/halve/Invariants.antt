@@ -12,7 +12,5 @@ use Rattle.proposals.proofs.product.halve.Given as goal
 abbrev pub invariant-loop-k : goal.invariant-loop-k
 invariant-loop-k l = Mapping half l.initial.c l.c l.k
 
-
 abbrev pub decreases-loop-k : goal.decreases-loop-k
 decreases-loop-k l = length l.initial.c - l.k
-

@@ -18,7 +18,5 @@ invariant-loop-i l =
     (l.i ≤ 33) × (l.back ≡ reverse l.b) × (length l.c ≡ 33)
     × ((add_terms_by (add binary64) (mul binary64) (l.c, 0) l.i (drop l.i l.a) l.b).0 ≡ (add_terms_by (add binary64) (mul binary64) (replicate 33 nought, 0) 0 l.a l.b).0)
 
-
 abbrev pub decreases-loop-i : goal.decreases-loop-i
 decreases-loop-i l = 33 - l.i
-

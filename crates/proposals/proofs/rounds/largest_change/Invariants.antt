@@ -13,7 +13,5 @@ use Rattle.proposals.proofs.rounds.largest_change.Given as goal
 abbrev pub invariant-loop-k : goal.invariant-loop-k
 invariant-loop-k l = (l.k ≤ 33) × (change_from l.change (drop l.k l.a) (drop l.k l.b) ≡ change_from nought l.a l.b)
 
-
 abbrev pub decreases-loop-k : goal.decreases-loop-k
 decreases-loop-k l = 33 - l.k
-

@@ -13,7 +13,5 @@ use Rattle.proposals.proofs.rounds.negate.Given as goal
 abbrev pub invariant-loop-k : goal.invariant-loop-k
 invariant-loop-k l = Mapping (sub binary64 nought) l.initial.c l.c l.k
 
-
 abbrev pub decreases-loop-k : goal.decreases-loop-k
 decreases-loop-k l = length l.initial.c - l.k
-

@@ -17,7 +17,5 @@ use Rattle.proposals.proofs.rounds.run_rounds.Given as goal
 abbrev pub invariant-loop-n : goal.invariant-loop-n
 invariant-loop-n l = (l.n ≤ 12) × (rounds (12 - l.n) l.g l.r ≡ rounds 12 l.g l.initial.r)
 
-
 abbrev pub decreases-loop-n : goal.decreases-loop-n
 decreases-loop-n l = 12 - l.n
-
