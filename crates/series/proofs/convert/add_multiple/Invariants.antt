@@ -23,7 +23,5 @@ use Rattle.series.proofs.convert.add_multiple.Given as goal
 abbrev pub invariant-loop-j : goal.invariant-loop-j
 invariant-loop-j l = Walked l.initial.sums l.p l.row l.sums l.j
 
-
 abbrev pub decreases-loop-j : goal.decreases-loop-j
 decreases-loop-j l = length l.row - l.j
-

@@ -32,20 +32,20 @@ module _ (s : Start) where
   abbrev series : Series
   series = s.args.s
 
-  within : Good (standard_model series.degree series.coefficients-1 0)
+  within : Good (standard_model series.degree series.coefficients 0)
   within = limits series s.requires
 
-  length-all : length series.coefficients-1 ≡ 33
+  length-all : length series.coefficients ≡ 33
   length-all = search rules
 
   abbrev ps : List ℤ
-  ps = take (series.degree + 1) series.coefficients-1
+  ps = take (series.degree + 1) series.coefficients
 
   length-ps : length ps ≡ series.degree + 1
-  length-ps = length-take-le (series.degree + 1) series.coefficients-1 (omega (arith, within, length-all))
+  length-ps = length-take-le (series.degree + 1) series.coefficients (omega (arith, within, length-all))
 
   weight-ps : weight ps ≤ 2 ^ 28
-  weight-ps = omega (arith, within, weight-take (series.degree + 1) series.coefficients-1)
+  weight-ps = omega (arith, within, weight-take (series.degree + 1) series.coefficients)
 
 pub slice_bounds-all-end : goal.slice_bounds-all-end
 slice_bounds-all-end c = let s = c.before.before.before.before in omega (arith, within s, length-all s)
@@ -68,7 +68,7 @@ module _ (c : After-add_expanded) where
   sums = c.add_expanded.new.sums
 
   length-sums : length sums ≡ 33
-  length-sums = c.add_expanded.auto.0
+  length-sums = c.add_expanded.auto.sums
 
   -- the first of them are the expanded series
   sums-are : take ((series start).degree + 1) sums ≡ expanded_from 0 (ps start)

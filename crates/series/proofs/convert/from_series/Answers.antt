@@ -22,8 +22,9 @@ convert_good-requires c = sym (measured c.before) ∙ c.if-parts.true
 pub returns-then-parts : goal.returns-then-parts
 returns-then-parts c = let d = c.before in
     let s = d.before.before.before.args.s in
-    let e = c.convert_good.ensures ∙ conversion_of_good s (sym (measured d.before) ∙ d.if-parts.true) in record { result_value = e; series_allowed = series_allowed s c.convert_good.result e; }
+    let e = c.convert_good.ensures ∙ conversion_of_good s (sym (measured d.before) ∙ d.if-parts.true) in record { result_value = e; series_allowed = series_allowed s c.convert_good.result e }
+
 pub returns-else-parts : goal.returns-else-parts
 returns-else-parts c = let d = c.before in
     let s = d.before.before.before.args.s in
-    let e = c.refused.ensures ∙ conversion_of_bad s (sym (measured d.before) ∙ d.if-parts.false) in record { result_value = e; series_allowed = series_allowed s c.refused.result e; }
+    let e = c.refused.ensures ∙ conversion_of_bad s (sym (measured d.before) ∙ d.if-parts.false) in record { result_value = e; series_allowed = series_allowed s c.refused.result e }
