@@ -1,0 +1,21 @@
+-- `operations::load_on` meets its contract.
+use Rattle.std.proofs.Common.{rules}
+use mathlib.Core.Path.{ap, sym, ◌∙◌}
+use Prim.Native.Nat.{◌+◌}
+use Rattle.model.specs.definitions.Load.{loading}
+use Rattle.job.specs.definitions.Bytes.{block_at, unsigned_at, interval_at}
+use Rattle.job.specs.definitions.Decode.{maker_at}
+use Rattle.job.specs.definitions.InnerContracts.{untested_outcome}
+use Rattle.job.proofs.laws.MakerLaws.{load_operation}
+use Rattle.job.proofs.OperationLaws.{performs_untested, loading_storable}
+use Rattle.job.proofs.operations.load_on.Goals as goal
+
+pub returns : goal.returns
+unfolding maker_at
+returns c =
+    let i = c.before in
+    let g = i.args in
+    let block = block_at g.job.now (g.at + 1) (unsigned_at g.job.now (g.at + 134)) in
+    let m = block (interval_at g.job.now (g.at + 138)) in
+    λ w. performs_untested (loading m) (c.load_block.ensures ∙ ap (λ i. untested_outcome (loading (block i))) i.read_interval-interval.ensures) (loading_storable m)
+    (λ count rs t h n. sym (load_operation m rs))

@@ -1,0 +1,34 @@
+-- `operations::multiply` meets its contract.
+use mathlib.Core.Path.{ap, sym, ◌∙◌}
+use Prim.Native.Nat.{ℕ, ◌+◌}
+use native.Mathlib.Omega.{arith}
+use Rattle.model.specs.definitions.Multiply.{multiplication}
+use Rattle.model.proofs.laws.ResultLaws.{multiplication_storable}
+use Rattle.job.specs.definitions.Bytes.{byte_at}
+use Rattle.job.specs.definitions.Decode.{edition_of, maker_at, kept_byte}
+use Rattle.job.specs.definitions.InnerContracts.{untested_outcome}
+use Rattle.job.proofs.laws.MakerLaws.{multiply_operation}
+use Rattle.job.proofs.OperationLaws.{performs_untested, held_two}
+use Rattle.std.proofs.Common.{rules}
+use Rattle.job.proofs.operations.multiply.Goals as goal
+
+pub read_operands-o-requires : goal.read_operands-o-requires
+unfolding maker_at
+read_operands-o-requires c = let p = c.requires in record { names = p.names; room = omega arith; long = p.long }
+
+pub returns : goal.returns
+unfolding maker_at
+returns c =
+    let m = c.before in
+    let d = m.before.before.before.before in
+    let o = d.read_operands-o in
+    let g = d.args in
+    let k = kept_byte (edition_of g.job.now) (byte_at g.job.now (g.at + 3)) in
+    let kept = ap (λ (n : ℕ). multiplication n o.result.first o.result.second) m.kept_byte-kept.ensures in
+    let a = o.result.first in
+    let b = o.result.second in
+    performs_untested (multiplication k a b) (c.untested.ensures ∙ ap untested_outcome (m.multiply.ensures ∙ kept))
+    (multiplication_storable k a b)
+    (λ count rs t h n.
+    held_two h (λ f g. untested_outcome (multiplication k f g)) a b (byte_at g.job.now (g.at + 1)) (byte_at g.job.now (g.at + 2))
+    o.ensures.0 o.ensures.1 n ∙ sym (multiply_operation _ _ k rs))

@@ -1,0 +1,41 @@
+-- `operations::quotient` meets its contract.
+use mathlib.Core.Path.{ap₂, sym, ◌∙◌}
+use Prim.Native.Nat.{◌+◌}
+use native.Mathlib.Omega.{arith}
+use lib.ListN.{length}
+use Rattle.certificate.specs.definitions.Tests.{scratch_size}
+use Rattle.certificate.specs.definitions.Quotient.{quotient_test}
+use Rattle.certificate.proofs.laws.Stages.{quotient_room}
+use Rattle.certificate.proofs.laws.TestFits.{quotient_storable}
+use Rattle.job.specs.definitions.Bytes.{byte_at, candidate_at}
+use Rattle.job.specs.definitions.Decode.{maker_at}
+use Rattle.job.proofs.laws.MakerLaws.{quotient_operation}
+use Rattle.job.proofs.OperationLaws.{performs, held_two}
+use Rattle.std.proofs.Common.{rules}
+use Rattle.job.proofs.operations.quotient.Goals as goal
+
+pub read_operands-o-requires : goal.read_operands-o-requires
+unfolding maker_at
+read_operands-o-requires c = let p = c.requires.0 in record { names = p.names; room = omega arith; long = p.long }
+
+pub returns : goal.returns
+unfolding maker_at
+returns c = let q = c.before in
+    let d = q.before.before in
+    let o = d.before.before in
+    let s = o.before.before in
+    let job = s.args.job.now in
+    let at = s.args.at in
+    let len = length s.args.scratch.now in
+    let f = o.read_operands-o.result.first in
+    let g = o.read_operands-o.result.second in
+    let h = candidate_at job (at + 3) in
+    let w = candidate_at job (at + 136) in record { performs = performs
+          (q.quotient.ensures.result_value
+          ∙ ap₂ (quotient_test len f g) d.read_candidate-h.ensures d.read_candidate-w.ensures
+          ∙ quotient_room len f g h w s.requires.1.long)
+          (quotient_storable scratch_size f g h w)
+          (λ count rs t z n.
+          held_two z (λ f g. quotient_test scratch_size f g h w) f g (byte_at job (at + 1)) (byte_at job (at + 2))
+          o.read_operands-o.ensures.first_value o.read_operands-o.ensures.second_value n
+          ∙ sym (quotient_operation _ _ h w rs)); scratch_unchanged = q.quotient.ensures.scratch_after.0 ∙ s.requires.1.clear; }

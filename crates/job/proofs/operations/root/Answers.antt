@@ -1,0 +1,49 @@
+-- `operations::root` meets its contract.
+use mathlib.Core.Path.{ap₂, sym, ◌∙◌}
+use Prim.Native.Nat.{◌+◌}
+use native.Mathlib.Omega.{arith}
+use borrow.Author.Tests.{leb-false}
+use lib.ListN.{length}
+use Rattle.certificate.specs.definitions.Tests.{scratch_size}
+use Rattle.certificate.specs.definitions.Root.{root_test}
+use Rattle.certificate.proofs.laws.Stages.{root_room}
+use Rattle.certificate.proofs.laws.TestFits.{root_storable}
+use Rattle.job.specs.definitions.Bytes.{byte_at, candidate_at}
+use Rattle.job.specs.definitions.Reading.{max_results}
+use Rattle.job.specs.definitions.Decode.{maker_at}
+use Rattle.job.proofs.laws.MakerLaws.{root_operation}
+use Rattle.job.proofs.OperationLaws.{performs, held_one}
+use Rattle.std.proofs.Common.{rules}
+use Rattle.job.proofs.operations.root.Goals as goal
+
+pub named-f-requires : goal.named-f-requires
+unfolding maker_at
+named-f-requires c =
+    let g = c.args in
+    let p = c.requires.0 in
+    record {
+      inside = omega (arith, p.room);
+      name = leb-false max_results (byte_at g.job.now (g.at + 1)) p.names;
+      long = p.long;
+    }
+
+pub returns : goal.returns
+unfolding maker_at
+returns c = let q = c.before in
+    let d = q.before.before in
+    let e = d.before.before in
+    let s = e.before.before in
+    let rule = s.args.rule in
+    let job = s.args.job.now in
+    let at = s.args.at in
+    let len = length s.args.scratch.now in
+    let f = e.named-f.result in
+    let h = candidate_at job (at + 2) in
+    let w = candidate_at job (at + 135) in record { performs = performs
+          (q.root.ensures.result_value
+          ∙ ap₂ (root_test rule len f) d.read_candidate-h.ensures d.read_candidate-w.ensures
+          ∙ root_room rule len f h w s.requires.1.long)
+          (root_storable rule scratch_size f h w)
+          (λ count rs t z n.
+          held_one z (λ f. root_test rule scratch_size f h w) f (byte_at job (at + 1)) e.named-f.ensures n
+          ∙ sym (root_operation rule _ h w rs)); scratch_unchanged = q.root.ensures.scratch_after.0 ∙ s.requires.1.clear; }

@@ -1,0 +1,29 @@
+-- `operations::subtract` meets its contract.
+use mathlib.Core.Path.{ap, sym, ◌∙◌}
+use Prim.Native.Nat.{◌+◌}
+use native.Mathlib.Omega.{arith}
+use Rattle.model.specs.definitions.Add.{subtraction}
+use Rattle.model.proofs.laws.ResultLaws.{subtraction_storable}
+use Rattle.job.specs.definitions.Bytes.{byte_at}
+use Rattle.job.specs.definitions.Decode.{maker_at}
+use Rattle.job.specs.definitions.InnerContracts.{untested_outcome}
+use Rattle.job.proofs.laws.MakerLaws.{subtract_operation}
+use Rattle.job.proofs.OperationLaws.{performs_untested, held_two}
+use Rattle.std.proofs.Common.{rules}
+use Rattle.job.proofs.operations.subtract.Goals as goal
+
+pub read_operands-o-requires : goal.read_operands-o-requires
+unfolding maker_at
+read_operands-o-requires c = let p = c.requires in record { names = p.names; room = omega arith; long = p.long }
+
+pub returns : goal.returns
+unfolding maker_at
+returns c =
+    let r = c.before in
+    let o = r.read_operands-o in
+    let a = o.result.first in
+    let b = o.result.second in
+    let g = r.args in
+    performs_untested (subtraction a b) (c.untested.ensures ∙ ap untested_outcome r.subtract.ensures) (subtraction_storable a b)
+    (λ count rs t h n.
+    held_two h (λ f g. untested_outcome (subtraction f g)) a b (byte_at g.job.now (g.at + 1)) (byte_at g.job.now (g.at + 2)) o.ensures.0 o.ensures.1 n ∙ sym (subtract_operation _ _ rs))

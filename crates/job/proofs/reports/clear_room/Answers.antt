@@ -1,0 +1,16 @@
+-- `reports::clear_room` meets its contract.
+use Rattle.std.proofs.Common.{rules}
+use mathlib.Core.Path.{◌≡◌, subst}
+use mathlib.Core.List.{◌++◌}
+use Prim.Native.Nat.{ℕ, ◌-◌}
+use native.Mathlib.Omega.{arith}
+use lib.ListN.{drop}
+use Rattle.job.specs.definitions.Reports.{zero_bytes}
+use Rattle.job.proofs.Rooms.{Emptying, emptying_begins, emptying_turn, emptying_ends}
+use Rattle.job.proofs.reports.clear_room.Goals as goal
+
+pub loop-i-init : goal.loop-i-init
+loop-i-init c = emptying_begins _ _ (omega (arith, c.room_size-size.ensures, c.requires))
+
+pub loop-i-preserved : goal.loop-i-preserved
+loop-i-preserved c = emptying_turn c.loop-i.invariant c.loop-i-test.true

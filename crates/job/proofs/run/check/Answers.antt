@@ -1,0 +1,14 @@
+-- `run::check` meets its contract: the check with the empty report.
+use mathlib.Core.Path.{ap, ◌∙◌}
+use mathlib.Core.List.{[]}
+use native.Mathlib.Omega.{arith}
+use Rattle.job.specs.definitions.Outcomes.{counted}
+use Rattle.job.proofs.laws.ReportLaws.{report_outcome_lem, report_work_lem, report_scratch_lem, required_empty}
+use Rattle.job.specs.declared.types.Report.TheVariants.{Empty}
+use Rattle.std.proofs.Common.{rules}
+use Rattle.job.proofs.run.check.Goals as goal
+
+pub returns : goal.returns
+returns c = let r = c.before.before.before in
+    let g = r.args in
+    let o = r.check_and_report.ensures in record { result_value = o.0 ∙ ap counted (report_outcome_lem Empty g.job.now g.work.now g.scratch.now [] (omega arith)); work_after = o.1.0 ∙ report_work_lem Empty g.job.now g.work.now g.scratch.now [] (omega arith); scratch_after = o.1.1.0 ∙ report_scratch_lem Empty g.job.now g.work.now g.scratch.now [] (omega arith); requirement3 = required_empty g.job.now g.work.now g.scratch.now [] o.1.1.1.1; }
