@@ -5,10 +5,15 @@ use native.Mathlib.Omega.{arith}
 use Rattle.job.specs.definitions.Outcomes.{counted}
 use Rattle.job.proofs.laws.ReportLaws.{report_outcome_lem, report_work_lem, report_scratch_lem, required_empty}
 use Rattle.job.specs.declared.types.Report.TheVariants.{Empty}
-use Rattle.std.proofs.Common.{rules}
 use Rattle.job.proofs.run.check.Goals as goal
 
 pub returns : goal.returns
-returns c = let r = c.before.before.before in
-    let g = r.args in
-    let o = r.check_and_report.ensures in record { result_value = o.0 ∙ ap counted (report_outcome_lem Empty g.job.now g.work.now g.scratch.now [] (omega arith)); work_after = o.1.0 ∙ report_work_lem Empty g.job.now g.work.now g.scratch.now [] (omega arith); scratch_after = o.1.1.0 ∙ report_scratch_lem Empty g.job.now g.work.now g.scratch.now [] (omega arith); requirement3 = required_empty g.job.now g.work.now g.scratch.now [] o.1.1.1.1; }
+returns c =
+    let g = c.args in
+    let o = c.check_and_report.ensures in
+    record {
+      result_value = o.result_value ∙ ap counted (report_outcome_lem Empty g.job.now g.work.now g.scratch.now [] (omega arith));
+      work_after = o.work_after ∙ report_work_lem Empty g.job.now g.work.now g.scratch.now [] (omega arith);
+      scratch_after = o.scratch_after ∙ report_scratch_lem Empty g.job.now g.work.now g.scratch.now [] (omega arith);
+      requirement3 = required_empty g.job.now g.work.now g.scratch.now [] o.requirement3;
+    }

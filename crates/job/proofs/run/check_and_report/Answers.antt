@@ -8,52 +8,74 @@ use Rattle.std.proofs.Common.{rules}
 use Rattle.job.proofs.run.check_and_report.Goals as goal
 
 pub returns-then-work-lt-WORK_SIZE : goal.returns-then-work-lt-WORK_SIZE
-returns-then-work-lt-WORK_SIZE c = let it = let g = c.args in
-    short_work g.report g.job.now g.work.now g.scratch.now g.room.now c.if-work-lt-WORK_SIZE.true in record { result_value = it.0; work_after = it.1; scratch_after = it.2; room_after = it.3; requirement3 = it.4; }
+returns-then-work-lt-WORK_SIZE c =
+    let g = c.args in
+    let said = short_work g.report g.job.now g.work.now g.scratch.now g.room.now c.if-work-lt-WORK_SIZE.true in
+    record {
+      result_value = said.0;
+      work_after = said.1.0;
+      scratch_after = said.1.1.0;
+      room_after = said.1.1.1.0;
+      requirement3 = said.1.1.1.1;
+    }
+
 pub returns-then-scratch-lt-SCRATCH_SIZE : goal.returns-then-scratch-lt-SCRATCH_SIZE
-returns-then-scratch-lt-SCRATCH_SIZE c = let it = let g = c.args in
-    short_scratch g.report g.job.now g.work.now g.scratch.now g.room.now c.if-work-lt-WORK_SIZE.false c.if-scratch-lt-SCRATCH_SIZE.true in record { result_value = it.0; work_after = it.1; scratch_after = it.2; room_after = it.3; requirement3 = it.4; }
+returns-then-scratch-lt-SCRATCH_SIZE c =
+    let g = c.args in
+    let said = short_scratch g.report g.job.now g.work.now g.scratch.now g.room.now c.if-work-lt-WORK_SIZE.false c.if-scratch-lt-SCRATCH_SIZE.true in
+    record {
+      result_value = said.0;
+      work_after = said.1.0;
+      scratch_after = said.1.1.0;
+      room_after = said.1.1.1.0;
+      requirement3 = said.1.1.1.1;
+    }
+
 pub returns-then-room-size : goal.returns-then-room-size
-returns-then-room-size c = let it = let z = c.before in
-    let e = z.before in
-    let g = e.args in
-    short_room g.report g.job.now g.work.now g.scratch.now g.room.now e.if-work-lt-WORK_SIZE.false e.if-scratch-lt-SCRATCH_SIZE.false
-    (omega (arith, c.if-room-size.true, z.room_size-size.ensures)) in record { result_value = it.0; work_after = it.1; scratch_after = it.2; room_after = it.3; requirement3 = it.4; }
+returns-then-room-size c =
+    let g = c.args in
+    let said =
+    short_room g.report g.job.now g.work.now g.scratch.now g.room.now c.if-work-lt-WORK_SIZE.false c.if-scratch-lt-SCRATCH_SIZE.false
+    (omega (arith, c.if-room-size.true, c.room_size-size.ensures)) in
+    record {
+      result_value = said.0;
+      work_after = said.1.0;
+      scratch_after = said.1.1.0;
+      room_after = said.1.1.1.0;
+      requirement3 = said.1.1.1.1;
+    }
+
 pub run-requires : goal.run-requires
 run-requires c =
-    let cr = c.before.before.before.before.before in
-    let cs = cr.before.before.before in
-    let cw = cs.before.before.before in
-    let e = cw.before.before in
-    let z = e.before in
-    let f = z.before in
-    let g = f.args in (
+    let g = c.args in (
       record {
-        long = omega (arith, cw.clear_work.auto.work, f.if-work-lt-WORK_SIZE.false);
-        zero = cleared_is work_size g.work.now cw.clear_work.new.work cw.clear_work.ensures;
+        long = omega (arith, c.clear_work.auto.work, c.if-work-lt-WORK_SIZE.false);
+        zero = cleared_is work_size g.work.now c.clear_work.new.work c.clear_work.ensures;
         clear =
-            cleared_clear g.scratch.now cs.clear_scratch.new.scratch cs.clear_scratch.ensures
-            (omega (arith, cs.clear_scratch.auto.scratch, f.if-scratch-lt-SCRATCH_SIZE.false));
+            cleared_clear g.scratch.now c.clear_scratch.new.scratch c.clear_scratch.ensures
+            (omega (arith, c.clear_scratch.auto.scratch, c.if-scratch-lt-SCRATCH_SIZE.false));
       },
       record {
-        long = omega (arith, cr.clear-Room.auto.1.0, e.if-room-size.false, z.room_size-size.ensures);
-        zero = room_cleared_is (room_size g.report) g.room.now cr.clear-Room.new.1.0 cr.clear-Room.ensures;
+        long = omega (arith, c.clear_room.auto.room, c.if-room-size.false, c.room_size-size.ensures);
+        zero = room_cleared_is (room_size g.report) g.room.now c.clear_room.new.room c.clear_room.ensures;
       },
     )
 
 pub returns : goal.returns
-returns c = let it = let r = c.before.before.before.before in
-    let cr = r.before.before.before.before.before.before in
-    let cs = cr.before.before.before in
-    let cw = cs.before.before.before in
-    let e = cw.before.before in
-    let z = e.before in
-    let f = z.before in
-    let g = f.args in
-    let o = r.run.ensures in
-    ran_leaves g.report g.job.now g.work.now g.scratch.now g.room.now f.if-work-lt-WORK_SIZE.false f.if-scratch-lt-SCRATCH_SIZE.false
-    (omega (arith, e.if-room-size.false, z.room_size-size.ensures))
-    cw.clear_work.new.work r.run.new.work.0 r.run.new.work.1.0 cr.clear-Room.new.1.0 r.run.new.work.1.1.1.0
-    r.run.result cw.clear_work.ensures cr.clear-Room.ensures
-    (record { answer = o.0; work_is = o.1.0; claim = o.1.1.1.0; room_is = o.1.1.1.1 })
-    (o.1.1.0 ∙ cs.clear_scratch.ensures) in record { result_value = it.0; work_after = it.1; scratch_after = it.2; room_after = it.3; requirement3 = it.4; }
+returns c =
+    let g = c.args in
+    let o = c.run.ensures in
+    let said =
+    ran_leaves g.report g.job.now g.work.now g.scratch.now g.room.now c.if-work-lt-WORK_SIZE.false c.if-scratch-lt-SCRATCH_SIZE.false
+    (omega (arith, c.if-room-size.false, c.room_size-size.ensures))
+    c.clear_work.new.work c.run.new.work c.run.new.scratch c.clear_room.new.room c.run.new.room
+    c.run.result c.clear_work.ensures c.clear_room.ensures
+    (record { answer = o.result_value; work_is = o.work_after; claim = o.requirement3; room_is = o.room_after })
+    (o.scratch_unchanged ∙ c.clear_scratch.ensures) in
+    record {
+      result_value = said.0;
+      work_after = said.1.0;
+      scratch_after = said.1.1.0;
+      room_after = said.1.1.1.0;
+      requirement3 = said.1.1.1.1;
+    }

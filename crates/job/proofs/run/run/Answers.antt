@@ -30,86 +30,89 @@ abbrev Start : Type 0
 Start = Lts.Start Tie.the-claims Reads.Pre Reads.Post goal.the-invariant-loop-results goal.the-decreases-loop-results Tie.handed_clauses
 
 -- after the step of a turn
-module _ (c : After-slice_known-in-loop-results-1) where
-  abbrev turn : After-step-done
-  turn = c.before.before.before.before
-
-  abbrev held : At-loop-results
-  held = turn.before.before.before.before
-
-  abbrev begun : Start
-  begun = held.before.before.before
-
+module _ (turn : After-slice_known-in-loop-results-1) where
   abbrev job : List ℕ
-  job = begun.args.job.now
+  job = turn.args.job.now
 
   abbrev k : ℕ
-  k = held.loop-results.k
+  k = turn.loop-results.k
 
   abbrev at : ℕ
-  at = held.loop-results.at
+  at = turn.loop-results.at
 
   abbrev count : ℕ
-  count = held.loop-results.count
+  count = turn.loop-results.count
 
   abbrev work : List ℤ
-  work = turn.step-done.last.1.1.1.1.0
+  work = turn.step-done.new.work
 
   abbrev room : List ℕ
-  room = turn.step-done.last.1.1.1.1.1.1.1.0
+  room = turn.step-done.new.room
 
-  abbrev going : Going begun.args.report job begun.args.work.now held.loop-results.work begun.args.room.now held.loop-results.room at k count
-  going = held.loop-results.invariant.0
+  abbrev going : Going turn.args.report job turn.args.work.now turn.loop-results.work turn.args.room.now turn.loop-results.room at k count
+  going = turn.loop-results.invariant.0
 
   abbrev stepped : Step (List Model)
   stepped = command job k going.rs at
 
   abbrev Does : CodeStep → Type 0
-  Does r = Stepped r work going.rs (drop work_size begun.args.work.now) stepped
+  Does r = Stepped r work going.rs (drop work_size turn.args.work.now) stepped
 
   does : Does turn.step-done.result
   does = turn.step-done.ensures.steps_by going.rs _ going.holds
 
-  wrote : room ≡ recorded_from begun.args.report held.loop-results.room count (added_at job k going.rs at)
-  wrote = turn.step-done.ensures.scratch_unchanged.1 going.rs _ going.holds
+  wrote : room ≡ recorded_from turn.args.report turn.loop-results.room count (added_at job k going.rs at)
+  wrote = turn.step-done.ensures.records_by going.rs _ going.holds
 
-  unchanged : turn.step-done.last.1.1.1.1.1.0 ≡ begun.args.scratch.now
-  unchanged = turn.step-done.ensures.scratch_unchanged.0 ∙ held.loop-results.invariant.1.0
+  unchanged : turn.step-done.new.scratch ≡ turn.args.scratch.now
+  unchanged = turn.step-done.ensures.scratch_unchanged ∙ turn.loop-results.invariant.1.0
 
 pub loop-results-init : goal.loop-results-init
 loop-results-init c =
-    let s = c.before.before in (
+    let s = c in (
       going_begins s.args.report s.args.job.now s.args.work.now s.args.room.now s.requires.0.long s.requires.0.zero s.requires.1,
       (refl, s.requires.0.clear),
     )
 
 again : (c : goal.In-More)
-    → let s = c.before.before.before in
-    (at s < c.done-1.given.0.1.0)
-    × Going (begun s).args.report (job s) (begun s).args.work.now (work s) (begun s).args.room.now (room s)
-    c.done-1.given.0.1.0 (k s + 1) c.done-1.given.0.0
+    → (c.loop-results.at < c.in-More.next)
+    × Going c.args.report c.args.job.now c.args.work.now c.step-done.new.work c.args.room.now c.step-done.new.room
+    c.in-More.next (c.loop-results.k + 1) c.in-More.results
 again c =
-    let s = c.before.before.before in
-    let d = c.done-1.given in
-    going_again (going s) (work s) (room s) (wrote s) (stepped s) d.0.1.0 d.0.0 refl (subst (Does s) d.1 (does s))
-    (turn s).step-done.auto.k.1.1.1.0 (turn s).step-done.auto.k.1.1.1.1.1.1.0
+    let s = c.before.before in
+    going_again (going s) (work s) (room s) (wrote s) (stepped s) c.in-More.next c.in-More.results refl (subst (Does s) c.in-More.is (does s))
+    c.step-done.auto.work c.step-done.auto.room
 
 pub loop-results-smaller : goal.loop-results-smaller
 loop-results-smaller c = let t = again c in omega (arith, t.0, t.1.position)
 
 pub loop-results-preserved : goal.loop-results-preserved
 loop-results-preserved c =
-    let s = c.before.before.before in
-    ((again c).1, (unchanged s, (held s).loop-results.invariant.1.1))
+    let s = c.before.before in
+    ((again c).1, (unchanged s, c.loop-results.invariant.1.1))
 
 pub returns-in-Over : goal.returns-in-Over
-returns-in-Over c = let s = c.before.before in
-    let r = going_ends (going s) (work s) (room s) (wrote s) (stepped s) refl (subst (Does s) c.enum_told-1.given.1 (does s)) in record { result_value = r.answer; work_after = r.work_is; scratch_unchanged = unchanged s; requirement3 = r.claim; room_after = r.room_is; }
+returns-in-Over c =
+    let s = c.before.before in
+    let r = going_ends (going s) (work s) (room s) (wrote s) (stepped s) refl (subst (Does s) c.in-Over.is (does s)) in
+    record {
+      result_value = r.answer;
+      work_after = r.work_is;
+      scratch_unchanged = unchanged s;
+      requirement3 = r.claim;
+      room_after = r.room_is;
+    }
+
 pub returns-in-Refused : goal.returns-in-Refused
-returns-in-Refused c = let e = c.before.before in
-    let w = e.before.before.before in
-    let d = w.before.before.before in
-    let s = d.before.before in
+returns-in-Refused c =
+    let s = c.before.before.before.before.before.before.before.before.before in
     let r =
-    going_stops (going s) (work s) (room s) (wrote s) (stepped s) d.done-in-Refused-1.given.0.0 w.clear_work.new.work e.clear-Room.new.1.0 refl
-    (subst (Does s) d.done-in-Refused-1.given.1 (does s)) w.clear_work.ensures e.clear-Room.ensures in record { result_value = r.answer; work_after = r.work_is; scratch_unchanged = unchanged s; requirement3 = r.claim; room_after = r.room_is; }
+    going_stops (going s) (work s) (room s) (wrote s) (stepped s) c.in-Refused.refusal c.clear_work.new.work c.clear_room.new.room refl
+    (subst (Does s) c.in-Refused.is (does s)) c.clear_work.ensures c.clear_room.ensures in
+    record {
+      result_value = r.answer;
+      work_after = r.work_is;
+      scratch_unchanged = unchanged s;
+      requirement3 = r.claim;
+      room_after = r.room_is;
+    }
