@@ -1,5 +1,5 @@
-// The library for C and Rust, as a static library: each function of include/ferruntzo.h calls that of crate `ferruntzo` of the same
-// name, with the same clauses.
+// The library for C and Rust, as a static library: each function of include/ferruntzo.h calls that of the same name in crate
+// `ferruntzo`, with the same clauses.
 #![tactic(auto)]
 
 pub mod certificates;
