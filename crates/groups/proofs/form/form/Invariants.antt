@@ -1,3 +1,4 @@
+-- `form::form` meets its contract: each turn writes two places of the group, or the last one.
 use Rattle.std.proofs.Common.{rules}
 use mathlib.Core.Path.{◌≡◌, refl, sym, ◌∙◌, ap}
 use mathlib.Core.List.{List}

@@ -1,4 +1,4 @@
--- `form::two_places` : each place by its three walks.
+-- `form::two_places` meets its contract: each place by its three walks.
 use Rattle.std.proofs.Common.{rules}
 use mathlib.Core.Path.{◌≡◌, ◌∙◌, ap}
 use mathlib.Core.List.{List}
@@ -23,7 +23,6 @@ use Rattle.groups.proofs.form.two_places.Tie
 
 abbrev After-add_correlations-z : Type 0
 After-add_correlations-z = Lts.After-add_correlations2 Tie.the-claims Reads.Pre Reads.Post
-
 
 module _ (c : goal.After-convolutions-x) where
   abbrev a : List ℤ

@@ -1,4 +1,4 @@
--- `pairs::add_convolutions` : a turn is that of the walk (ConvolutionWalk.antt).
+-- `pairs::add_convolutions` meets its contract: a turn is that of the walk (ConvolutionWalk.antt).
 use mathlib.Core.Path.{refl}
 use mathlib.Core.List.{List}
 use Prim.Native.Nat.{ℕ, ◌+◌, ◌-◌, ◌^◌}
@@ -19,16 +19,12 @@ use Rattle.groups.proofs.pairs.add_convolutions.Tie
 abbrev At-loop-i : Type 0
 At-loop-i = Lts.At-loop Tie.the-claims Reads.Pre Reads.Post goal.the-invariant-loop-i goal.the-decreases-loop-i Tie.handed_clauses
 
-
-pub overflow_add-k : goal.overflow_add-k
-overflow_add-k c = omega (arith, c.requires)
-
-pub loop-i-init : goal.loop-i-init
-loop-i-init c = let s = c.before in record { reach = s.requires.from_bound.0; inside = s.requires.from_bound.1; first = refl; second = refl }
+abbrev Start : Type 0
+Start = Lts.Start Tie.the-claims Reads.Pre Reads.Post goal.the-invariant-loop-i goal.the-decreases-loop-i Tie.handed_clauses
 
 -- at the loop's head
 module _ (l : At-loop-i) where
-  abbrev s : goal.Start
+  abbrev s : Start
   s = l.before.before
 
   abbrev a : List ℤ
@@ -42,9 +38,6 @@ module _ (l : At-loop-i) where
 
   total_small : Below (2 ^ 62) l.loop-i.total
   total_small = convolution_below a b l.loop-i.invariant s.requires.below.0 s.requires.below.1
-
-pub bounds-b-k-in-loop-i : goal.bounds-b-k-in-loop-i
-bounds-b-k-in-loop-i c = let l = c.before.before.before in omega (arith, l.before.min-end.ensures, l.loop-i.invariant.inside)
 
 pub loop-i-preserved : goal.loop-i-preserved
 loop-i-preserved c =
@@ -67,56 +60,8 @@ returns-then-k-a c =
 pub returns : goal.returns
 returns c = let l = c.before.before in convolution_ends (a l) (b l) l.loop-i.invariant (omega (arith, l.before.min-end.ensures))
 
-pub min-end-requires : goal.min-end-requires
-min-end-requires c = search signed_needs
-
-pub offset_bounds-a-i : goal.offset_bounds-a-i
-offset_bounds-a-i c = search signed_needs
-
-pub bounds-a-i : goal.bounds-a-i
-bounds-a-i c = omega (arith, c.before.before.min-end.ensures)
-
-pub overflow_sub-k : goal.overflow_sub-k
-overflow_sub-k c = omega (arith, c.before.before.before.min-end.ensures)
-
-pub offset_bounds-b-k : goal.offset_bounds-b-k
-offset_bounds-b-k c = search signed_needs
-
-pub bounds-b-k : goal.bounds-b-k
-bounds-b-k c = let l = c.before.before in omega (arith, l.before.min-end.ensures, l.loop-i.invariant.inside)
-
-pub overflow_add-k-in-loop-i : goal.overflow_add-k-in-loop-i
-overflow_add-k-in-loop-i c = omega (arith, (s c.before.before.before).requires.from_bound.2)
-
-pub overflow_sub-k-in-loop-i : goal.overflow_sub-k-in-loop-i
-overflow_sub-k-in-loop-i c = omega (arith, c.before.before.before.before.min-end.ensures)
-
-pub offset_bounds-b-k-in-loop-i : goal.offset_bounds-b-k-in-loop-i
-offset_bounds-b-k-in-loop-i c = search signed_needs
-
 pub multiply_add-total-requires : goal.multiply_add-total-requires
 multiply_add-total-requires c = total_small c.before.before.before.before
-
-pub overflow_add-i : goal.overflow_add-i
-overflow_add-i c = search signed_needs
-
-pub loop-i-smaller : goal.loop-i-smaller
-loop-i-smaller c = search signed_needs
-
-pub overflow_add-k-2 : goal.overflow_add-k-2
-overflow_add-k-2 c = omega (arith, (s c.before).requires.from_bound.2)
-
-pub overflow_add-k-then-k-a : goal.overflow_add-k-then-k-a
-overflow_add-k-then-k-a c = omega (arith, (s c.before.before).requires.from_bound.2)
-
-pub offset_bounds-a-k : goal.offset_bounds-a-k
-offset_bounds-a-k c = search signed_needs
-
-pub bounds-a-k : goal.bounds-a-k
-bounds-a-k c = search signed_needs
-
-pub bounds-b-0 : goal.bounds-b-0
-bounds-b-0 c = let l = c.before.before.before in omega (arith, l.loop-i.invariant.inside, l.loop-i.invariant.reach)
 
 pub multiply_add-requires : goal.multiply_add-requires
 multiply_add-requires c = total_small c.before.before.before.before

@@ -1,3 +1,4 @@
+-- `pairs::add_convolutions` meets its contract: a turn is that of the walk (ConvolutionWalk.antt).
 use mathlib.Core.Path.{refl}
 use mathlib.Core.List.{List}
 use Prim.Native.Nat.{ℕ, ◌+◌, ◌-◌, ◌^◌}

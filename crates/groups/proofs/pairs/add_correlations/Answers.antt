@@ -1,4 +1,4 @@
--- `pairs::add_correlations` : a turn is that of the walk (CorrelationWalk.antt).
+-- `pairs::add_correlations` meets its contract: a turn is that of the walk (CorrelationWalk.antt).
 use mathlib.Core.Path.{◌≡◌}
 use mathlib.Core.List.{List}
 use Prim.Native.Nat.{◌+◌, ◌-◌, ◌^◌, ◌≤◌, ◌<◌}
@@ -19,16 +19,18 @@ use Rattle.groups.proofs.pairs.add_correlations.Tie
 abbrev At-loop-i : Type 0
 At-loop-i = Lts.At-loop Tie.the-claims Reads.Pre Reads.Post goal.the-invariant-loop-i goal.the-decreases-loop-i
 
+abbrev In-loop-i : Type 0
+In-loop-i = Lts.In-loop Tie.the-claims Reads.Pre Reads.Post goal.the-invariant-loop-i goal.the-decreases-loop-i
+
 abbrev Start : Type 0
 Start = Lts.Start Tie.the-claims Reads.Pre Reads.Post goal.the-invariant-loop-i goal.the-decreases-loop-i
 
+abbrev Then-end-a : Type 0
+Then-end-a = Lts.Then2 Tie.the-claims Reads.Pre Reads.Post goal.the-invariant-loop-i goal.the-decreases-loop-i
 
 -- b ends before place k
 pub returns-then-b-k : goal.returns-then-b-k
 returns-then-b-k c = let s = c.before in correlation_none s.args.a.now s.args.b.now s.args.k s.args.sums (omega arith)
-
-pub loop-i-init : goal.loop-i-init
-loop-i-init c = let s = c.before.before in (omega arith, correlation_begins s.args.a.now s.args.b.now s.args.k s.args.sums (omega arith))
 
 -- at the loop's head
 module _ (l : At-loop-i) where
@@ -45,7 +47,7 @@ module _ (l : At-loop-i) where
   total_small = correlation_below a b l.loop-i.invariant.1 s.requires.0 s.requires.1
 
 -- both places have a pair
-inside-two : (c : goal.In-loop-i) → let l = c.before in (s l).args.k + l.loop-i.i + 1 < length (b l)
+inside-two : (c : In-loop-i) → let l = c.before in (s l).args.k + l.loop-i.i + 1 < length (b l)
 inside-two c = let l = c.before in omega (arith, l.before.min-end.ensures)
 
 pub loop-i-preserved : goal.loop-i-preserved
@@ -62,7 +64,7 @@ loop-i-preserved c =
     )
 
 -- where b ends before a, the loop stopped at `end`
-at-end : (c : goal.Then-end-a) → let l = c.before.before in l.before.min-end.result ≡ l.loop-i.i
+at-end : (c : Then-end-a) → let l = c.before.before in l.before.min-end.result ≡ l.loop-i.i
 at-end c = let l = c.before.before in omega (arith, l.loop-i.invariant.0)
 
 pub returns-then-end-a : goal.returns-then-end-a
@@ -78,65 +80,8 @@ returns-then-end-a c =
 pub returns : goal.returns
 returns c = let l = c.before.before in correlation_ends (a l) (b l) l.loop-i.invariant.1 (omega (arith, l.before.min-end.ensures))
 
-pub overflow_sub-b : goal.overflow_sub-b
-overflow_sub-b c = omega arith
-
-pub overflow_sub-b-2 : goal.overflow_sub-b-2
-overflow_sub-b-2 c = omega arith
-
-pub min-end-requires : goal.min-end-requires
-min-end-requires c = search signed_needs
-
-pub offset_bounds-a-i : goal.offset_bounds-a-i
-offset_bounds-a-i c = search signed_needs
-
-pub bounds-a-i : goal.bounds-a-i
-bounds-a-i c = omega (arith, c.before.before.min-end.ensures)
-
-pub overflow_add-k : goal.overflow_add-k
-overflow_add-k c = omega (arith, inside-two c.before)
-
-pub offset_bounds-b-k : goal.offset_bounds-b-k
-offset_bounds-b-k c = search signed_needs
-
-pub bounds-b-k : goal.bounds-b-k
-bounds-b-k c = omega (arith, inside-two c.before)
-
-pub overflow_add-k-in-loop-i : goal.overflow_add-k-in-loop-i
-overflow_add-k-in-loop-i c = omega (arith, inside-two c.before.before)
-
-pub overflow_add-k-in-loop-i-2 : goal.overflow_add-k-in-loop-i-2
-overflow_add-k-in-loop-i-2 c = omega (arith, inside-two c.before.before)
-
-pub offset_bounds-b-k-in-loop-i : goal.offset_bounds-b-k-in-loop-i
-offset_bounds-b-k-in-loop-i c = search signed_needs
-
-pub bounds-b-k-in-loop-i : goal.bounds-b-k-in-loop-i
-bounds-b-k-in-loop-i c = inside-two c.before.before
-
 pub multiply_add-total-requires : goal.multiply_add-total-requires
 multiply_add-total-requires c = total_small c.before.before.before.before
-
-pub overflow_add-i : goal.overflow_add-i
-overflow_add-i c = search signed_needs
-
-pub loop-i-smaller : goal.loop-i-smaller
-loop-i-smaller c = search signed_needs
-
-pub offset_bounds-a-end : goal.offset_bounds-a-end
-offset_bounds-a-end c = search signed_needs
-
-pub bounds-a-end : goal.bounds-a-end
-bounds-a-end c = search signed_needs
-
-pub overflow_add-k-then-end-a : goal.overflow_add-k-then-end-a
-overflow_add-k-then-end-a c = let l = c.before.before.before in omega (arith, l.loop-i.invariant.1.inside, at-end c.before)
-
-pub offset_bounds-b-k-then-end-a : goal.offset_bounds-b-k-then-end-a
-offset_bounds-b-k-then-end-a c = search signed_needs
-
-pub bounds-b-k-then-end-a : goal.bounds-b-k-then-end-a
-bounds-b-k-then-end-a c = let l = c.before.before.before in omega (arith, l.loop-i.invariant.1.inside, at-end c.before)
 
 pub multiply_add-requires : goal.multiply_add-requires
 multiply_add-requires c = total_small c.before.before.before.before

@@ -1,3 +1,4 @@
+-- `pairs::add_correlations` meets its contract: a turn is that of the walk (CorrelationWalk.antt).
 use mathlib.Core.Path.{◌≡◌}
 use mathlib.Core.List.{List}
 use Prim.Native.Nat.{◌+◌, ◌-◌, ◌^◌, ◌≤◌, ◌<◌}

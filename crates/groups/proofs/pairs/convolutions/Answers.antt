@@ -1,4 +1,4 @@
--- `pairs::convolutions` : the sums begin where b has an element.
+-- `pairs::convolutions` meets its contract: the sums begin where b has an element.
 use Rattle.std.proofs.Common.{rules}
 use mathlib.Core.Path.{◌≡◌, ◌∙◌, ap}
 use mathlib.Core.List.{List}
@@ -17,17 +17,16 @@ use Rattle.groups.specs.definitions.InnerContracts.{Holds}
 use Rattle.groups.proofs.PairWalks.{no_pair}
 use Rattle.groups.proofs.PlaceSums.{from_zero, first_from, second_from, none_from}
 use Rattle.groups.proofs.pairs.convolutions.Goals as goal
+use Rattle.groups.proofs.pairs.convolutions.Lts
+use Rattle.groups.proofs.pairs.convolutions.Reads
+use Rattle.groups.proofs.pairs.convolutions.Tie
 
-pub returns-then-k-m : goal.returns-then-k-m
-returns-then-k-m c =
-    let a = c.before.before.args in (
-      c.add_convolutions.ensures.0 ∙ from_zero a.a.now a.b.now (a.k + 1),
-      c.add_convolutions.ensures.1 ∙ from_zero a.a.now a.b.now (a.k + 2),
-    )
+abbrev Start : Type 0
+Start = Lts.Start Tie.the-claims Reads.Pre Reads.Post Tie.handed_clauses
 
 -- with the first pair
 module _ (c : goal.After-multiply_add-pair) where
-  abbrev s : goal.Start
+  abbrev s : Start
   s = c.before.before.before.before.before
 
   abbrev a : List ℤ
@@ -58,10 +57,7 @@ module _ (c : goal.After-multiply_add-pair) where
   meet = omega arith
 
 pub add_convolutions-requires-then-from-a : goal.add_convolutions-requires-then-from-a
-add_convolutions-requires-then-from-a c = let it = let p = (s c).requires in (
-      (omega (arith, p), omega (arith, p), p.1),
-      ((omega (arith, first_small c, p.2), omega (arith, ap nat_abs (no_pair (x c) (pos 0) c.multiply_add-pair.result.second (pair_is c).1))), p.2),
-    ) in record { from_bound = it.0; below = it.1; }
+add_convolutions-requires-then-from-a c = let p = (s c).requires in record { from_bound = (omega (arith, p), omega (arith, p), p.1); below = ((omega (arith, first_small c, p.2), omega (arith, ap nat_abs (no_pair (x c) (pos 0) c.multiply_add-pair.result.second (pair_is c).1))), p.2); }
 pub returns-then-from-a : goal.returns-then-from-a
 returns-then-from-a c =
     let d = c.before in
@@ -74,5 +70,3 @@ pub returns : goal.returns
 returns c =
     let s = c.before.before in
     none_from s.args.a.now s.args.b.now s.args.k (s.args.k + 1 - length s.args.b.now) (omega arith) (omega arith)
-
-

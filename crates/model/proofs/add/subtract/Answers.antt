@@ -1,8 +1,7 @@
 -- `add::subtract` meets its contract.
-use Rattle.std.proofs.Common.{rules}
 use mathlib.Core.Path.{◌∙◌}
 use Rattle.model.proofs.laws.CombinationLaws.{subtraction_is}
 use Rattle.model.proofs.add.subtract.Goals as goal
 
 pub returns : goal.returns
-returns c = c.combine_models.ensures ∙ subtraction_is c.before.args.a c.before.args.b
+returns c = c.combine_models.ensures ∙ subtraction_is c.args.a c.args.b

@@ -1,24 +1,18 @@
 -- `area::write` meets its contract: the coefficients are copied into the part lent on, then the degree and the radius.
 use Rattle.std.proofs.Common.{rules}
-use borrow.Rule.Slice.PartMut.{put_mid, same_len_mid}
+use borrow.Rule.Slice.PartMut.{put_mid}
 use mathlib.Core.Path.{◌≡◌, ap, ◌∙◌}
 use mathlib.Core.List.{List, [], ◌∷◌, ◌++◌}
 use Prim.Native.Nat.{ℕ, zero, suc, ◌+◌}
 use native.Mathlib.Omega.{arith}
 use lib.IntN.{ℤ, pos}
-use lib.ListN.{length, set, drop, length-set, length-take, length-drop}
+use lib.ListN.{length, set, drop, length-drop}
 use mir.Syntax.{w32}
 use mir.Val.{SFits}
 use mir.Facts.{to_z-of_z}
 use mir.ValLaws.{to_z_pos}
 use Rattle.model.specs.definitions.Models.{coefficient_count}
 use Rattle.model.proofs.area.write.Goals as goal
-use Rattle.model.proofs.area.write.Lts
-use Rattle.model.proofs.area.write.Reads
-use Rattle.model.proofs.area.write.Tie
-
-abbrev Start : Type 0
-Start = Lts.Start Tie.the-claims Reads.Pre Reads.Post
 
 set-behind : (a b : List ℤ) (n k : ℕ) (v : ℤ) → n ≡ length a + k → set (a ++ b) n v ≡ a ++ set b k v
 set-behind [] b n k v e = ap (λ (j : ℕ). set b j v) (omega arith)
@@ -41,15 +35,10 @@ written (x ∷ o) cs d r l u n hc ho = go (drop n o) (rw length-drop (omega arit
     go (a ∷ b ∷ []) h = absurd (omega arith)
     go (a ∷ b ∷ c ∷ e ∷ t) h = absurd (omega arith)
 
-long : (c : Start) → length c.args.m.coefficients ≡ coefficient_count
-long c = search rules
-
 pub returns : goal.returns
 returns c =
-    let b = c.before.before.before.before.before.before in
-    let s = b.before.before.before.before in
-    let a = s.args in
+    let a = c.args in
     let lower : SFits w32 a.m.interval.lower = search rules in
     let upper : SFits w32 a.m.interval.upper = search rules in
-    rw (b.copy.ensures, to_z_pos w32 a.m.degree (omega arith), to_z_pos w32 a.m.radius (omega arith), to_z-of_z lower, to_z-of_z upper)
-    (written a.area-1.now a.m.coefficients (pos a.m.degree) (pos a.m.radius) a.m.interval.lower a.m.interval.upper coefficient_count (long s) (omega arith))
+    rw (c.copy.ensures, to_z_pos w32 a.m.degree (omega arith), to_z_pos w32 a.m.radius (omega arith), to_z-of_z lower, to_z-of_z upper)
+    (written a.area.now a.m.coefficients (pos a.m.degree) (pos a.m.radius) a.m.interval.lower a.m.interval.upper coefficient_count (search rules) (omega arith))

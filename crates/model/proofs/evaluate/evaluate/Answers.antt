@@ -48,7 +48,7 @@ module _ (c : Then-is_good) where
   s = c.before.before
 
   abbrev a : Model
-  a = s.args.t1
+  a = s.args.a
 
   abbrev p : ℤ
   p = s.args.p
@@ -84,7 +84,7 @@ module _ (m : After-map_point-mapped) where
 
 module _ (k : After-point_sums-sums) where
   abbrev m : After-map_point-mapped
-  m = k.before.before.before.before
+  m = k.before.before.before
 
   abbrev v : ℤ
   v = k.point_sums-sums.result.value
@@ -110,8 +110,8 @@ module _ (f : goal.After-floor) where
   fits-floor : SFits w64 f.floor.result
   fits-floor = record { sfits = f.floor.type_inv }
 
-  floor-is : f.floor.result ≡ floor (pos 4 *ℤ v k₁.before.before.before -ℤ pos (w k₁.before.before.before)) (2 ^ 32)
-  floor-is = let n = sums k₁.before.before.before in simp (to_z-of_z (fits_value n), to_z-of_z (fits_fourfold n), error_word n, to_z-of_z (fits_below n)) at f.floor.ensures
+  floor-is : f.floor.result ≡ floor (pos 4 *ℤ v k₁ -ℤ pos (w k₁)) (2 ^ 32)
+  floor-is = let n = sums k₁ in simp (to_z-of_z (fits_value n), to_z-of_z (fits_fourfold n), error_word n, to_z-of_z (fits_below n)) at f.floor.ensures
 
 module _ (u : goal.After-up) where
   abbrev k₂ : After-point_sums-sums
@@ -120,22 +120,22 @@ module _ (u : goal.After-up) where
   fits-up : SFits w64 u.up.result
   fits-up = record { sfits = u.up.type_inv }
 
-  up_is : u.up.result ≡ up (pos 4 *ℤ v k₂.before.before.before +ℤ pos (w k₂.before.before.before)) (2 ^ 32)
-  up_is = let n = sums k₂.before.before.before in simp (to_z-of_z (fits_value n), to_z-of_z (fits_fourfold n), error_word n, to_z-of_z (fits_above n)) at u.up.ensures
+  up_is : u.up.result ≡ up (pos 4 *ℤ v k₂ +ℤ pos (w k₂)) (2 ^ 32)
+  up_is = let n = sums k₂ in simp (to_z-of_z (fits_value n), to_z-of_z (fits_fourfold n), error_word n, to_z-of_z (fits_above n)) at u.up.ensures
 
 pub overflow_sub-low : goal.overflow_sub-low
-overflow_sub-low c = let n = sums (k₁ c.before.before.before.before.before.before.before) in simp (to_z-of_z (fits-floor c.before.before.before.before.before.before.before), radius_word n) (low n _ (floor-is c.before.before.before.before.before.before.before)).0
+overflow_sub-low c = let n = sums (k₁ c) in simp (to_z-of_z (fits-floor c), radius_word n) (low n _ (floor-is c)).0
 
 pub overflow_add-high : goal.overflow_add-high
-overflow_add-high c = let n = sums (k₂ c.before.before.before.before.before.before.before.before) in simp (to_z-of_z (fits-up c.before.before.before.before.before.before.before.before), radius_word n) (high n _ (up_is c.before.before.before.before.before.before.before.before)).0
+overflow_add-high c = let n = sums (k₂ c) in simp (to_z-of_z (fits-up c), radius_word n) (high n _ (up_is c)).0
 
 pub returns-then-contains : goal.returns-then-contains
 returns-then-contains u =
-    let n = sums (k₂ u.before.before.before.before.before.before.before.before) in
-    let (Fits-low, low-is) = low n _ (floor-is u.before.before.before.before.before.before.before.before) in
-    let (fits-high, high_is) = high n _ (up_is u.before.before.before.before.before.before.before.before) in
-    let c = c (m (k₂ u.before.before.before.before.before.before.before.before)) in
-    simp (to_z-of_z (fits-floor u.before.before.before.before.before.before.before.before), to_z-of_z (fits-up u.before.before.before.before.before.before.before.before), radius_word n, to_z-of_z Fits-low, to_z-of_z fits-high, evaluation_accepted (a c) (p c) (passed c) n.inside)
+    let n = sums (k₂ u) in
+    let (Fits-low, low-is) = low n _ (floor-is u.before) in
+    let (fits-high, high_is) = high n _ (up_is u) in
+    let c = c (m (k₂ u)) in
+    simp (to_z-of_z (fits-floor u.before), to_z-of_z (fits-up u), radius_word n, to_z-of_z Fits-low, to_z-of_z fits-high, evaluation_accepted (a c) (p c) (passed c) n.inside)
     (λ i. accepted (record { low = low-is i; high = high_is i }))
 
 pub returns-else-contains : goal.returns-else-contains
@@ -150,17 +150,17 @@ pub map_point-mapped-requires : goal.map_point-mapped-requires
 map_point-mapped-requires c = good_ends_lem (a c.before.before.before.before) (passed c.before.before.before.before)
 
 pub point_sums-sums-requires : goal.point_sums-sums-requires
-point_sums-sums-requires k = let m = k.before.before in
+point_sums-sums-requires k = let m = k.before.before.before in
     let x = c m in simp (to_z-of_z (fits-q m)) (evaluable (a x) (passed x) (p x) (q m) (inside m) (point_is m) (search rules))
 
 pub overflow_mul-value : goal.overflow_mul-value
-overflow_mul-value d = let n = summed d.before.before.before.before.before _ refl in simp (to_z-of_z (fits_value n)) (fits_fourfold n)
+overflow_mul-value d = let n = summed d.before.before.before _ refl in simp (to_z-of_z (fits_value n)) (fits_fourfold n)
 
 pub overflow_cast-error : goal.overflow_cast-error
-overflow_cast-error c = abs-fits w64 _ (omega (arith, error_small (sums c.before.before.before.before.before.before)))
+overflow_cast-error c = abs-fits w64 _ (omega (arith, error_small (sums c.before.before.before)))
 
 pub overflow_sub-value : goal.overflow_sub-value
-overflow_sub-value c = let n = sums c.before.before.before.before.before.before in simp (to_z-of_z (fits_value n), to_z-of_z (fits_fourfold n), error_word n) (fits_below n)
+overflow_sub-value c = let n = sums c.before.before.before in simp (to_z-of_z (fits_value n), to_z-of_z (fits_fourfold n), error_word n) (fits_below n)
 
 pub overflow_add-value : goal.overflow_add-value
-overflow_add-value c = let n = sums (k₁ c.before.before.before.before.before.before.before) in simp (to_z-of_z (fits_value n), to_z-of_z (fits_fourfold n), error_word n) (fits_above n)
+overflow_add-value c = let n = sums (k₁ c) in simp (to_z-of_z (fits_value n), to_z-of_z (fits_fourfold n), error_word n) (fits_above n)

@@ -123,16 +123,16 @@ near-point-requires c =
 pub returns : goal.returns
 unfolding maps_exactly
 returns c = let n = c.before in
-    let s = s₁ n.before.before.before in
-    let rest : c.magnitude-rest.result ≡ nat_abs (mapped_point s.args.i (p s) *ℤ pos (d n.before.before.before) -ℤ numerator n.before.before.before) =
-    (simp (to_z-of_z (fits-l s), to_z-of_z (fits-u s), to_z-of_z (fits-p s), to_z-of_z (fits_widens (fits-l s)), to_z-of_z (fits_widens (fits-u s)), to_z-of_z (fits_widens (fits-p s)), to_z-of_z (fits-twice s), to_z-of_z (fits-first s), to_z-of_z (fits-second s), to_z-of_z (fits-numerator s), to_z-of_z (fits-extent s), to_z-of_z (fits-q n.before.before.before), to_z-of_z (fits-product n.before.before.before), to_z-of_z (fits-rest n.before.before.before)) at c.magnitude-rest.ensures)
-    ∙ ap (λ z. nat_abs (z -ℤ numerator n.before.before.before)) (product_is n.before.before.before) in record { point_value = to_z-of_z (fits-q n.before.before.before) ∙ q_is n.before.before.before; exact_value = ap (λ (m : ℕ). eqb m 0) rest }
+    let s = s₁ n in
+    let rest : c.magnitude-rest.result ≡ nat_abs (mapped_point s.args.i (p s) *ℤ pos (d n) -ℤ numerator n) =
+    (simp (to_z-of_z (fits-l s), to_z-of_z (fits-u s), to_z-of_z (fits-p s), to_z-of_z (fits_widens (fits-l s)), to_z-of_z (fits_widens (fits-u s)), to_z-of_z (fits_widens (fits-p s)), to_z-of_z (fits-twice s), to_z-of_z (fits-first s), to_z-of_z (fits-second s), to_z-of_z (fits-numerator s), to_z-of_z (fits-extent s), to_z-of_z (fits-q n), to_z-of_z (fits-product n), to_z-of_z (fits-rest n)) at c.magnitude-rest.ensures)
+    ∙ ap (λ z. nat_abs (z -ℤ numerator n)) (product_is n) in record { point_value = to_z-of_z (fits-q n) ∙ q_is n; exact_value = ap (λ (m : ℕ). eqb m 0) rest }
 
 pub overflow_mul-numerator-2 : goal.overflow_mul-numerator-2
 overflow_mul-numerator-2 c = let s = c.before.before in simp (to_z-of_z (fits-p s), to_z-of_z (fits_widens (fits-p s)), to_z-of_z (fits-twice s), to_z-of_z (fits-l s), to_z-of_z (fits_widens (fits-l s)), to_z-of_z (fits-u s), to_z-of_z (fits_widens (fits-u s)), to_z-of_z (fits-first s), to_z-of_z (fits-second s)) (fits-numerator s)
 
 pub overflow_mul-point : goal.overflow_mul-point
-overflow_mul-point n = let s = s₁ n.before.before.before in simp (to_z-of_z (fits-l s), to_z-of_z (fits-u s), to_z-of_z (fits_widens (fits-l s)), to_z-of_z (fits_widens (fits-u s)), to_z-of_z (fits-extent s), to_z-of_z (fits-q n.before.before.before)) (fits-product n.before.before.before)
+overflow_mul-point n = let s = s₁ n in simp (to_z-of_z (fits-l s), to_z-of_z (fits-u s), to_z-of_z (fits_widens (fits-l s)), to_z-of_z (fits_widens (fits-u s)), to_z-of_z (fits-extent s), to_z-of_z (fits-q n)) (fits-product n)
 
 pub overflow_sub-point : goal.overflow_sub-point
-overflow_sub-point n = let s = s₁ n.before.before.before in simp (to_z-of_z (fits-l s), to_z-of_z (fits-u s), to_z-of_z (fits-p s), to_z-of_z (fits_widens (fits-l s)), to_z-of_z (fits_widens (fits-u s)), to_z-of_z (fits_widens (fits-p s)), to_z-of_z (fits-twice s), to_z-of_z (fits-first s), to_z-of_z (fits-second s), to_z-of_z (fits-numerator s), to_z-of_z (fits-extent s), to_z-of_z (fits-q n.before.before.before), to_z-of_z (fits-product n.before.before.before)) (fits-rest n.before.before.before)
+overflow_sub-point n = let s = s₁ n in simp (to_z-of_z (fits-l s), to_z-of_z (fits-u s), to_z-of_z (fits-p s), to_z-of_z (fits_widens (fits-l s)), to_z-of_z (fits_widens (fits-u s)), to_z-of_z (fits_widens (fits-p s)), to_z-of_z (fits-twice s), to_z-of_z (fits-first s), to_z-of_z (fits-second s), to_z-of_z (fits-numerator s), to_z-of_z (fits-extent s), to_z-of_z (fits-q n), to_z-of_z (fits-product n)) (fits-rest n)

@@ -81,9 +81,9 @@ module _ (c : goal.After-c-1) where
   x_is : x ≡ get_or (cs (s l)) (k l) (pos 0)
   x_is = sym (get_or-take (suc (s l).args.degree) (s l).args.coefficients.now (k l) (pos 0) (omega arith))
 
-  after : (m f.before.before : ℕ) (u : ℤ) → m ≡ nat_abs x → f ≡ error_factor (s l).args.exact (k l) → u ≡ near (pos 2 *ℤ p l *ℤ next l) scale
+  after : (m f : ℕ) (u : ℤ) → m ≡ nat_abs x → f ≡ error_factor (s l).args.exact (k l) → u ≡ near (pos 2 *ℤ p l *ℤ next l) scale
       → Walk (s l).args.exact (p l) (cs (s l)) (value l +ℤ x *ℤ t l) (l.loop-k.error + m * f) (next l) (u -ℤ t l) (k l + 1)
-  after m.before f u = turn x m.before f u (walk l) (omega (arith, length-cs (s l))) x_is
+  after m f u = turn x m f u (walk l) (omega (arith, length-cs (s l))) x_is
 
   fits : Turn (p l) (value l) (t l) (next l) x
   fits = turn_fits (s l).requires x (walk l) (omega (arith, length-cs (s l))) x_is
@@ -94,7 +94,7 @@ module _ (m : After-magnitude-size) where
 
 module _ (f : goal.After-error_factor) where
   error_small : let l = l f.before.before in l.loop-k.error + f.before.magnitude-size.result * f.error_factor.result < 2 ^ 50
-  error_small = let m = f.before in (bounded (s (l m.before)).requires (after m.before m.magnitude-size.result _ _ (x-abs m.before) f.error_factor.ensures refl)).error_small
+  error_small = let m = f.before in (bounded (s (l m.before)).requires (after m.before m.magnitude-size.result _ _ (x-abs m) f.error_factor.ensures refl)).error_small
 
 module _ (n : goal.After-near) where
   abbrev f : goal.After-error_factor
@@ -113,18 +113,19 @@ module _ (n : goal.After-near) where
   near-is = simp (to_z-of_z (fits-p (l c)), to_z-of_z (fits c).double_fits, to_z-of_z (fits c).numerator-fits) at n.near.ensures
 
   fits_after : SFits w64 (n.near.result -ℤ t (l c))
-  fits_after = abs-fits w64 (n.near.result -ℤ t (l c)) (omega (arith, (bounded (s (l c)).requires (after c _ _ _ (x-abs m.before) f.error_factor.ensures near-is)).next_small))
+  fits_after = abs-fits w64 (n.near.result -ℤ t (l c)) (omega (arith, (bounded (s (l c)).requires (after c _ _ _ (x-abs m) f.error_factor.ensures near-is)).next_small))
 
 pub loop-k-init : goal.loop-k-init
 loop-k-init c = simp (to_z-of_z c.ranges.p, to_z-of_z (fits-first c)) (refl, begins c.args.exact c.args.p (cs c))
 
 pub loop-k-preserved : goal.loop-k-preserved
 loop-k-preserved n =
-    let c = c n.before.before.before in
-    simp (to_z-of_z (fits-32 c), to_z-of_z (fits-64 c), to_z-of_z (fits c).term_fits, to_z-of_z (fits c).sum_fits, to_z-of_z (fits-p (l c)), to_z-of_z (fits-near n.before.before.before), to_z-of_z (fits_after n.before.before.before)) (refl, after c _ _ _ (x-abs (m n.before.before.before)) (f n.before.before.before).error-factor.ensures (near-is n.before.before.before))
+    let c = c n in
+    simp (to_z-of_z (fits-32 c), to_z-of_z (fits-64 c), to_z-of_z (fits c).term_fits, to_z-of_z (fits c).sum_fits, to_z-of_z (fits-p (l c)), to_z-of_z (fits-near n), to_z-of_z (fits_after n)) (refl, after c _ _ _ (x-abs (m n)) (f n).error_factor.ensures (near-is n))
 
 pub returns : goal.returns
-returns c = let it = ends (walk c.before) (omega (arith, length-cs (s c.before))) in record { value_value = it.0; error_value = it.1; }
+returns c = let it = ends (walk c.before) (omega (arith, length-cs (s c.before))) in record { value_value = it.0; error_value = it.1 }
+
 pub overflow_mul-value : goal.overflow_mul-value
 overflow_mul-value c = simp (to_z-of_z (fits-32 c), to_z-of_z (fits-64 c)) (fits c).term_fits
 
@@ -132,10 +133,10 @@ pub overflow_add-value : goal.overflow_add-value
 overflow_add-value c = simp (to_z-of_z (fits-32 c), to_z-of_z (fits-64 c), to_z-of_z (fits c).term_fits) (fits c).sum_fits
 
 pub overflow_add-error : goal.overflow_add-error
-overflow_add-error f = omega (arith, error_small f.before.before)
+overflow_add-error f = omega (arith, error_small f)
 
 pub overflow_mul-p-in-loop-k : goal.overflow_mul-p-in-loop-k
 overflow_mul-p-in-loop-k f = let c = f.before.before in simp (to_z-of_z (fits-p (l c)), to_z-of_z (fits c).double_fits) (fits c).numerator-fits
 
 pub overflow_sub-after : goal.overflow_sub-after
-overflow_sub-after n = simp (to_z-of_z (fits-near n.before.before.before)) (fits_after n.before.before.before)
+overflow_sub-after n = simp (to_z-of_z (fits-near n)) (fits_after n)

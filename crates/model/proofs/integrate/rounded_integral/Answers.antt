@@ -24,39 +24,13 @@ use Rattle.model.proofs.integrate.rounded_integral.Tie
 abbrev After-rounded_coefficient-c : Type 0
 After-rounded_coefficient-c = Lts.After-rounded_coefficient Tie.the-claims Reads.Pre Reads.Post goal.the-invariant-loop-k goal.the-decreases-loop-k Tie.handed_clauses
 
-abbrev At-loop-k : Type 0
-At-loop-k = Lts.At-loop Tie.the-claims Reads.Pre Reads.Post goal.the-invariant-loop-k goal.the-decreases-loop-k Tie.handed_clauses
-
-module _ (s : goal.Start) where
-  abbrev ds : List ℤ
-  ds = take (suc s.args.degree) s.args.doubled.now
-
-  abbrev d : ℕ
-  d = s.args.extent
-
-module _ (l : At-loop-k) where
-  abbrev s : goal.Start
-  s = l.before
-
-  abbrev k : ℕ
-  k = l.loop-k.k
-
-  abbrev first : ℤ
-  first = to_z w64 l.loop-k.first-bits
-
-  abbrev above : ℤ
-  above = to_z w64 l.loop-k.above-bits
-
-  walk : Walk (d s) (ds s) l.loop-k.coefficients l.loop-k.weight first above (to_z w64 l.loop-k.here-bits) k
-  walk = l.loop-k.invariant.1
-
 -- a turn: the number below
 module _ (b : goal.After-below-1) where
-  abbrev l : At-loop-k
-  l = b.before.before
-
   abbrev below : ℤ
-  below = get_or (s l.before).args.doubled.now (k l.before - 1) (pos 0)
+  below = get_or b.args.doubled.now (b.loop-k.k - 1) (pos 0)
+
+  abbrev above : ℤ
+  above = to_z w64 b.loop-k.above-bits
 
   fits-32 : SFits w32 below
   fits-32 = record { sfits = b.below-1.given }
@@ -69,76 +43,69 @@ module _ (n : After-rounded_coefficient-c) where
   abbrev b : goal.After-below-1
   b = n.before
 
-  abbrev at : At-loop-k
-  at = l b
-
   abbrev c : ℤ
   c = n.rounded_coefficient-c.result
+
+  abbrev first : ℤ
+  first = to_z w64 n.loop-k.first-bits
 
   fits_c : SFits w64 c
   fits_c = record { sfits = n.rounded_coefficient-c.type_inv }
 
-  c_is : c ≡ near ((below b -ℤ above at.before) *ℤ pos (d (s at.before))) (4 * scale * k at.before)
+  c_is : c ≡ near ((below b -ℤ above b) *ℤ pos n.args.extent) (4 * scale * n.loop-k.k)
   c_is = simp (to_z-of_z (fits-32 b), to_z-of_z (fits-64 b)) at n.rounded_coefficient-c.ensures
 
-  after : (m : ℕ) (out : List ℤ) → m ≡ nat_abs c → (at.loop-k.weight + m ≤ max_weight → out ≡ set at.loop-k.coefficients (k at.before) c)
-      → Walk (d (s at.before)) (ds (s at.before)) out (at.loop-k.weight + m) (c -ℤ first at.before) (to_z w64 at.loop-k.here-bits) (below b) (k at.before - 1)
-  after m out = turn (k at.before - 1) (below b) c m out (walk at.before) (omega arith) (below_is (s at.before).requires (walk at.before) (omega arith)) c_is
+  after : (m : ℕ) (out : List ℤ) → m ≡ nat_abs c → (n.loop-k.weight + m ≤ max_weight → out ≡ set n.loop-k.coefficients n.loop-k.k c)
+      → Walk n.args.extent (take (suc n.args.degree) n.args.doubled.now) out (n.loop-k.weight + m) (c -ℤ first) (to_z w64 n.loop-k.here-bits) (below b) (n.loop-k.k - 1)
+  after m out = turn (n.loop-k.k - 1) (below b) c m out n.loop-k.invariant.1 (omega arith) (below_is n.requires n.loop-k.invariant.1 (omega arith)) c_is
 
-  fits-first : SFits w64 (c -ℤ first at.before)
-  fits-first = abs-fits w64 (c -ℤ first at.before) (omega (arith, (bounded (s at.before).requires (after (nat_abs c) _ refl (λ _. refl))).first_small))
+  fits-first : SFits w64 (c -ℤ first)
+  fits-first = abs-fits w64 (c -ℤ first) (omega (arith, (bounded n.requires (after (nat_abs c) _ refl (λ _. refl))).first_small))
 
 module _ (m : goal.After-magnitude-size) where
-  size_is : m.magnitude-size.result ≡ nat_abs (c m.before)
-  size_is = simp (to_z-of_z (fits_c m.before)) at m.magnitude-size.ensures
+  abbrev n : After-rounded_coefficient-c
+  n = m.before
 
-  total_small : (at m.before).loop-k.weight + m.magnitude-size.result ≤ 2 ^ 59
-  total_small = (bounded (s (at m.before)).requires (after m.before m.magnitude-size.result _ size_is (λ _. refl))).total_small
-
-  -- on an extent up to 4S the coefficient fits 32 bits
-  size-narrow : ltb (4 * scale) (d (s (at m.before))) ≡ false → m.magnitude-size.result ≤ 2 ^ 30
-  size-narrow h =
-      let n = m.before in
-      omega (arith, size_is, ap nat_abs (c_is n), coefficient_narrow (numerator (s (at n)).requires (walk (at n)) (omega arith)) (ltb-false (4 * scale) (d (s (at n))) h))
+  size_is : m.magnitude-size.result ≡ nat_abs (c n)
+  size_is = simp (to_z-of_z (fits_c n)) at m.magnitude-size.ensures
 
 pub loop-k-init : goal.loop-k-init
-loop-k-init c = (refl, begins (d c) (ds c) (c.args.degree + 1) (length_list c.requires) (omega (arith, c.requires)))
+loop-k-init c = (refl, begins c.args.extent (take (suc c.args.degree) c.args.doubled.now) (c.args.degree + 1) (length_list c.requires) (omega (arith, c.requires)))
 
 pub rounded_coefficient-c-requires : goal.rounded_coefficient-c-requires
-rounded_coefficient-c-requires b = simp (to_z-of_z (fits-32 b), to_z-of_z (fits-64 b)) (numerator (s (l b)).requires (walk (l b)) (omega arith))
-
-pub narrowed-requires : goal.narrowed-requires
-narrowed-requires m = let it = let n = m.before in simp (to_z-of_z (fits_c n)) (size_is m.before, λ h. size-narrow m.before (sym (at n).loop-k.invariant.0 ∙ h)) in record { size_value = it.0; size_bound = it.1 }
-
-pub loop-k-preserved : goal.loop-k-preserved
-loop-k-preserved t =
-    let m = t.before in
-    let n = m.before in
-    let b = b n in
-    let stored = simp (to_z-of_z (fits_c n)) at t.narrowed.ensures in
-    let fits-stored : SFits w32 t.narrowed.result = record { sfits = t.narrowed.type_inv } in
-    simp (to_z-of_z fits-stored, to_z-of_z (fits_c n), to_z-of_z (fits-first n), to_z-of_z (fits-32 b), to_z-of_z (fits-64 b))
-    ((at n).loop-k.invariant.0, after n m.magnitude-size.result _ (size_is m.before) (λ h. ap (set (at n).loop-k.coefficients (k (at n))) (stored (omega arith))))
-
-module _ (m : goal.After-magnitude-weight) where
-  abbrev last : At-loop-k
-  last = m.before.before
-
-  last-narrows : last.loop-k.weight + m.magnitude-weight.result ≤ max_weight → SFits w32 (first last.before)
-  last-narrows = narrow (first last.before) _ _ m.magnitude-weight.ensures
-
-pub returns-then-weight-le-MAX_WEIGHT : goal.returns-then-weight-le-MAX_WEIGHT
-returns-then-weight-le-MAX_WEIGHT t = let it = let m = t.before in
-    simp (to_z-of_z (last-narrows m t.if-weight-le-MAX_WEIGHT.true)) (ends m.magnitude-weight.result _ (walk (last m)) (omega arith) m.magnitude-weight.ensures (λ _. refl)) in record { weight_value = it.0; coefficients_value = it.1 }
-
-pub returns-else-weight-le-MAX_WEIGHT : goal.returns-else-weight-le-MAX_WEIGHT
-returns-else-weight-le-MAX_WEIGHT t = let m = t.before in record { weight_value = (ends m.magnitude-weight.result (set (last m).loop-k.coefficients 0 (first (last m))) (walk (last m)) (omega arith) m.magnitude-weight.ensures (λ _. refl)).0; coefficients_value = λ h. absurd (omega (arith, t.if-weight-le-MAX_WEIGHT.false)) }
+rounded_coefficient-c-requires b = simp (to_z-of_z (fits-32 b), to_z-of_z (fits-64 b)) (numerator b.requires b.loop-k.invariant.1 (omega arith))
 
 pub overflow_add-weight : goal.overflow_add-weight
-overflow_add-weight m = omega (arith, total_small m.before)
+overflow_add-weight m = omega (arith, (bounded m.requires (after (n m) m.magnitude-size.result _ (size_is m) (λ _. refl))).total_small)
+
+-- on an extent up to 4S the coefficient fits 32 bits
+pub narrowed-requires-clause-size_bound : goal.narrowed-requires-clause-size_bound
+narrowed-requires-clause-size_bound m h =
+    omega (arith, size_is m, ap nat_abs (c_is (n m)), coefficient_narrow (numerator m.requires m.loop-k.invariant.1 (omega arith)) (ltb-false (4 * scale) m.args.extent h))
 
 pub overflow_sub-first : goal.overflow_sub-first
 overflow_sub-first t = simp (to_z-of_z (fits_c t.before.before)) (fits-first t.before.before)
 
+pub loop-k-preserved : goal.loop-k-preserved
+loop-k-preserved t =
+    let n = t.before.before in
+    let b = b n in
+    let stored = simp (to_z-of_z (fits_c n)) at t.narrowed.ensures in
+    let fits-stored : SFits w32 t.narrowed.result = record { sfits = t.narrowed.type_inv } in
+    simp (to_z-of_z fits-stored, to_z-of_z (fits_c n), to_z-of_z (fits-first n), to_z-of_z (fits-32 b), to_z-of_z (fits-64 b))
+    (t.loop-k.invariant.0, after n t.magnitude-size.result _ (size_is t.before) (λ h. ap (set t.loop-k.coefficients t.loop-k.k) (stored (omega arith))))
+
 pub overflow_add-weight-2 : goal.overflow_add-weight-2
-overflow_add-weight-2 m = omega (arith, bounded (s (last m)).requires (walk (last m)), m.magnitude-weight.ensures)
+overflow_add-weight-2 m = omega (arith, bounded m.requires m.loop-k.invariant.1, m.magnitude-weight.ensures)
+
+pub returns-then-weight-le-MAX_WEIGHT-clause-weight_value : goal.returns-then-weight-le-MAX_WEIGHT-clause-weight_value
+returns-then-weight-le-MAX_WEIGHT-clause-weight_value t = (ends t.magnitude-weight.result _ t.loop-k.invariant.1 (omega arith) t.magnitude-weight.ensures (λ _. refl)).0
+
+pub returns-then-weight-le-MAX_WEIGHT-clause-coefficients_value : goal.returns-then-weight-le-MAX_WEIGHT-clause-coefficients_value
+returns-then-weight-le-MAX_WEIGHT-clause-coefficients_value t =
+    let fits-first : SFits w32 (to_z w64 t.loop-k.first-bits) = narrow (to_z w64 t.loop-k.first-bits) t.loop-k.weight t.magnitude-weight.result t.magnitude-weight.ensures t.if-weight-le-MAX_WEIGHT.true in
+    simp (to_z-of_z fits-first) ((ends t.magnitude-weight.result _ t.loop-k.invariant.1 (omega arith) t.magnitude-weight.ensures (λ _. refl)).1)
+
+pub returns-else-weight-le-MAX_WEIGHT-clause-weight_value : goal.returns-else-weight-le-MAX_WEIGHT-clause-weight_value
+returns-else-weight-le-MAX_WEIGHT-clause-weight_value t =
+    (ends t.magnitude-weight.result (set t.loop-k.coefficients 0 (to_z w64 t.loop-k.first-bits)) t.loop-k.invariant.1 (omega arith) t.magnitude-weight.ensures (λ _. refl)).0

@@ -1,10 +1,10 @@
 -- `measure::measure_parts` meets its contract. The loop's invariant in rest form: what is summed and what is left of the
 -- weight, of all coefficients and of those beyond the degree n, is the whole of it.
 use mathlib.Core.Path.{◌≡◌, refl, ap}
-use mathlib.Core.Logic.{⊎_elim}
 use mathlib.Core.List.{List}
-use Prim.Native.Nat.{ℕ, suc, ◌+◌, ◌-◌, ◌*◌, ◌^◌, ◌<◌, ◌≤◌, max}
+use Prim.Native.Nat.{ℕ, suc, ◌+◌, ◌^◌, ◌<◌, ◌≤◌, max}
 use native.Mathlib.Omega.{arith}
+use Rattle.std.proofs.Common.{rules}
 use lib.Dec.{eqb}
 use lib.IntN.{ℤ, pos, nat_abs}
 use lib.ListN.{length, get_or, drop}
@@ -13,12 +13,13 @@ use mir.Syntax.{w32}
 use mir.Val.{SFits}
 use mir.Facts.{to_z-of_z}
 use Rattle.ring.specs.laws.Parts.{abs}
-use Rattle.integer.proofs.laws.Machine.{signed_needs, within, fits_widens}
+use Rattle.integer.proofs.laws.Machine.{within, fits_widens}
 use Rattle.chebyshev.specs.definitions.Coefficients.{weight}
 use Rattle.chebyshev.proofs.laws.Weight.{weight_step, weight_end}
 use Rattle.model.specs.definitions.Models.{parts_within_limits}
 use Rattle.model.proofs.measure.measure_parts.Invariants.{left-beyond}
 use Rattle.model.proofs.measure.measure_parts.Goals as goal
+use Rattle.model.proofs.measure.measure_parts.Goals.{then-n-i, else-n-i}
 use Rattle.model.proofs.measure.measure_parts.Lts
 use Rattle.model.proofs.measure.measure_parts.Reads
 use Rattle.model.proofs.measure.measure_parts.Tie
@@ -59,7 +60,7 @@ module _ (c : After-magnitude-size) where
   x = get_or (cs l) (i l) (pos 0)
 
   fits-x : SFits w32 x
-  fits-x = record { sfits = c.before.magnitude-arg-1.given }
+  fits-x = search rules
 
   size_is : c.magnitude-size.result ≡ nat_abs x
   size_is = simp (to_z-of_z fits-x, to_z-of_z (fits_widens fits-x)) at c.magnitude-size.ensures
@@ -70,13 +71,15 @@ module _ (c : After-magnitude-size) where
 pub loop-i-preserved : goal.loop-i-preserved
 loop-i-preserved j =
     let c = j.before in
-    let l = l c.before.before.before in
+    let l = l c in
     let h : i l < length (cs l) = omega (arith, l.before.requires) in
     let t = weight_step (cs l) (i l) h in
-    ⊎_elim
-    (λ w. omega (arith, size_is c.before.before.before, size_small c.before.before.before, beyond-degree (n l) (i l) (cs l) h w.0.true))
-    (λ w. omega (arith, size_is c.before.before.before, size_small c.before.before.before, within-degree (n l) (i l) (cs l) w.0.false))
-    j.if-n-i.branch
+    let s = size_is c in
+    let b = size_small c in
+    elim j.if-n-i.branch [
+      | then-n-i w ↦ omega (arith, s, b, t, beyond-degree (n l) (i l) (cs l) h w.if-n-i.true)
+      | else-n-i w ↦ omega (arith, s, b, t, within-degree (n l) (i l) (cs l) w.if-n-i.false)
+    ]
 
 -- after the loop
 module _ (c : After-loop-i) where
@@ -93,15 +96,19 @@ module _ (c : After-loop-i) where
 
 pub returns-then-total-le-MAX_WEIGHT : goal.returns-then-total-le-MAX_WEIGHT
 unfolding parts_within_limits
-returns-then-total-le-MAX_WEIGHT k = let it = let c = k.before.before in
+returns-then-total-le-MAX_WEIGHT k =
+    let c = k.before.before in
     rw (le-leb (n (e c)) 32 (omega arith), le-leb (weight (cs (e c))) 268435456 (omega (arith, total_is c)))
-    (ap (λ (b : ℕ). eqb b 0) (beyond-is c), total_is c) in record { good_value = it.0; weight_value = it.1 }
+    (record { good_value = ap (λ (b : ℕ). eqb b 0) (beyond-is c); weight_value = total_is c })
 
 pub returns-else-total-le-MAX_WEIGHT : goal.returns-else-total-le-MAX_WEIGHT
 unfolding parts_within_limits
-returns-else-total-le-MAX_WEIGHT k = let it = let c = k.before.before in
-    rw (le-leb (n (e c)) 32 (omega arith), lt-leb (weight (cs (e c))) 268435456 (omega (arith, total_is c))) (refl, total_is c) in record { good_value = it.0; weight_value = it.1 }
+returns-else-total-le-MAX_WEIGHT k =
+    let c = k.before.before in
+    rw (le-leb (n (e c)) 32 (omega arith), lt-leb (weight (cs (e c))) 268435456 (omega (arith, total_is c)))
+    (record { good_value = refl; weight_value = total_is c })
 
 pub returns-else-degree-le-MAX_DEGREE : goal.returns-else-degree-le-MAX_DEGREE
 unfolding parts_within_limits
-returns-else-degree-le-MAX_DEGREE k = let it = rw (lt-leb (n (e k.before)) 32 (omega arith)) (refl, total_is k.before) in record { good_value = it.0; weight_value = it.1 }
+returns-else-degree-le-MAX_DEGREE k =
+    rw (lt-leb (n (e k.before)) 32 (omega arith)) (record { good_value = refl; weight_value = total_is k.before })

@@ -1,22 +1,11 @@
 -- `measure::measure_parts` meets its contract. The loop's invariant in rest form: what is summed and what is left of the
 -- weight, of all coefficients and of those beyond the degree n, is the whole of it.
-use mathlib.Core.Path.{◌≡◌, refl, ap}
-use mathlib.Core.Logic.{⊎_elim}
+use mathlib.Core.Path.{◌≡◌}
 use mathlib.Core.List.{List}
-use Prim.Native.Nat.{ℕ, suc, ◌+◌, ◌-◌, ◌*◌, ◌^◌, ◌<◌, ◌≤◌, max}
-use native.Mathlib.Omega.{arith}
-use lib.Dec.{eqb}
-use lib.IntN.{ℤ, pos, nat_abs}
-use lib.ListN.{length, get_or, drop}
-use borrow.Author.Tests.{le-leb, lt-leb}
-use mir.Syntax.{w32}
-use mir.Val.{SFits}
-use mir.Facts.{to_z-of_z}
-use Rattle.ring.specs.laws.Parts.{abs}
-use Rattle.integer.proofs.laws.Machine.{signed_needs, within, fits_widens}
+use Prim.Native.Nat.{ℕ, suc, ◌+◌, ◌-◌, ◌*◌, ◌^◌, ◌≤◌, max}
+use lib.IntN.{ℤ}
+use lib.ListN.{drop}
 use Rattle.chebyshev.specs.definitions.Coefficients.{weight}
-use Rattle.chebyshev.proofs.laws.Weight.{weight_step, weight_end}
-use Rattle.model.specs.definitions.Models.{parts_within_limits}
 use Rattle.model.proofs.measure.measure_parts.Given as goal
 
 -- what is left at i of the weight beyond n

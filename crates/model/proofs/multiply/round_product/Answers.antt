@@ -75,4 +75,10 @@ returns c =
     record { list = C s; walk_is = λ t. (C s, (p.add_products-visits.ensures.result_after t).1); rounded_from = f }
 
 pub add_products-visits-requires : goal.add_products-visits-requires
-add_products-visits-requires c = let it = omega (arith, weight-zeros 65, weights c.before, lengths c.before, c.before.requires) in record { b_len_bound = it.0; b_bound = it.1; b_len_bound_2 = it.2 }
+add_products-visits-requires c =
+    let s = c.before in
+    record {
+      b_len_bound = omega (arith, lengths s, s.requires);
+      b_bound = omega (arith, weight-zeros 65, weights s, lengths s, s.requires);
+      b_len_bound_2 = omega (arith, weight-zeros 65, weights s, lengths s, s.requires);
+    }

@@ -17,6 +17,7 @@ use Rattle.chebyshev.proofs.laws.Weight.{weight_at, weight-drop, weight_split}
 use Rattle.model.specs.definitions.Models.{max_weight}
 use Rattle.model.proofs.laws.RoundingPassLaws.{rounded_at, loss_at, loss_small, product_small}
 use Rattle.model.proofs.RoundingWalk.{Walk, begins, turn, ends, small}
+use Rattle.model.proofs.round.round.Goals.{then-weight-le-MAX_WEIGHT, else-weight-le-MAX_WEIGHT}
 use Rattle.model.proofs.round.round.Goals as goal
 use Rattle.model.proofs.round.round.Lts
 use Rattle.model.proofs.round.round.Reads
@@ -130,7 +131,10 @@ pub loop-k-preserved : goal.loop-k-preserved
 loop-k-preserved j =
     let r = j.before in
     after (c r) r.magnitude-weight.result r.before.magnitude-loss.result j.if-weight-le-MAX_WEIGHT.coefficients (size_is r) (lost r.before)
-    (λ h. ⊎_elim (λ w. w.1 ∙ simp (to_z-of_z (fits-q (c r)), to_z-of_z (narrows r h))) (λ w. absurd (omega (arith, w.0))) j.if-weight-le-MAX_WEIGHT.branch)
+    (λ h. elim j.if-weight-le-MAX_WEIGHT.branch [
+      | then-weight-le-MAX_WEIGHT w ↦ w.coefficients-is ∙ simp (to_z-of_z (fits-q (c r)), to_z-of_z (narrows r h))
+      | else-weight-le-MAX_WEIGHT w ↦ absurd (omega (arith, w.if-weight-le-MAX_WEIGHT.false))
+    ])
 
 pub returns : goal.returns
 returns c =

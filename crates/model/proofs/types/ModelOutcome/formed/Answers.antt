@@ -1,8 +1,6 @@
 -- `ModelOutcome::formed` meets its contract: the tests are those of refusal 3.
-use Rattle.std.proofs.Common.{rules}
 use borrow.Author.Tests.{lt-ltb, le-ltb}
 use mathlib.Core.Path.{◌≡◌, ap}
-use mathlib.Core.Logic.{⊎_elim}
 use mathlib.Core.Bool.{true, ◌||◌, or-true}
 use native.Mathlib.Omega.{arith}
 use lib.Dec.{ltb}
@@ -10,29 +8,24 @@ use Rattle.model.specs.definitions.InnerContracts.{formed_outcome}
 use Rattle.model.specs.definitions.Models.{max_degree, max_weight, max_radius}
 use Rattle.model.specs.definitions.Outcomes.{accepted, passing}
 use Rattle.model.proofs.types.ModelOutcome.formed.Goals as goal
-use Rattle.model.proofs.types.ModelOutcome.formed.Lts
-use Rattle.model.proofs.types.ModelOutcome.formed.Reads
-use Rattle.model.proofs.types.ModelOutcome.formed.Tie
-
-abbrev Joined-weight-le-MAX_WEIGHT : Type 0
-Joined-weight-le-MAX_WEIGHT = Lts.Joined1 Tie.the-claims Reads.Pre Reads.Post
+use Rattle.model.proofs.types.ModelOutcome.formed.Goals.{then-weight-le-MAX_WEIGHT+then-radius-le-MAX_RADIUS+else-degree-le-MAX_DEGREE, then-weight-le-MAX_WEIGHT+else-radius-le-MAX_RADIUS, else-weight-le-MAX_WEIGHT}
 
 pub returns-then-degree-le-MAX_DEGREE : goal.returns-then-degree-le-MAX_DEGREE
 unfolding formed_outcome passing
 returns-then-degree-le-MAX_DEGREE c =
-    let a = c.before.before.before.before.args in
+    let a = c.args in
     rw (le-ltb max_weight a.weight (omega arith), le-ltb max_radius a.radius (omega arith), le-ltb max_degree a.degree (omega arith))
-    (ap accepted c.new.ensures)
+    (ap accepted c.new-model.ensures)
 
 -- a test that fails is one that refuses
-large : (c : Joined-weight-le-MAX_WEIGHT) → (ltb max_weight c.before.args.weight || (ltb max_radius c.before.args.radius || ltb max_degree c.before.args.degree)) ≡ true
-large c =
-    let a = c.before.args in
-    ⊎_elim
-    (λ w. simp (lt-ltb max_degree a.degree w.2.false, or-true))
-    (⊎_elim (λ w. simp (lt-ltb max_radius a.radius w.1.false, or-true)) (λ w. rw (lt-ltb max_weight a.weight w.false)))
-    c.if-weight-le-MAX_WEIGHT.branch
-
 pub returns : goal.returns
 unfolding formed_outcome passing
-returns c = rw (c.refused.ensures, large c.before)
+returns c =
+    let a = c.args in
+    let large : (ltb max_weight a.weight || (ltb max_radius a.radius || ltb max_degree a.degree)) ≡ true =
+    elim c.if-weight-le-MAX_WEIGHT.branch [
+      | then-weight-le-MAX_WEIGHT+then-radius-le-MAX_RADIUS+else-degree-le-MAX_DEGREE w ↦ simp (lt-ltb max_degree a.degree w.if-degree-le-MAX_DEGREE.false, or-true)
+      | then-weight-le-MAX_WEIGHT+else-radius-le-MAX_RADIUS w ↦ simp (lt-ltb max_radius a.radius w.if-radius-le-MAX_RADIUS.false, or-true)
+      | else-weight-le-MAX_WEIGHT w ↦ rw (lt-ltb max_weight a.weight w.if-weight-le-MAX_WEIGHT.false)
+    ] in
+    rw (c.refused.ensures, large)

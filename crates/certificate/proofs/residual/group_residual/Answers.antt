@@ -1,0 +1,87 @@
+-- `residual::group_residual` meets its contract.
+use Rattle.std.proofs.Common.{rules}
+use mathlib.Core.Path.{◌≡◌, sym, ◌∙◌, ap, ap₂}
+use mathlib.Core.List.{List}
+use Prim.Native.Nat.{ℕ, ◌+◌, ◌*◌, ◌-◌, ◌^◌, ◌≤◌, ◌<◌, min}
+use native.Mathlib.Omega.{arith}
+use lib.IntN.{ℤ}
+use lib.ListN.{length, drop, length-take}
+use Rattle.ring.specs.definitions.Integer.{ℤ_ring}
+use Rattle.chebyshev.specs.definitions.Coefficients.{weight}
+use Rattle.chebyshev.proofs.laws.Weight.{weight-take, weight-drop}
+use Rattle.chebyshev.specs.definitions.Product.{product}
+use Rattle.chebyshev.specs.definitions.TwoSums.{places_from}
+use Rattle.chebyshev.proofs.laws.Tabulated.{product-group}
+use Rattle.chebyshev.proofs.laws.ProductWeight.{weight-product}
+use Rattle.model.specs.definitions.Models.{scale, product_size}
+use Rattle.certificate.specs.definitions.Groups.{group}
+use Rattle.certificate.specs.definitions.InnerContracts.{residual_list}
+use Rattle.certificate.proofs.laws.ResidualLaws.{weight_residual}
+use Rattle.certificate.proofs.residual.group_residual.Goals as goal
+use Rattle.certificate.proofs.residual.group_residual.Lts
+use Rattle.certificate.proofs.residual.group_residual.Reads
+use Rattle.certificate.proofs.residual.group_residual.Tie
+
+abbrev Start : Type 0
+Start = Lts.Start Tie.the-claims Reads.Pre Reads.Post
+
+weight-group : (n start : ℕ) (l : List ℤ) → weight (group n start l) ≤ weight l
+weight-group n start l = omega (arith, weight-take n (drop start l), weight-drop start l)
+
+module _ (c : goal.After-window) where
+  abbrev s : Start
+  s = c.before.before.before.before.before
+
+  abbrev n : ℕ
+  n = length s.args.part.now
+
+  -- the group of C
+  abbrev G : List ℤ
+  G = c.form.new.part
+
+  -- and what is subtracted from it
+  abbrev own : List ℤ
+  own = c.window.result.now
+
+  G-is : G ≡ group n s.args.start (product ℤ_ring product_size s.args.a.now s.args.b.now)
+  G-is =
+      let e : min n (product_size - s.args.start) ≡ n = omega (arith, s.requires.2) in
+      c.form.ensures
+      ∙ sym (product-group ℤ_ring product_size n s.args.start s.args.a.now s.args.b.now
+      ∙ ap (λ (m : ℕ). places_from ℤ_ring m s.args.start s.args.a.now s.args.b.now) e)
+
+  length-G : length G ≡ n
+  length-G = c.form.auto.part
+
+  own_is : own ≡ group n s.args.start s.args.f.now
+  own_is = c.window.ensures ∙ ap (λ (m : ℕ). group m s.args.start s.args.f.now) length-G
+
+  own-short : length own ≤ length G
+  own-short = omega (arith, ap length own_is, length-take n (drop s.args.start s.args.f.now), length-G)
+
+  weights : weight G + 2 * scale * weight own < 2 ^ 63
+  weights =
+      let p = product ℤ_ring product_size s.args.a.now s.args.b.now in
+      omega (
+        arith,
+        ap weight G-is,
+        weight-group n s.args.start p,
+        weight-product product_size s.args.a.now s.args.b.now,
+        s.requires.0.weights,
+        ap weight own_is,
+        weight-group n s.args.start s.args.f.now,
+        s.requires.1.weight-fits,
+      )
+
+pub weight-requires : goal.weight-requires
+weight-requires c =
+    let d = c.before.before in omega (arith, ap weight c.subtract.ensures, weight_residual (G d) (own d), weights d)
+
+pub returns : goal.returns
+returns c =
+    let d = c.before.before.before in
+    let w = d in
+    c.weight.ensures ∙ ap weight (c.subtract.ensures ∙ ap₂ residual_list (G-is w) (own_is w))
+
+pub subtract-requires : goal.subtract-requires
+subtract-requires c = (own-short c, weights c)

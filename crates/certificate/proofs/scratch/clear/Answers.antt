@@ -1,0 +1,14 @@
+-- `scratch::clear` meets its contract.
+use Rattle.std.proofs.Common.{rules}
+use mathlib.Core.Path.{refl}
+use Prim.Native.Nat.{◌-◌}
+use native.Mathlib.Omega.{arith}
+use lib.ListN.{length}
+use Rattle.integer.proofs.laws.Clearing.{Clearing, clearing_begins, clearing_turn, clearing_ends}
+use Rattle.certificate.proofs.scratch.clear.Goals as goal
+
+pub loop-i-init : goal.loop-i-init
+loop-i-init c = clearing_begins _ _ (omega arith)
+
+pub loop-i-preserved : goal.loop-i-preserved
+loop-i-preserved c = clearing_turn c.loop-i.invariant (omega arith)

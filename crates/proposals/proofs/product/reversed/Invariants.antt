@@ -1,0 +1,17 @@
+-- `product::reversed` meets its contract.
+use Rattle.std.proofs.Common.{rules}
+use mathlib.Core.Path.{◌≡◌, refl, sym}
+use mathlib.Core.List.{reverse}
+use Prim.Native.Nat.{◌-◌}
+use native.Mathlib.Omega.{arith}
+use lib.ListN.{length, get_or, replicate, length-reverse}
+use lib.Ieee.{nan, binary64, of_bits}
+use Rattle.integer.proofs.laws.Filling.{Filling, begins, turn, whole}
+use Rattle.proposals.proofs.Reversal.{get_d_reverse}
+use Rattle.proposals.proofs.product.reversed.Given as goal
+
+abbrev pub invariant-loop-k : goal.invariant-loop-k
+invariant-loop-k l = Filling (reverse l.b) (replicate 33 (of_bits binary64 0)) l.back 0 33 l.k
+
+abbrev pub decreases-loop-k : goal.decreases-loop-k
+decreases-loop-k l = 33 - l.k

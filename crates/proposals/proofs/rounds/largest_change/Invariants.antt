@@ -1,0 +1,17 @@
+-- `rounds::largest_change` meets its contract: the places that are left give the rest of the change.
+use Rattle.std.proofs.Common.{rules}
+use mathlib.Core.Path.{◌≡◌, sym, ◌∙◌}
+use Prim.Native.Nat.{◌-◌, ◌≤◌}
+use native.Mathlib.Omega.{arith}
+use lib.ListN.{length, drop}
+use Rattle.proposals.specs.definitions.Values.{nought}
+use Rattle.proposals.specs.definitions.Rounds.{change_from}
+use Rattle.proposals.proofs.laws.ValueLaws.{nought_is}
+use Rattle.proposals.proofs.laws.RoundsLaws.{change_again, change_end}
+use Rattle.proposals.proofs.rounds.largest_change.Given as goal
+
+abbrev pub invariant-loop-k : goal.invariant-loop-k
+invariant-loop-k l = (l.k ≤ 33) × (change_from l.change (drop l.k l.a) (drop l.k l.b) ≡ change_from nought l.a l.b)
+
+abbrev pub decreases-loop-k : goal.decreases-loop-k
+decreases-loop-k l = 33 - l.k
