@@ -7,7 +7,7 @@
 PREFIX ?= /usr/local
 DESTDIR ?=
 
-# The library as scripts/build_library leaves it; it is installed as libferruntzo.a.
+# The library and the program as scripts/build_library and scripts/build_program leave them.
 LIBRARY ?= target/staticlib/libferruntzo.a
 PROGRAM ?= target/bin/jobcheck
 PYTHON ?= python3
@@ -16,7 +16,7 @@ VERSION := $(shell sed -n 's/^\#define FERRUNTZO_VERSION "\(.*\)"/\1/p' include/
 MAJOR := $(firstword $(subst ., ,$(VERSION)))
 # The shared library, which scripts/link_shared links from the static one.
 SHARED ?= target/staticlib/libferruntzo.so.$(VERSION)
-SOURCES := crates.txt $(shell find crates -name '*.rt' -o -name '*.antt')
+SOURCES := crates.txt $(shell find crates -name out -prune -o '(' -name '*.rt' -o -name '*.antt' ')' -print)
 MODULES := $(wildcard tools/ferruntzo_tool/*.py)
 PACKAGE := $(wildcard python/ferruntzo/*.py) python/ferruntzo/py.typed
 INSTALL ?= install
@@ -42,7 +42,7 @@ help:
 	@echo 'make uninstall PREFIX=DIR  removes what install wrote'
 	@echo 'make check                 runs the gate, .ci/run'
 
-# rt leaves a result that has not changed as it is; touch keeps make from asking again.
+# The scripts leave a result that has not changed as it is; touch keeps make from asking again.
 target/staticlib/libferruntzo.a: $(SOURCES)
 	scripts/build_library
 	touch -c $@
@@ -51,7 +51,7 @@ $(SHARED): $(LIBRARY) scripts/link_shared include/ferruntzo.h
 	scripts/link_shared "$(LIBRARY)" "$(dir $(SHARED))"
 
 target/bin/jobcheck: $(SOURCES)
-	rt check jobcheck
+	scripts/build_program
 	touch -c $@
 
 check:

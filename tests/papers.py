@@ -9,7 +9,7 @@ import sys
 ROOT = pathlib.Path(__file__).resolve().parent.parent
 PAPERS = [*ROOT.glob('*.md'), *ROOT.glob('docs/*.md'), *ROOT.glob('docs/changes/*.md')]
 FOLDERS = {p.name for p in ROOT.iterdir() if p.is_dir() and not p.name.startswith('.git')} - {'target'}
-edits = {p.stem for p in ROOT.glob('crates/*/must-fail/**/*.edit')}
+edits = {p.stem for folder in ('must-fail', 'more-edits') for p in ROOT.glob(f'crates/*/{folder}/*.edit')}
 
 
 def there(path):
@@ -34,8 +34,12 @@ named = set(re.findall(r'`([a-z0-9]+(?:_[a-z0-9]+)+)`', entries))
 for name in sorted(edits - named):
     wrong.append(f'docs/ENTRIES.md does not name the edit {name}')
 functions = {n for p in ROOT.glob('crates/*/src/**/*.rt') for n in re.findall(r'\bfn (\w+)', p.read_text())}
-for name in sorted(named - edits - functions):
-    wrong.append(f'docs/ENTRIES.md names {name}, which is no edit and no function')
+# definitions, theorems and fields: what stands before a colon
+declared = {n for p in [*ROOT.glob('crates/*/specs/**/*.antt'), *ROOT.glob('crates/*/proofs/**/*.antt')]
+            for names in re.findall(r'^\s*(?:abbrev |unfoldable )?(?:pub )?(?:data |record )?([^\s:(){}]+(?: [^\s:(){}]+)*)(?: [({].*)? :', p.read_text(), re.M)
+            for n in names.split()}
+for name in sorted(named - edits - functions - declared):
+    wrong.append(f'docs/ENTRIES.md names {name}, which is no edit, no function and no definition')
 listed = {}
 crate = None
 for name in re.findall(r'`(\w+)`', (ROOT / 'docs' / 'DECISIONS.md').read_text().split('## Names of files')[1].split('These are')[1].split('\n## ')[0]):
@@ -52,7 +56,7 @@ for crate, found in listed.items():
 promises = (ROOT / 'docs' / 'PROMISES.md').read_text()
 fields = {n for p in ROOT.glob('crates/promises/specs/definitions/*.antt') for n in re.findall(r'^\s+pub ([^\s:{]+) :', p.read_text(), re.M)}
 inner = set(re.findall(r'^  pub ([^\s:]+) :', (ROOT / 'crates/promises/specs/definitions/Promises.antt').read_text(), re.M))
-hypotheses = {'enough', 'good-f', 'good-g', 'good-h', 'good-w', 'same', 'twelve-rounds', 'finite-making', 'in-units', 'no-rounding'}
+hypotheses = {'enough', 'good_f', 'good_g', 'good_h', 'good_w', 'same', 'twelve_rounds', 'finite_making', 'in_units', 'no_rounding'}
 for name in sorted(fields - inner - hypotheses):
     if f'`{name}`' not in promises:
         wrong.append(f'docs/PROMISES.md does not name the field {name} of crates/promises')

@@ -53,8 +53,8 @@ def find(named=None):
         return found
     raise NotChecked(f'the program jobcheck is not at {shown(named)}; --jobcheck or FERRUNTZO_JOBCHECK '
                      'names it' if named else
-                     'the program jobcheck was not found; install it, build it (rt check '
-                     'jobcheck), or name it with --jobcheck')
+                     'the program jobcheck was not found; install it, build it '
+                     '(scripts/build_program), or name it with --jobcheck')
 
 
 def _piped(descriptor, most):

@@ -1,9 +1,7 @@
 -- An accepted job has at most 32 results. Of the laws of `job` the program needs only this one.
-use mathlib.Core.Path.{◌≡◌, sym, ap, ◌∙◌}
-use mathlib.Core.List.{List}
-use Prim.Native.Nat.{ℕ, ◌≤◌}
+use Rattle.std.specs.Prelude.{◌≡◌, List, ℕ, ◌≤◌, ℤ}
+use Rattle.std.proofs.Math.Path.{sym, ap, ◌∙◌}
 use native.Mathlib.Omega.{arith}
-use lib.IntN.{ℤ}
 use Rattle.job.proofs.laws.AnswerBounds.{answer_small}
 use Rattle.job.specs.definitions.Reading.{max_results}
 use Rattle.job.specs.definitions.Outcomes.{job_outcome_of, counted, result_count}

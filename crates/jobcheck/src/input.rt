@@ -1,8 +1,8 @@
-// Standard input, read to its end.
-ghost use Rattle.std.specs.Prelude.{◌≡◌};
+// An input, read to its end.
+ghost use Rattle.std.specs.Prelude.{◌≡◌, ◌^◌, ◌<◌, ℕ, IfOk, OnErr, Ok, pos, negsuc};
 ghost use Rattle.jobcheck.specs.definitions.Input.{read_of, Inside};
 
-use libc::STDIN_FILENO;
+use std::io;
 
 // What one read answers: bytes came, the input has ended, or the read failed.
 #[derive(Clone, Copy)]
@@ -20,7 +20,20 @@ pub enum Input {
     Unreadable,
 }
 
-// From the number that libc::read answers. An interrupted read counts as failed: errno is not read, so none is tried again.
+// The number that POSIX's read would answer. Which error it was plays no part, so an interrupted read counts as failed too: none
+// is tried again.
+fn posix_answer(got: io::Result<usize>) -> isize
+    requires { IfOk got (λ n. n < 2 ^ 63) }
+    ensures read { IfOk got (λ n. result ≡ pos n) }
+    ensures failed { OnErr got (result ≡ negsuc 0) }
+{
+    match got {
+        Ok(bytes) => bytes as isize,
+        Err(_) => -1,
+    }
+}
+
+// From the number that POSIX's read answers.
 fn read_of(got: isize) -> Read
     ensures { result ≡ read_of got }
 {
@@ -35,12 +48,12 @@ fn read_of(got: isize) -> Read
 }
 
 // Reads until the input ends, a read fails or the buffer is full. The buffer is one byte longer than a job may be.
-pub fn read_input(buffer: &mut [u8]) -> Input
+pub fn read_input(reader: &mut impl io::Read, buffer: &mut [u8]) -> Input
     ensures { Inside result buffer.new }
 {
     let mut done: usize = 0;
     while done < buffer.len() {
-        let got = libc::read(STDIN_FILENO, &mut buffer[done..]);
+        let got = posix_answer(reader.read(&mut buffer[done..]));
         let read = read_of(got);
         match read {
             Read::Bytes(bytes) => {

@@ -1,5 +1,6 @@
 // Checks a job from standard input: a line for each result, number, degree, radius, then 'accepted' and the count; or one
-// line: 'refused', number, command; 'too long'; or 'unreadable', if a read failed.
+// line: 'refused', number, command; 'too long'; or 'unreadable', if a read failed. A write that fails ends the program with its
+// error.
 #![tactic(auto)]
 
 ghost use Rattle.jobcheck.specs.definitions.Main.{Printable};
@@ -9,79 +10,61 @@ use certificate::types::SCRATCH_SIZE;
 use input::Input;
 use job::types::JobOutcome;
 use job::work::WORK_SIZE;
-use libc::STDOUT_FILENO;
 use model::types::Refusal;
+use std::io;
 
 mod input;
 
 // The program takes up to so many bytes.
 const LIMIT: usize = 65536;
 
-fn main() {
+fn main(rt: HostRuntime) -> io::Result<()> {
     let mut buffer = [0u8; LIMIT + 1];
-    let input = input::read_input(&mut buffer);
+    let input = input::read_input(&mut rt.stdin(), &mut buffer);
     match input {
-        Input::Whole(length) => answer(&buffer[..length]),
-        Input::TooLong => text(b"too long\n"),
-        Input::Unreadable => text(b"unreadable\n"),
+        Input::Whole(length) => answer(&rt, &buffer[..length]),
+        Input::TooLong => println!(rt; "too long"),
+        Input::Unreadable => println!(rt; "unreadable"),
     }
 }
 
 // Checks a job and prints the answer.
-fn answer(job: &[u8]) {
+fn answer(rt: &impl Print, job: &[u8]) -> io::Result<()> {
     let mut work = [0i32; WORK_SIZE];
     let mut scratch = [0i64; SCRATCH_SIZE];
     let outcome = job::run::check(job, &mut work, &mut scratch);
     match outcome {
-        JobOutcome::Accepted(count) => accepted(&work, count),
-        JobOutcome::Refused(refusal, command) => refused(refusal, command),
+        JobOutcome::Accepted(count) => accepted(rt, &work, count),
+        JobOutcome::Refused(refusal, command) => refused(rt, refusal, command),
     }
 }
 
-fn text(bytes: &[u8]) {
-    io::write_all(STDOUT_FILENO, bytes);
-}
-
-fn number(n: u64) {
-    io::print_decimal(STDOUT_FILENO, n);
-}
-
 // The line of result i.
-fn line(work: &[i32], i: usize)
+fn line(rt: &impl Print, work: &[i32], i: usize) -> io::Result<()>
     requires { Printable work.now (i + 1) }
 {
     let m = job::work::stored_result(work, i);
-    number(i as u64);
-    text(b" ");
-    number(m.degree as u64);
-    text(b" ");
-    number(m.radius as u64);
-    text(b"\n");
+    println!(rt; "{i} {} {}", m.degree, m.radius)
 }
 
-fn lines(work: &[i32], count: usize)
+fn lines(rt: &impl Print, work: &[i32], count: usize) -> io::Result<()>
     requires { Printable work.now count }
 {
     let mut i: usize = 0;
     while i < count {
-        line(work, i);
+        line(rt, work, i)?;
         i += 1;
     }
+    Ok(())
 }
 
-fn accepted(work: &[i32], count: usize)
+fn accepted(rt: &impl Print, work: &[i32], count: usize) -> io::Result<()>
     requires { Printable work.now count }
 {
-    lines(work, count);
-    text(b"accepted ");
-    number(count as u64);
-    text(b"\n");
+    lines(rt, work, count)?;
+    println!(rt; "accepted {count}")
 }
 
-fn refused(refusal: Refusal, command: usize) {
-    text(b"refused ");
-    number(model::types::number_of(refusal) as u64);
-    text(b" ");
-    number(command as u64);
-    text(b"\n");
+fn refused(rt: &impl Print, refusal: Refusal, command: usize) -> io::Result<()> {
+    println!(rt; "refused {} {command}", model::types::number_of(refusal))
 }

@@ -1,0 +1,35 @@
+// The tighter of two proposals for a quotient.
+ghost use Rattle.std.specs.Prelude.{◌≡◌, length, get_or};
+ghost use Rattle.model.specs.definitions.Area.{area_model};
+ghost use Rattle.certificate.specs.definitions.Promise.{QuotientAllowed};
+ghost use Rattle.selection.specs.definitions.Proposal.{proposal_radius};
+ghost use Rattle.selection.specs.definitions.Select.{make_selected, part_numbers};
+ghost use Rattle.selection.specs.definitions.Promise.{part_model, Tightest};
+ghost use Rattle.ferruntzo.specs.definitions.Selections.{selection_answer, quotient_of_two_answer};
+
+// Which of two proposals for f/g is accepted with the smaller radius? Both have one lifetime, as quotient_of_two asks. The last
+// two clauses are what is promised of the chosen one.
+#[unsafe(no_mangle)]
+pub extern "C" fn ferruntzo_quotient_of_two<'a>(
+    f: &[i32],
+    g: &[i32],
+    first: &'a [i32],
+    second: &'a [i32],
+    scratch: &mut [i64],
+    answer: &mut [u32],
+) -> u32
+    ensures answer_after { selection_answer result scratch.new answer.new
+        ≡ quotient_of_two_answer f.now g.now first.now second.now
+        scratch.old answer.old }
+    ensures quotient_allowed { result ≡ 0 → QuotientAllowed (area_model f.now) (area_model g.now)
+        (part_model (part_numbers (get_or answer.new 0 0) first.now second.now)
+        (get_or answer.new 1 0) (area_model f.now).interval) }
+    ensures tightest { result ≡ 0 → Tightest
+        (proposal_radius (length scratch.old) (area_model f.now) (area_model g.now)
+        first.now)
+        (proposal_radius (length scratch.old) (area_model f.now) (area_model g.now)
+        second.now)
+        (make_selected (get_or answer.new 0 0) (get_or answer.new 1 0)) }
+{
+    ferruntzo::selections::ferruntzo_quotient_of_two(f, g, first, second, scratch, answer)
+}
