@@ -18,7 +18,5 @@ use Rattle.groups.proofs.form.form.Given as goal
 abbrev pub invariant-loop-t : goal.invariant-loop-t
 invariant-loop-t l = Filling (places_from ℤ_ring (length l.initial.part) l.start l.a l.b) l.initial.part l.part 0 (length l.initial.part) l.t
 
-
 abbrev pub decreases-loop-t : goal.decreases-loop-t
 decreases-loop-t l = length l.initial.part - l.t
-

@@ -57,7 +57,8 @@ module _ (c : goal.After-multiply_add-pair) where
   meet = omega arith
 
 pub add_convolutions-requires-then-from-a : goal.add_convolutions-requires-then-from-a
-add_convolutions-requires-then-from-a c = let p = (s c).requires in record { from_bound = (omega (arith, p), omega (arith, p), p.1); below = ((omega (arith, first_small c, p.2), omega (arith, ap nat_abs (no_pair (x c) (pos 0) c.multiply_add-pair.result.second (pair_is c).1))), p.2); }
+add_convolutions-requires-then-from-a c = let p = (s c).requires in record { from_bound = (omega (arith, p), omega (arith, p), p.1); below = ((omega (arith, first_small c, p.2), omega (arith, ap nat_abs (no_pair (x c) (pos 0) c.multiply_add-pair.result.second (pair_is c).1))), p.2) }
+
 pub returns-then-from-a : goal.returns-then-from-a
 returns-then-from-a c =
     let d = c.before in

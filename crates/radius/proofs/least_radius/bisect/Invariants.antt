@@ -12,7 +12,5 @@ use Rattle.radius.proofs.least_radius.bisect.Given as goal
 abbrev pub invariant-loop-low : goal.invariant-loop-low
 invariant-loop-low l = Bracket l.weight l.m l.b l.low l.high × (l.high ≤ l.top)
 
-
 abbrev pub decreases-loop-low : goal.decreases-loop-low
 decreases-loop-low l = halvings 21 (l.high - l.low)
-
