@@ -10,4 +10,3 @@ pub mod Entry
 pub mod KindLaws
 pub mod ReadingLaws
 pub mod Requirement
-pub mod ReaderWalk

@@ -36,8 +36,10 @@ module _ where
   failing : (a b : Bool) {n : ℕ} → First (Tests a b) n → ((a && b) ≡ false) × (n ≡ 1)
   failing true true (here p e) = absurd (false≢true p)
   failing true true (later p (here q e)) = absurd (false≢true q)
+  failing true true (later p (later q f)) = elim f [ ]
   failing true false (here p e) = absurd (false≢true p)
   failing true false (later p (here q e)) = (refl, sym e)
+  failing true false (later p (later q f)) = elim f [ ]
   failing false b (here p e) = (refl, sym e)
   failing false b (later p f) = absurd (true≢false p)
 

@@ -18,7 +18,5 @@ abbrev pub invariant-loop-k : goal.invariant-loop-k
 invariant-loop-k l =
     (l.i + 132 ≤ length l.s) × Filling (signeds_at l.s l.i coefficient_count) l.initial.coefficients l.coefficients 0 coefficient_count l.k
 
-
 abbrev pub decreases-loop-k : goal.decreases-loop-k
 decreases-loop-k l = coefficient_count - l.k
-

@@ -19,11 +19,10 @@ read_operands-o-requires c = let p = c.requires in record { names = p.names; roo
 pub returns : goal.returns
 unfolding maker_at
 returns c =
-    let r = c.before in
-    let o = r.read_operands-o in
+    let o = c.read_operands-o in
     let a = o.result.first in
     let b = o.result.second in
-    let g = r.args in
-    performs_untested (addition a b) (c.untested.ensures ∙ ap untested_outcome r.add.ensures) (addition_storable a b)
+    let g = c.args in
+    performs_untested (addition a b) (c.untested.ensures ∙ ap untested_outcome c.add.ensures) (addition_storable a b)
     (λ count rs t h n.
-    held_two h (λ f g. untested_outcome (addition f g)) a b (byte_at g.job.now (g.at + 1)) (byte_at g.job.now (g.at + 2)) o.ensures.0 o.ensures.1 n ∙ sym (add-operation _ _ rs))
+    held_two h (λ f g. untested_outcome (addition f g)) a b (byte_at g.job.now (g.at + 1)) (byte_at g.job.now (g.at + 2)) o.ensures.first_value o.ensures.second_value n ∙ sym (add-operation _ _ rs))

@@ -19,16 +19,14 @@ read_operands-o-requires c = let p = c.requires in record { names = p.names; roo
 pub returns : goal.returns
 unfolding maker_at
 returns c =
-    let m = c.before in
-    let d = m.before.before.before.before in
-    let o = d.read_operands-o in
-    let g = d.args in
+    let o = c.read_operands-o in
+    let g = c.args in
     let k = kept_byte (edition_of g.job.now) (byte_at g.job.now (g.at + 3)) in
-    let kept = ap (λ (n : ℕ). multiplication n o.result.first o.result.second) m.kept_byte-kept.ensures in
+    let kept = ap (λ (n : ℕ). multiplication n o.result.first o.result.second) c.kept_byte-kept.ensures in
     let a = o.result.first in
     let b = o.result.second in
-    performs_untested (multiplication k a b) (c.untested.ensures ∙ ap untested_outcome (m.multiply.ensures ∙ kept))
+    performs_untested (multiplication k a b) (c.untested.ensures ∙ ap untested_outcome (c.multiply.ensures ∙ kept))
     (multiplication_storable k a b)
     (λ count rs t h n.
     held_two h (λ f g. untested_outcome (multiplication k f g)) a b (byte_at g.job.now (g.at + 1)) (byte_at g.job.now (g.at + 2))
-    o.ensures.0 o.ensures.1 n ∙ sym (multiply_operation _ _ k rs))
+    o.ensures.first_value o.ensures.second_value n ∙ sym (multiply_operation _ _ k rs))

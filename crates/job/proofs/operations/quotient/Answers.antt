@@ -20,22 +20,21 @@ read_operands-o-requires c = let p = c.requires.0 in record { names = p.names; r
 
 pub returns : goal.returns
 unfolding maker_at
-returns c = let q = c.before in
-    let d = q.before.before in
-    let o = d.before.before in
-    let s = o.before.before in
-    let job = s.args.job.now in
-    let at = s.args.at in
-    let len = length s.args.scratch.now in
-    let f = o.read_operands-o.result.first in
-    let g = o.read_operands-o.result.second in
+returns c = let job = c.args.job.now in
+    let at = c.args.at in
+    let len = length c.args.scratch.now in
+    let f = c.read_operands-o.result.first in
+    let g = c.read_operands-o.result.second in
     let h = candidate_at job (at + 3) in
-    let w = candidate_at job (at + 136) in record { performs = performs
-          (q.quotient.ensures.result_value
-          ∙ ap₂ (quotient_test len f g) d.read_candidate-h.ensures d.read_candidate-w.ensures
-          ∙ quotient_room len f g h w s.requires.1.long)
+    let w = candidate_at job (at + 136) in record {
+      performs = performs
+          (c.quotient.ensures.result_value
+          ∙ ap₂ (quotient_test len f g) c.read_candidate-h.ensures c.read_candidate-w.ensures
+          ∙ quotient_room len f g h w c.requires.1.long)
           (quotient_storable scratch_size f g h w)
           (λ count rs t z n.
           held_two z (λ f g. quotient_test scratch_size f g h w) f g (byte_at job (at + 1)) (byte_at job (at + 2))
-          o.read_operands-o.ensures.first_value o.read_operands-o.ensures.second_value n
-          ∙ sym (quotient_operation _ _ h w rs)); scratch_unchanged = q.quotient.ensures.scratch_after.0 ∙ s.requires.1.clear; }
+          c.read_operands-o.ensures.first_value c.read_operands-o.ensures.second_value n
+          ∙ sym (quotient_operation _ _ h w rs));
+      scratch_unchanged = c.quotient.ensures.scratch_after ∙ c.requires.1.clear;
+    }

@@ -29,21 +29,20 @@ named-f-requires c =
 
 pub returns : goal.returns
 unfolding maker_at
-returns c = let q = c.before in
-    let d = q.before.before in
-    let e = d.before.before in
-    let s = e.before.before in
-    let rule = s.args.rule in
-    let job = s.args.job.now in
-    let at = s.args.at in
-    let len = length s.args.scratch.now in
-    let f = e.named-f.result in
+returns c = let rule = c.args.rule in
+    let job = c.args.job.now in
+    let at = c.args.at in
+    let len = length c.args.scratch.now in
+    let f = c.named-f.result in
     let h = candidate_at job (at + 2) in
-    let w = candidate_at job (at + 135) in record { performs = performs
-          (q.root.ensures.result_value
-          ∙ ap₂ (root_test rule len f) d.read_candidate-h.ensures d.read_candidate-w.ensures
-          ∙ root_room rule len f h w s.requires.1.long)
+    let w = candidate_at job (at + 135) in record {
+      performs = performs
+          (c.root.ensures.result_value
+          ∙ ap₂ (root_test rule len f) c.read_candidate-h.ensures c.read_candidate-w.ensures
+          ∙ root_room rule len f h w c.requires.1.long)
           (root_storable rule scratch_size f h w)
           (λ count rs t z n.
-          held_one z (λ f. root_test rule scratch_size f h w) f (byte_at job (at + 1)) e.named-f.ensures n
-          ∙ sym (root_operation rule _ h w rs)); scratch_unchanged = q.root.ensures.scratch_after.0 ∙ s.requires.1.clear; }
+          held_one z (λ f. root_test rule scratch_size f h w) f (byte_at job (at + 1)) c.named-f.ensures n
+          ∙ sym (root_operation rule _ h w rs));
+      scratch_unchanged = c.root.ensures.scratch_after ∙ c.requires.1.clear;
+    }

@@ -1,5 +1,4 @@
 -- `reading::read_command` meets its contract: its tests are the places of reading, in their order.
-use Rattle.std.proofs.Common.{rules}
 use borrow.Author.Tests.{le-leb, lt-leb, lt-ltb, le-ltb}
 use mathlib.Core.Path.{◌≡◌, sym, ◌∙◌}
 use mathlib.Core.List.{List}
@@ -7,10 +6,8 @@ use Prim.Native.Nat.{ℕ, ◌+◌, ◌≤◌}
 use native.Mathlib.Omega.{arith}
 use lib.ListN.{length, drop}
 use Rattle.model.specs.definitions.Outcomes.{passing}
-use Rattle.job.specs.definitions.Reading.{name_bytes, value_bytes, shape_at, command_reading, reading_places}
-use Rattle.job.specs.declared.types.Kind.{Kind}
+use Rattle.job.specs.definitions.Reading.{command_reading, reading_places}
 use Rattle.job.specs.declared.types.Shape.{Shape}
-use Rattle.job.proofs.KindLaws.{agrees}
 use Rattle.job.proofs.ReadingLaws.{read_with, places_with, reading_with}
 use Rattle.job.proofs.reading.read_command.Goals as goal
 use Rattle.job.proofs.reading.read_command.Lts
@@ -101,33 +98,33 @@ returns-then-job-at c = simp (le-leb _ _ c.if-job-at.true)
 
 pub returns-then-is_bad_kind : goal.returns-then-is_bad_kind
 unfolding passing
-returns-then-is_bad_kind c = rw (left1 c.before.before) (simp (sym c.is_bad_kind.ensures ∙ c.if-is_bad_kind.true))
+returns-then-is_bad_kind c = rw (left1 c.before.before.before) (simp (sym c.is_bad_kind.ensures ∙ c.if-is_bad_kind.true))
 
 pub returns-then-job-at-2 : goal.returns-then-job-at-2
 unfolding passing
 returns-then-job-at-2 c =
-    let d = c.before.before in
+    let d = c.before.before.before in
     let a = d.before.before in
     rw (left2 d)
     (simp (lt-ltb (length (job a)) (at a + 1 + (s a).width) (omega (arith, c.if-job-at-2.true, a.if-job-at.false))))
 
 pub returns-then-has_bad_values : goal.returns-then-has_bad_values
 unfolding passing
-returns-then-has_bad_values c = rw (left3 c.before.before) (simp (sym c.has_bad_values.ensures ∙ c.if-has_bad_values.true))
+returns-then-has_bad_values c = rw (left3 c.before.before.before) (simp (sym c.has_bad_values.ensures ∙ c.if-has_bad_values.true))
 
 pub returns-then-has_bad_names : goal.returns-then-has_bad_names
 unfolding passing
-returns-then-has_bad_names c = rw (left4 c.before.before) (simp (sym c.has_bad_names.ensures ∙ c.if-has_bad_names.true))
+returns-then-has_bad_names c = rw (left4 c.before.before.before) (simp (sym c.has_bad_names.ensures ∙ c.if-has_bad_names.true))
 
 pub returns-then-is_full : goal.returns-then-is_full
 unfolding passing
 returns-then-is_full c =
-    rw (left5 c.before.before) (simp (sym c.is_full.ensures ∙ c.if-is_full.true))
+    rw (left5 c.before.before.before) (simp (sym c.is_full.ensures ∙ c.if-is_full.true))
 
 pub returns-then-is_too_long : goal.returns-then-is_too_long
 unfolding passing
-returns-then-is_too_long c = rw (left6 c.before.before.before) (simp (sym c.is_too_long.ensures ∙ c.if-is_too_long.true))
+returns-then-is_too_long c = rw (left6 c.before.before.before.before) (simp (sym c.is_too_long.ensures ∙ c.if-is_too_long.true))
 
 pub returns : goal.returns
 unfolding passing
-returns c = rw (left6 c.before.before.before) (simp (sym c.is_too_long.ensures ∙ c.if-is_too_long.false))
+returns c = rw (left6 c.before.before.before.before) (simp (sym c.is_too_long.ensures ∙ c.if-is_too_long.false))

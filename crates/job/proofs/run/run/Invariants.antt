@@ -18,7 +18,5 @@ abbrev pub invariant-loop-results : goal.invariant-loop-results
 invariant-loop-results l =
     Going l.report l.job l.initial.work l.work l.initial.room l.room l.at l.k l.count × ((l.scratch ≡ l.initial.scratch) × Clear l.initial.scratch)
 
-
 abbrev pub decreases-loop-results : goal.decreases-loop-results
 decreases-loop-results l = length l.job - l.at
-
