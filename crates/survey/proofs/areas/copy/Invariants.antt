@@ -10,7 +10,5 @@ use Rattle.survey.proofs.areas.copy.Given as goal
 abbrev pub invariant-loop-i : goal.invariant-loop-i
 invariant-loop-i l = (length l.from ≡ length l.initial.to) × Filling l.from l.initial.to l.to 0 (length l.from) l.i
 
-
 abbrev pub decreases-loop-i : goal.decreases-loop-i
 decreases-loop-i l = length l.from - l.i
-

@@ -10,4 +10,4 @@ use Rattle.survey.proofs.degrees.sum_degree.Goals as goal
 pub returns : goal.returns
 unfolding maker_degree maker_at
 returns c = let second = c.before in
-    let e = c.larger.ensures ∙ ap₂ max second.named_degree-first.ensures second.named_degree-second.ensures in record { value = e; value_2 = e; }
+    let e = c.larger.ensures ∙ ap₂ max second.named_degree-first.ensures second.named_degree-second.ensures in record { value = e; value_2 = e }

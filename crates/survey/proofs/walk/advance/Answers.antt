@@ -1,36 +1,15 @@
 -- `walk::advance` meets its contract: in each arm the kind is the arm's.
-use Rattle.std.proofs.Common.{rules}
-use mathlib.Core.Path.{◌≡◌, refl, ap, subst, ◌∙◌}
-use Prim.Native.Nat.{ℕ, ◌+◌}
-use native.Mathlib.Omega.{arith}
-use lib.ListN.{length, set}
+use mathlib.Core.Path.{subst}
 use Rattle.job.specs.declared.types.Kind.{Kind}
-use Rattle.job.specs.declared.types.Kind.TheVariants.{End, Edition, Result, Unknown}
+use Rattle.job.specs.declared.types.Kind.TheVariants.{Result}
 use Rattle.survey.specs.definitions.InnerContracts.{Advancing}
-use Rattle.survey.proofs.laws.AdvanceLaws.{advance_tells, advance_few, advanced_result}
+use Rattle.survey.proofs.laws.AdvanceLaws.{advanced_result}
 use Rattle.survey.proofs.walk.advance.Goals as goal
-use Rattle.survey.proofs.walk.advance.Lts
-use Rattle.survey.proofs.walk.advance.Reads
-use Rattle.survey.proofs.walk.advance.Tie
-
-abbrev In-Result : Type 0
-In-Result = Lts.After-known_told Tie.the-claims Reads.Pre Reads.Post Tie.handed_clauses
-
-abbrev Start : Type 0
-Start = Lts.Start Tie.the-claims Reads.Pre Reads.Post Tie.handed_clauses
 
 -- a command that makes a result
-module _ (c : In-Result) where
-  abbrev start : Start
-  start = c.before.before.before.before.before.before
-
-  advancing : Advancing (Result c.kind-1.given.0.0) start.args.job.now start.args.at start.args.list.now start.args.count
-  advancing =
-      subst (λ (k : Kind). Advancing k start.args.job.now start.args.at start.args.list.now start.args.count)
-      c.kind-1.given.1 start.requires
-
-pub returns-in-Result : goal.returns-in-Result
-returns-in-Result c = let it = let r = c.before.before in
-    let k = r.before.before in
-    rw k.kind-1.given.1
-    (advanced_result _ _ _ _ _ (advancing k) r.convert_result-degree.result (start k).args.out.now _ r.convert_result-degree.ensures.value r.convert_result-degree.ensures.out_after) in record { list_after = it.0; out_after = it.1; }
+pub returns-in-Result-clause-list_after : goal.returns-in-Result-clause-list_after
+returns-in-Result-clause-list_after c =
+    let a : Advancing (Result c.in-Result.op) c.args.job.now c.args.at c.args.list.now c.args.count =
+    subst (λ (k : Kind). Advancing k c.args.job.now c.args.at c.args.list.now c.args.count) c.in-Result.is c.requires in
+    let degree = c.convert_result-degree in
+    rw c.in-Result.is (advanced_result _ _ _ _ _ a degree.result c.args.out.now _ degree.ensures.value degree.ensures.out_after).0

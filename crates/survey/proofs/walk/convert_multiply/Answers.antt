@@ -18,4 +18,4 @@ returns c = let p = c.before.before.before in
     let job = g.job.now in
     let n = second.named_degree-first.ensures in
     let m = second.named_degree-second.ensures in
-    let kept = k.stands_for-kept.ensures ∙ ap₂ (kept_in (edition_of job) (byte_at job (g.at + 3))) n m in record { value = c.product_degree.ensures ∙ (λ j. min (kept j) (n j + m j)); out_after = p.put.ensures ∙ ap (set g.out.now (g.at + 3)) kept; }
+    let kept = k.stands_for-kept.ensures ∙ ap₂ (kept_in (edition_of job) (byte_at job (g.at + 3))) n m in record { value = c.product_degree.ensures ∙ (λ j. min (kept j) (n j + m j)); out_after = p.put.ensures ∙ ap (set g.out.now (g.at + 3)) kept }

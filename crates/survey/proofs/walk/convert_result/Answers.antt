@@ -1,5 +1,4 @@
 -- `walk::convert_result` meets its contract: in each arm the operation is the arm's.
-use Rattle.std.proofs.Common.{rules}
 use mathlib.Core.Path.{refl}
 use mathlib.Core.List.{List}
 use Prim.Native.Nat.{ℕ}
@@ -21,30 +20,35 @@ module _ {job : List ℕ} {at : ℕ} {ds : List ℕ} where
   subtracts p = record { inside = omega (arith, p.room); names = p.names }
 
 pub sum_degree-requires : goal.sum_degree-requires
-sum_degree-requires c = adds (rw c.enum_told-in-Add-1.given.1 at c.requires)
+sum_degree-requires c = adds (rw c.in-Add.is at c.requires)
 
 pub sum_degree-requires-in-Subtract : goal.sum_degree-requires-in-Subtract
-sum_degree-requires-in-Subtract c = subtracts (rw c.enum_told-in-Subtract-1.given.1 at c.requires)
+sum_degree-requires-in-Subtract c = subtracts (rw c.in-Subtract.is at c.requires)
 
 pub convert_multiply-requires : goal.convert_multiply-requires
-convert_multiply-requires c =
-    multiply_names (rw c.enum_told-in-Multiply-1.given.1 at c.requires)
+convert_multiply-requires c = multiply_names (rw c.in-Multiply.is at c.requires)
 
 pub returns-in-Load : goal.returns-in-Load
 unfolding maker_degree maker_at
-returns-in-Load c = rw c.enum_told-1.given.1 (record { value = c.block_degree.ensures; out_after = refl; })
+returns-in-Load c = rw c.in-Load.is (record { value = c.block_degree.ensures; out_after = refl })
+
 pub returns-in-Add : goal.returns-in-Add
 unfolding maker_at
-returns-in-Add c = rw c.enum_told-in-Add-1.given.1 (record { value = c.sum_degree.ensures.value; out_after = refl; })
+returns-in-Add c = rw c.in-Add.is (record { value = c.sum_degree.ensures.value; out_after = refl })
+
 pub returns-in-Subtract : goal.returns-in-Subtract
 unfolding maker_at
-returns-in-Subtract c = rw c.enum_told-in-Subtract-1.given.1 (record { value = c.sum_degree-in-Subtract.ensures.value_2; out_after = refl; })
+returns-in-Subtract c =
+    rw c.in-Subtract.is (record { value = c.sum_degree-in-Subtract.ensures.value_2; out_after = refl })
+
 pub returns-in-LoadOn : goal.returns-in-LoadOn
 unfolding maker_degree maker_at
-returns-in-LoadOn c = rw c.enum_told-in-LoadOn-1.given.1 (record { value = c.block_degree-in-LoadOn.ensures; out_after = refl; })
+returns-in-LoadOn c = rw c.in-LoadOn.is (record { value = c.block_degree-in-LoadOn.ensures; out_after = refl })
+
 pub returns-in-Quotient : goal.returns-in-Quotient
 unfolding maker_degree maker_at
-returns-in-Quotient c = rw c.enum_told-in-Quotient-1.given.1 (record { value = c.block_degree-in-Quotient.ensures; out_after = refl; })
+returns-in-Quotient c = rw c.in-Quotient.is (record { value = c.block_degree-in-Quotient.ensures; out_after = refl })
+
 pub returns-in-Root : goal.returns-in-Root
 unfolding maker_degree maker_at
-returns-in-Root c = rw c.enum_told-in-Root-1.given.1 (record { value = c.block_degree-in-Root.ensures; out_after = refl; })
+returns-in-Root c = rw c.in-Root.is (record { value = c.block_degree-in-Root.ensures; out_after = refl })
