@@ -1,5 +1,4 @@
-// The reader: "refers to the job's bytes and to the next unread one". The borrow checker covers no function over a struct
-// that holds a reference, so these are thin, and the work is `read_command`'s.
+// The reader: "refers to the job's bytes and to the next unread one". These are thin, and the work is `read_command`'s.
 ghost use Rattle.std.specs.Prelude.{◌≡◌};
 ghost use Rattle.job.specs.definitions.Reading.{command_reading, command_reading_of};
 

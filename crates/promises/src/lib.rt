@@ -1,2 +1,2 @@
-// What is promised: the owner's sentences as fields of records in specs/definitions, each proved in specs/laws. No code.
+// What is promised: the owner's sentences as fields of records in specs/definitions, each proved in proofs/laws. No code.
 #![tactic(auto)]

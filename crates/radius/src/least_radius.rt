@@ -1,4 +1,4 @@
-// The least radius r with 2·M·r² + typeof.b.S² ≤ (S-m)·S·r, by bisection.
+// The least radius r with 2·M·r² + b·S² ≤ (S-m)·S·r, by bisection.
 ghost use Rattle.std.specs.Prelude.{◌≡◌, ◌+◌, ◌*◌, ◌-◌, ◌^◌, ◌≤◌, ◌<◌};
 ghost use Rattle.model.specs.definitions.Models.{scale, max_weight};
 ghost use Rattle.radius.specs.definitions.LeastRadius.{RadiusSatisfies, radius_satisfies, least_radius};
@@ -46,7 +46,7 @@ pub fn least_radius(weight: u64, m: u64, b: u64) -> FoundRadius
     requires { (0 < weight) × (weight ≤ max_weight) × (m < scale) }
     ensures { result ≡ least_radius weight m b }
 {
-    // typeof.b.S² would pass (S-m)·S·r for every r up to S, and could pass 64 bits.
+    // b·S² would pass (S-m)·S·r for every r up to S, and could pass 64 bits.
     if SCALE < b {
         return FoundRadius::Missing;
     }

@@ -23,7 +23,7 @@ pub groups :
 unfolding product_group tabulate two_sums sum_where sum upℕ
 groups = (refl, refl, refl, refl)
 
--- (S + S-as-T_5) over S with h = w = S, in groups of the given size: T_5 lies beyond the end of C(g, h) and counts
+-- (S + S·T_5) over S with h = w = S, in groups of the given size: T_5 lies beyond the end of C(g, h) and counts
 abbrev beyond : ℕ → Outcome Certificate
 beyond size =
     let one = constant_model (pos 1048576) in

@@ -48,7 +48,7 @@ module _ (O : OrderedRing) where
       (◌⟨≼⟩◌ O away
       (le_of_eq O (ap (λ z. M ⊗ z) (ap abs e ∙ ι_abs O (pos 0)) ∙ solve ring (M ∷ []) (search reify depth 20) (search reify depth 20) tt)))
 
-  -- k·|q·s − H| ≤ M·|v|·|q·s − H| = M·|v·H − s·u| ≤ M-as-N ≤ k·r, where q = u/v
+  -- k·|q·s − H| ≤ M·|v|·|q·s − H| = M·|v·H − s·u| ≤ M·N ≤ k·r, where q = u/v
   pub quotient_bound : (s u v q H : A) {M N r k : A} → q ⊗ v ≡ u → ι (pos 0) ≼ M → ¬ (k ≼ ι (pos 0))
       → abs (v ⊗ H ⊕ ⊖ (s ⊗ u)) ≼ N → k ≼ M ⊗ abs v → M ⊗ N ≼ k ⊗ r → abs (q ⊗ s ⊕ ⊖ H) ≼ r
   quotient_bound s u v q H {M} {N} {r} {k} e h_m hk h_n away hr =

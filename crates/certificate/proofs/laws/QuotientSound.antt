@@ -68,7 +68,7 @@ residual_sound f g h gg gh x u v on hu hv =
     sum : (l s e B k : ℕ) → whole (pos (l + 2 * s * e + 2 * B * k)) ≡ whole (pos l) +ℚ whole (pos 2) *ℚ whole (pos s) *ℚ whole (pos e) +ℚ whole (pos 2) *ℚ whole (pos B) *ℚ whole (pos k)
     sum l s e B k = simp (natural_add, natural_mul)
 
--- M-as-N ≤ (S − m)·r, where b = up(M·N/S) and r = up(b·S/(S − m))
+-- M·N ≤ (S − m)·r, where b = up(M·N/S) and r = up(b·S/(S − m))
 radius_bound : (w : Model) (n k : ℕ) → 0 < k → weight w.coefficients * n ≤ k * upℕ (displacement w n * scale) k
 unfolding displacement
 radius_bound w n k positive = chain _ _ _ (le-upℕ (weight w.coefficients * n) scale (omega arith)) (le-upℕ (displacement w n * scale) k positive)

@@ -26,7 +26,7 @@ shifted = make_interval (pos 0) (pos 8)
 abbrev pub one_point : Interval
 one_point = make_interval (pos 5) (pos 5)
 
--- a constant, and S-as-T_1, on an interval
+-- a constant, and S·T_1, on an interval
 abbrev constant_on : ℤ → ℤ → ℤ → Model
 constant_on c l u = make_model 0 (padded (c ∷ [])) 0 (make_interval l u)
 
@@ -73,7 +73,7 @@ pub integrals : Integrals
 unfolding integration integral_model integral_list halved numerators double_first alternating passing good parts_within_limits good_ends extent too_large zero_model weight add_lists subtract_lists floor near upℕ
 integrals = (refl, refl, refl)
 
--- S-as-T_1 on 0..3 at p = 1, where −S/3 is rounded and W grows, and its mirror at 2; at p = 3, exactly 1; at p = 4
+-- S·T_1 on 0..3 at p = 1, where −S/3 is rounded and W grows, and its mirror at 2; at p = 3, exactly 1; at p = 4
 abbrev pub Evaluations : Type 0
 Evaluations =
     (evaluation (line_on (pos 0) (pos 3)) (pos 1) ≡ accepted (record { low = negsuc 349525; high = negsuc 349523 }))

@@ -1,4 +1,4 @@
--- The bound of request S-8 is attained: of the integrand S-as-T_1 with radius 0, whose only allowed value at x is x, the sum over k
+-- The bound of request S-8 is attained: of the integrand S·T_1 with radius 0, whose only allowed value at x is x, the sum over k
 -- strips from −1 to 1 lies 2·L/k units below the integral's polynomial, for every k. The radius is the rounding part alone. And a
 -- choice that lies a radius off the polynomial.
 use Rattle.std.specs.Prelude.{◌≡◌, refl, [], ◌∷◌, ℕ, zero, suc, ◌*◌, ◌<◌, pos, negsuc}

@@ -1,4 +1,4 @@
--- `rounding::floor` : the truncated quotient, less one where the remainder is negative.
+-- `rounding::floor` meets its contract: the truncated quotient, less one where the remainder is negative.
 use Prim.Native.Nat.{◌<◌}
 use native.Mathlib.Omega.{arith}
 use lib.IntN.{pos, nat_abs}

@@ -1,4 +1,4 @@
--- `rounding::modulo` : the remainder, and d more where it is negative.
+-- `rounding::modulo` meets its contract: the remainder, and d more where it is negative.
 use mathlib.Core.Path.{sym, ◌∙◌, ap}
 use Prim.Native.Nat.{◌<◌}
 use native.Mathlib.Omega.{arith}

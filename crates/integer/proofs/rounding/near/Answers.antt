@@ -1,4 +1,4 @@
--- `rounding::near` : c = floor(n/d), and c + 1 where twice what floor leaves, and 1 if c is odd, passes d.
+-- `rounding::near` meets its contract: c = floor(n/d), and c + 1 where twice what floor leaves, and 1 if c is odd, passes d.
 use mathlib.Core.Path.{◌≡◌}
 use Prim.Native.Nat.{◌+◌, ◌*◌, ◌<◌}
 use lib.Bits.{bit_and}

@@ -1,4 +1,4 @@
--- `rounding::up` : the truncated quotient, plus one where the remainder is positive.
+-- `rounding::up` meets its contract: the truncated quotient, plus one where the remainder is positive.
 use Prim.Native.Nat.{◌<◌}
 use native.Mathlib.Omega.{arith}
 use lib.IntN.{pos, nat_abs}

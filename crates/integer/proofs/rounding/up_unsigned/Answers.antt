@@ -1,4 +1,4 @@
--- `rounding::up_unsigned` : the quotient, plus one where there is a remainder.
+-- `rounding::up_unsigned` meets its contract: the quotient, plus one where there is a remainder.
 use Rattle.std.proofs.Common.{rules}
 use Prim.Native.Nat.{◌+◌, ◌*◌, ◌/◌, ◌≤◌}
 use native.Mathlib.Omega.{arith}
