@@ -1,5 +1,4 @@
 -- `quotient::test_in` meets its contract: models and candidates are measured in operand order, then the intervals compared.
-use Rattle.std.proofs.Common.{rules}
 use borrow.Author.Tests.{not-true, not-false}
 use mathlib.Core.Path.{◌≡◌, sym, ◌∙◌, ap}
 use mathlib.Core.Bool.{true}

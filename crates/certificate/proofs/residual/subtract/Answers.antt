@@ -1,5 +1,4 @@
 -- `residual::subtract` meets its contract.
-use Rattle.std.proofs.Common.{rules}
 use mathlib.Core.Path.{◌≡◌, sym, ◌∙◌, ap}
 use mathlib.Core.List.{List, ◌++◌}
 use Prim.Native.Nat.{ℕ, ◌-◌}
@@ -11,17 +10,15 @@ use lib.Seq.{length-take-le, get_or-take}
 use mir.Syntax.{w32, w64}
 use mir.Val.{SFits}
 use mir.Facts.{to_z-of_z}
-use Rattle.integer.proofs.laws.Filling.{Filling, begins, turn, next, ends}
-use Rattle.integer.proofs.laws.Machine.{signed_needs, abs-fits, fits_widens}
+use Rattle.integer.proofs.laws.Filling.{begins, turn, next, ends}
+use Rattle.integer.proofs.laws.Machine.{abs-fits, fits_widens}
 use Rattle.ring.specs.laws.Parts.{abs-mul, abs-sub}
 use Rattle.chebyshev.proofs.laws.Weight.{weight_at}
-use Rattle.certificate.specs.definitions.InnerContracts.{residual_list}
 use Rattle.certificate.proofs.laws.ResidualLaws.{length_residual, at_residual, residual_split}
 use Rattle.certificate.proofs.residual.subtract.Invariants.{changed}
 use Rattle.certificate.proofs.residual.subtract.Goals as goal
 use Rattle.certificate.proofs.residual.subtract.Lts
 use Rattle.certificate.proofs.residual.subtract.Reads
-use Rattle.certificate.proofs.residual.subtract.Tie
 
 abbrev At-loop-k : Type 0
 At-loop-k = Lts.At-loop Reads.Pre Reads.Post goal.the-invariant-loop-k goal.the-decreases-loop-k

@@ -1,10 +1,7 @@
 -- `root::by_discriminant` meets its contract: b is compared with a quotient, and the radius is at most 2^27.
-use Rattle.std.proofs.Common.{rules}
 use mathlib.Core.Path.{sym, ◌∙◌}
 use Prim.Native.Nat.{◌-◌, ◌^◌, ◌≤◌}
 use native.Mathlib.Omega.{arith}
-use native.Mathlib.Nat.{mul-le-mul}
-use Rattle.model.specs.definitions.Models.{scale}
 use Rattle.certificate.proofs.laws.RootEnd.{root_end_refused, root_end_radius, root_end_passed}
 use Rattle.certificate.proofs.root.by_discriminant.Goals as goal
 

@@ -1,9 +1,7 @@
 -- `root::by_least_radius` meets its contract: the radius is at most S.
-use Rattle.std.proofs.Common.{rules}
 use mathlib.Core.Path.{◌≡◌, sym, ◌∙◌}
-use Prim.Native.Nat.{ℕ, ◌≤◌}
 use native.Mathlib.Omega.{arith}
-use Rattle.model.specs.definitions.Models.{scale, candidate_model}
+use Rattle.model.specs.definitions.Models.{candidate_model}
 use Rattle.radius.specs.definitions.LeastRadius.{least_radius}
 use Rattle.radius.proofs.laws.LeastLaws.{least_found}
 use Rattle.radius.specs.declared.types.FoundRadius.TheVariants.{Found}

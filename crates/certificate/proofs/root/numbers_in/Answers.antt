@@ -1,5 +1,4 @@
 -- `root::numbers_in` meets its contract: model and candidates are measured in operand order.
-use Rattle.std.proofs.Common.{rules}
 use borrow.Author.Tests.{not-true, not-false}
 use mathlib.Core.Path.{◌≡◌, sym, ◌∙◌, ap}
 use mathlib.Core.Bool.{true}

@@ -1,13 +1,11 @@
 -- `root::root` meets its contract.
-use Rattle.std.proofs.Common.{rules}
 use mathlib.Core.Path.{sym, ◌∙◌, ap}
-use Prim.Native.Nat.{ℕ}
 use lib.ListN.{length}
 use Rattle.model.specs.definitions.Outcomes.{number_of}
 use Rattle.certificate.specs.definitions.InnerContracts.{reach_of}
 use Rattle.certificate.specs.definitions.Promise.{RootAllowed}
 use Rattle.certificate.proofs.laws.PromiseLaws.{test_promised, root_allowed}
-use Rattle.certificate.proofs.laws.RootStages.{RootReached, root_reached_is, root_refused_is, root_last}
+use Rattle.certificate.proofs.laws.RootStages.{root_reached_is, root_refused_is, root_last}
 use Rattle.certificate.proofs.root.root.Goals as goal
 
 pub root_result-requires : goal.root_result-requires

@@ -5,19 +5,18 @@ use mathlib.Core.List.{List}
 use Prim.Native.Nat.{ℕ, ◌+◌, ◌*◌, ◌-◌, ◌^◌, ◌≤◌, ◌<◌}
 use native.Mathlib.Omega.{arith}
 use native.Mathlib.Numerals.{add-one}
-use lib.IntN.{ℤ, pos, nat_abs, ◌+ℤ◌, +ℤ_assoc, +ℤ_idl, +ℤ_idr}
+use lib.IntN.{ℤ, pos, nat_abs, ◌+ℤ◌, +ℤ_assoc, +ℤ_idr}
 use lib.ListN.{length, get_or, drop, drop_of_length-le}
 use lib.Seq.{drop-cons}
 use mir.Syntax.{w32, w64}
 use mir.Val.{SFits, to_z}
 use mir.Facts.{to_z-of_z}
 use Rattle.ring.specs.laws.Parts.{abs, apart, abs-add}
-use Rattle.integer.proofs.laws.Machine.{signed_needs, within, abs-fits, fits_widens}
+use Rattle.integer.proofs.laws.Machine.{within, abs-fits, fits_widens}
 use Rattle.chebyshev.specs.definitions.Coefficients.{coefficient_sum}
 use Rattle.certificate.proofs.root.total.Goals as goal
 use Rattle.certificate.proofs.root.total.Lts
 use Rattle.certificate.proofs.root.total.Reads
-use Rattle.certificate.proofs.root.total.Tie
 
 abbrev At-loop-k : Type 0
 At-loop-k = Lts.At-loop Reads.Pre Reads.Post goal.the-invariant-loop-k goal.the-decreases-loop-k

@@ -1,10 +1,7 @@
 -- `scratch::clear` meets its contract.
-use Rattle.std.proofs.Common.{rules}
-use mathlib.Core.Path.{refl}
 use Prim.Native.Nat.{◌-◌}
 use native.Mathlib.Omega.{arith}
-use lib.ListN.{length}
-use Rattle.integer.proofs.laws.Clearing.{Clearing, clearing_begins, clearing_turn, clearing_ends}
+use Rattle.integer.proofs.laws.Clearing.{clearing_begins, clearing_turn}
 use Rattle.certificate.proofs.scratch.clear.Goals as goal
 
 pub loop-i-init : goal.loop-i-init

@@ -1,5 +1,4 @@
 -- `areas::store_bounds` meets its contract.
-use Rattle.std.proofs.Common.{rules}
 use mathlib.Core.Path.{◌∙◌}
 use mathlib.Core.List.{[], ◌∷◌}
 use lib.Seq.{sets-eq}

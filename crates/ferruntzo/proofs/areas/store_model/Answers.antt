@@ -1,10 +1,8 @@
 -- `areas::store_model` meets its contract: numbers behind stay.
-use Rattle.std.proofs.Common.{rules}
 use mathlib.Core.Path.{ap, ◌∙◌}
 use mathlib.Core.List.{List, ◌++◌}
-use native.Mathlib.Omega.{arith}
 use lib.IntN.{ℤ}
-use lib.ListN.{drop, length-take}
+use lib.ListN.{drop}
 use Rattle.model.specs.definitions.Area.{model_size, words}
 use Rattle.model.proofs.laws.AreaLaws.{filled, untouched}
 use Rattle.ferruntzo.proofs.areas.store_model.Goals as goal

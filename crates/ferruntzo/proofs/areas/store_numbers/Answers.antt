@@ -1,9 +1,6 @@
 -- `areas::store_numbers` meets its contract.
-use Rattle.std.proofs.Common.{rules}
 use mathlib.Core.Path.{◌∙◌}
 use mathlib.Core.List.{[], ◌∷◌}
-use native.Mathlib.Omega.{arith}
-use lib.ListN.{length-set}
 use lib.Seq.{sets-eq}
 use Rattle.ferruntzo.specs.definitions.Areas.{numbers_size}
 use Rattle.model.proofs.laws.AreaLaws.{filled, untouched}

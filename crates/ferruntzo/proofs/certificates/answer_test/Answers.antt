@@ -1,5 +1,4 @@
 -- `certificates::answer_test` meets its contract.
-use Rattle.std.proofs.Common.{rules}
 use mathlib.Core.Path.{sym, ap, ◌∙◌}
 use mathlib.Core.List.{[], ◌∷◌}
 use Rattle.model.specs.definitions.Area.{model_size, words, area_out}

@@ -2,15 +2,14 @@
 use Rattle.std.proofs.Common.{rules}
 use mathlib.Core.Path.{◌≡◌, ◌∙◌, subst}
 use mathlib.Core.Bool.{◌&&◌}
-use Prim.Native.Nat.{◌≤◌}
 use lib.ListN.{length}
 use Rattle.model.specs.definitions.Models.{coefficient_count}
-use Rattle.model.specs.definitions.Area.{model_size, candidate_size, area_model, fits}
+use Rattle.model.specs.definitions.Area.{model_size, area_model, fits}
 use Rattle.model.specs.declared.types.Model.{Model}
 use Rattle.certificate.specs.definitions.Quotient.{quotient_test}
 use Rattle.certificate.specs.definitions.Promise.{QuotientAllowed}
 use Rattle.certificate.proofs.laws.TestFits.{quotient_storable}
-use Rattle.ferruntzo.proofs.Answering.{two_fit, test_fits_lem, test_given, test_storable, test_in_area, short_test_lem}
+use Rattle.ferruntzo.proofs.Answering.{test_fits_lem, test_given, test_storable, test_in_area, short_test_lem}
 use Rattle.ferruntzo.proofs.certificates.ferruntzo_quotient.Goals as goal
 
 pub answer_test-requires : goal.answer_test-requires

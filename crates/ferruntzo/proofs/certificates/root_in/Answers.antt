@@ -1,11 +1,9 @@
 -- `certificates::root_in` meets its contract.
 use Rattle.std.proofs.Common.{rules}
-use borrow.Author.Tests.{leb-true}
 use mathlib.Core.Path.{◌≡◌, ◌∙◌, subst}
-use Prim.Native.Nat.{◌≤◌}
 use lib.ListN.{length}
 use Rattle.model.specs.definitions.Models.{coefficient_count}
-use Rattle.model.specs.definitions.Area.{model_size, candidate_size, area_model, fits}
+use Rattle.model.specs.definitions.Area.{model_size, area_model, fits}
 use Rattle.model.specs.declared.types.Model.{Model}
 use Rattle.certificate.specs.definitions.Root.{root_test}
 use Rattle.certificate.specs.definitions.Promise.{RootAllowed}

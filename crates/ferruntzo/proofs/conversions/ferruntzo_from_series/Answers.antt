@@ -3,7 +3,7 @@ use Rattle.std.proofs.Common.{rules}
 use mathlib.Core.Path.{◌≡◌, subst}
 use lib.ListN.{length}
 use Rattle.model.specs.definitions.Models.{coefficient_count}
-use Rattle.model.specs.definitions.Area.{model_size, area_model}
+use Rattle.model.specs.definitions.Area.{model_size}
 use Rattle.series.specs.definitions.Convert.{conversion}
 use Rattle.series.specs.definitions.Promise.{SeriesAllowed}
 use Rattle.series.specs.declared.types.Series.{Series}

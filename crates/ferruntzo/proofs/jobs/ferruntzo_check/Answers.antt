@@ -1,13 +1,8 @@
 -- `ferruntzo_check` meets its contract.
-use Rattle.std.proofs.Common.{rules}
 use mathlib.Core.Path.{ap}
-use mathlib.Core.Bool.{Bool}
-use mathlib.Core.List.{List}
-use Prim.Native.Nat.{ℕ}
-use lib.IntN.{ℤ}
 use native.Mathlib.Omega.{arith}
 use Rattle.job.proofs.laws.AnswerBounds.{answer_small}
-use Rattle.job.specs.definitions.Outcomes.{JobOutcome, counted, refused_command, result_count}
+use Rattle.job.specs.definitions.Outcomes.{counted, refused_command, result_count}
 use Rattle.job.specs.definitions.Work.{area_places, check_outcome, work_after, scratch_after_job}
 use Rattle.ferruntzo.specs.definitions.Jobs.{check_answer}
 use Rattle.ferruntzo.proofs.JobAnswering.{answered, required, unanswered, unrequired}

@@ -1,5 +1,4 @@
 -- `ferruntzo_convert_edition` meets its contract.
-use Rattle.std.proofs.Common.{rules}
 use mathlib.Core.Path.{ap}
 use native.Mathlib.Omega.{arith}
 use lib.ListN.{length}

@@ -1,15 +1,10 @@
 -- `jobs::report_job` meets its contract.
-use Rattle.std.proofs.Common.{rules}
 use mathlib.Core.Path.{ap}
-use mathlib.Core.Bool.{Bool}
-use mathlib.Core.List.{List}
-use Prim.Native.Nat.{ℕ}
 use native.Mathlib.Omega.{arith}
 use borrow.Author.Tests.{le-leb, lt-leb}
-use lib.IntN.{ℤ}
 use lib.ListN.{length}
 use Rattle.job.proofs.laws.AnswerBounds.{report_small}
-use Rattle.job.specs.definitions.Outcomes.{JobOutcome, counted, refused_command, result_count}
+use Rattle.job.specs.definitions.Outcomes.{counted, refused_command, result_count}
 use Rattle.job.specs.definitions.Reports.{report_places, report_outcome, report_work, report_scratch}
 use Rattle.ferruntzo.specs.definitions.Jobs.{answer_size, report_answer, room_left}
 use Rattle.ferruntzo.proofs.JobAnswering.{answered, required, unanswered, unrequired}

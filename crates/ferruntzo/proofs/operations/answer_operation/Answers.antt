@@ -1,5 +1,4 @@
 -- `operations::answer_operation` meets its contract.
-use Rattle.std.proofs.Common.{rules}
 use mathlib.Core.Path.{sym, ap, ◌∙◌}
 use Rattle.model.specs.definitions.Area.{model_size, words, area_out}
 use Rattle.model.proofs.laws.OutcomeLaws.{number-judged, payload-judged}

@@ -1,9 +1,6 @@
 -- `ferruntzo_integrate` meets its contract.
-use Rattle.std.proofs.Common.{rules}
-use Rattle.model.specs.definitions.Area.{model_size}
-use Rattle.model.specs.definitions.Integrate.{integration}
 use Rattle.model.proofs.laws.ResultLaws.{integration_storable}
-use Rattle.ferruntzo.proofs.Answering.{two_fit, answered, outcome_storable}
+use Rattle.ferruntzo.proofs.Answering.{outcome_storable}
 use Rattle.ferruntzo.proofs.operations.ferruntzo_integrate.Goals as goal
 
 pub answer_operation-requires : goal.answer_operation-requires

@@ -1,16 +1,12 @@
 -- `operations::perform` meets its contract.
-use Rattle.std.proofs.Common.{rules}
-use mathlib.Core.Path.{ap, ap₂, ◌∙◌}
-use Prim.Native.Nat.{◌≤◌}
-use lib.ListN.{length}
-use Rattle.model.specs.definitions.Outcomes.{Outcome, payload}
-use Rattle.model.specs.definitions.Area.{model_size, Storable}
+use Rattle.model.specs.definitions.Outcomes.{payload}
+use Rattle.model.specs.definitions.Area.{Storable}
 use Rattle.model.proofs.laws.ResultLaws.{addition_storable, subtraction_storable, multiplication_storable}
 use Rattle.model.specs.declared.types.Model.{Model}
-use Rattle.ferruntzo.specs.definitions.Operations.{operation_for, outcome_in}
+use Rattle.ferruntzo.specs.definitions.Operations.{operation_for}
 use Rattle.ferruntzo.specs.declared.operations.Operation.{Operation}
 use Rattle.ferruntzo.specs.declared.operations.Operation.TheVariants.{Add, Subtract, Multiply}
-use Rattle.ferruntzo.proofs.Answering.{three_fit, outcome_storable}
+use Rattle.ferruntzo.proofs.Answering.{outcome_storable}
 use Rattle.ferruntzo.proofs.operations.perform.Goals as goal
 
 operation-storable : (o : Operation) (a b : Model) → Storable (payload (operation_for o a b))

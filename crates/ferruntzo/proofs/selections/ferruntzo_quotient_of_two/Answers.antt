@@ -1,17 +1,14 @@
 -- `ferruntzo_quotient_of_two` meets its contract.
-use Rattle.std.proofs.Common.{rules}
 use mathlib.Core.Path.{subst}
-use Prim.Native.Nat.{ℕ, ◌≤◌}
+use Prim.Native.Nat.{ℕ}
 use native.Mathlib.Omega.{arith}
 use lib.ListN.{length}
-use Rattle.model.specs.definitions.Area.{model_size}
 use Rattle.model.specs.declared.types.Model.{Model}
 use Rattle.certificate.specs.definitions.Promise.{QuotientAllowed}
 use Rattle.selection.specs.definitions.Proposal.{proposal_radius}
 use Rattle.selection.specs.definitions.Select.{make_selected, part_numbers}
 use Rattle.selection.specs.definitions.Promise.{part_model, Tightest}
-use Rattle.ferruntzo.specs.definitions.Areas.{selection_size}
-use Rattle.ferruntzo.proofs.SelectionAnswering.{selection-fits, selection_answered, selection_promised, short_number}
+use Rattle.ferruntzo.proofs.SelectionAnswering.{selection_answered, selection_promised, short_number}
 use Rattle.ferruntzo.proofs.selections.ferruntzo_quotient_of_two.Goals as goal
 
 pub returns-then-f-g : goal.returns-then-f-g

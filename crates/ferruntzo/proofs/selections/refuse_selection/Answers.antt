@@ -1,5 +1,4 @@
 -- `selections::refuse_selection` meets its contract.
-use Rattle.std.proofs.Common.{rules}
 use Rattle.ferruntzo.specs.definitions.Selections.{selection_answer, selection_in}
 use Rattle.ferruntzo.proofs.selections.refuse_selection.Goals as goal
 

@@ -10,7 +10,7 @@ use mir.Syntax.{w64}
 use mir.Val.{SFits, to_z, of_z}
 use mir.Facts.{to_z-of_z}
 use Rattle.ring.specs.definitions.Integer.{ℤ_ring}
-use Rattle.integer.proofs.laws.Filling.{Filling, begins, turn, whole}
+use Rattle.integer.proofs.laws.Filling.{Filling, begins, turn}
 use Rattle.chebyshev.specs.definitions.TwoSums.{two_sums, places_from}
 use Rattle.chebyshev.proofs.laws.Tabulated.{length-tabulate, at_tabulate}
 use Rattle.groups.proofs.form.form.Goals as goal

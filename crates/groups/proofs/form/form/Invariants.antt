@@ -1,18 +1,9 @@
 -- `form::form` meets its contract: each turn writes two places of the group, or the last one.
-use Rattle.std.proofs.Common.{rules}
-use mathlib.Core.Path.{◌≡◌, refl, sym, ◌∙◌, ap}
-use mathlib.Core.List.{List}
-use Prim.Native.Nat.{ℕ, ◌+◌, ◌-◌, ◌<◌}
-use native.Mathlib.Omega.{arith}
-use lib.IntN.{ℤ, pos}
-use lib.ListN.{length, get_or, set, length-set}
-use mir.Syntax.{w64}
-use mir.Val.{SFits, to_z, of_z}
-use mir.Facts.{to_z-of_z}
+use Prim.Native.Nat.{◌-◌}
+use lib.ListN.{length}
 use Rattle.ring.specs.definitions.Integer.{ℤ_ring}
-use Rattle.integer.proofs.laws.Filling.{Filling, begins, turn, whole}
-use Rattle.chebyshev.specs.definitions.TwoSums.{two_sums, places_from}
-use Rattle.chebyshev.proofs.laws.Tabulated.{length-tabulate, at_tabulate}
+use Rattle.integer.proofs.laws.Filling.{Filling}
+use Rattle.chebyshev.specs.definitions.TwoSums.{places_from}
 use Rattle.groups.proofs.form.form.Given as goal
 
 abbrev pub invariant-loop-t : goal.invariant-loop-t

@@ -1,5 +1,4 @@
 -- `pairs::add_convolutions` meets its contract: a turn is that of the walk (ConvolutionWalk.antt).
-use mathlib.Core.Path.{refl}
 use mathlib.Core.List.{List}
 use Prim.Native.Nat.{ℕ, ◌+◌, ◌-◌, ◌^◌}
 use native.Mathlib.Omega.{arith}
@@ -8,9 +7,8 @@ use lib.ListN.{get_or}
 use mir.Syntax.{w32}
 use mir.Val.{SFits}
 use mir.Facts.{to_z-of_z}
-use Rattle.integer.proofs.laws.Machine.{signed_needs}
 use Rattle.groups.specs.definitions.InnerContracts.{Below}
-use Rattle.groups.proofs.ConvolutionWalk.{ConvolutionSoFar, convolution_below, convolution_turn, convolution_ends, convolution_last}
+use Rattle.groups.proofs.ConvolutionWalk.{convolution_below, convolution_turn, convolution_ends, convolution_last}
 use Rattle.groups.proofs.pairs.add_convolutions.Goals as goal
 use Rattle.groups.proofs.pairs.add_convolutions.Lts
 use Rattle.groups.proofs.pairs.add_convolutions.Reads

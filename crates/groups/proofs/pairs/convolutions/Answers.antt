@@ -1,5 +1,4 @@
 -- `pairs::convolutions` meets its contract: the sums begin where b has an element.
-use Rattle.std.proofs.Common.{rules}
 use mathlib.Core.Path.{◌≡◌, ◌∙◌, ap}
 use mathlib.Core.List.{List}
 use Prim.Native.Nat.{ℕ, ◌+◌, ◌-◌, ◌*◌, ◌≤◌}
@@ -15,7 +14,7 @@ use Rattle.chebyshev.specs.definitions.Coefficients.{weight}
 use Rattle.chebyshev.proofs.laws.Weight.{weight_at}
 use Rattle.groups.specs.definitions.InnerContracts.{Holds}
 use Rattle.groups.proofs.PairWalks.{no_pair}
-use Rattle.groups.proofs.PlaceSums.{from_zero, first_from, second_from, none_from}
+use Rattle.groups.proofs.PlaceSums.{first_from, second_from, none_from}
 use Rattle.groups.proofs.pairs.convolutions.Goals as goal
 use Rattle.groups.proofs.pairs.convolutions.Lts
 use Rattle.groups.proofs.pairs.convolutions.Reads

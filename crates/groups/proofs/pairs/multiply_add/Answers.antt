@@ -8,11 +8,10 @@ use mir.Syntax.{w32, w64}
 use mir.Val.{SFits, to_z, of_z}
 use mir.Facts.{to_z-of_z}
 use Rattle.ring.specs.laws.Parts.{abs, apart, abs-add, mul_within}
-use Rattle.integer.proofs.laws.Machine.{signed_needs, within, abs-fits, fits_widens}
+use Rattle.integer.proofs.laws.Machine.{within, abs-fits, fits_widens}
 use Rattle.groups.proofs.pairs.multiply_add.Goals as goal
 use Rattle.groups.proofs.pairs.multiply_add.Lts
 use Rattle.groups.proofs.pairs.multiply_add.Reads
-use Rattle.groups.proofs.pairs.multiply_add.Tie
 
 abbrev Start : Type 0
 Start = Lts.Start Reads.Pre Reads.Post

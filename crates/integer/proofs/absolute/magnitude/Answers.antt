@@ -1,5 +1,4 @@
 -- `absolute::magnitude` meets its contract: below 0 it is (−1 − x) + 1, and −1 − x fits at every x.
-use Rattle.std.proofs.Common.{rules}
 use mathlib.Core.Path.{◌≡◌}
 use mathlib.Core.Bool.{true}
 use Prim.Native.Nat.{◌+◌, ◌^◌, ◌≤◌}

@@ -1,5 +1,4 @@
 -- `rounding::up_unsigned` meets its contract: the quotient, plus one where there is a remainder.
-use Rattle.std.proofs.Common.{rules}
 use Prim.Native.Nat.{◌+◌, ◌*◌, ◌/◌, ◌≤◌}
 use native.Mathlib.Omega.{arith}
 use native.Mathlib.Nat.{div-add-mod, mod-lt, mul-le-mul_left}

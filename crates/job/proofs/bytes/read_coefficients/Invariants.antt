@@ -1,17 +1,9 @@
 -- `bytes::read_coefficients` meets its contract: a turn writes one more of the 33 numbers.
-use Rattle.std.proofs.Common.{rules}
-use mathlib.Core.Path.{◌≡◌, ap, sym, ◌∙◌}
-use mathlib.Core.List.{append-nil}
-use Prim.Native.Nat.{◌+◌, ◌*◌, ◌≤◌, ◌-◌}
-use native.Mathlib.Omega.{arith}
-use lib.IntN.{pos}
+use Prim.Native.Nat.{◌+◌, ◌≤◌, ◌-◌}
 use lib.ListN.{length}
-use mir.Syntax.{w32}
-use mir.Facts.{to_z-of_z}
 use Rattle.model.specs.definitions.Models.{coefficient_count}
-use Rattle.integer.proofs.laws.Filling.{Filling, begins, turn, ends}
-use Rattle.job.specs.definitions.Bytes.{signeds_at, signed, unsigned_at}
-use Rattle.job.proofs.ByteLaws.{length-signeds_at, get_d_signeds_at}
+use Rattle.integer.proofs.laws.Filling.{Filling}
+use Rattle.job.specs.definitions.Bytes.{signeds_at}
 use Rattle.job.proofs.bytes.read_coefficients.Given as goal
 
 abbrev pub invariant-loop-k : goal.invariant-loop-k

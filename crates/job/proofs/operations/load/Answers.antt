@@ -1,5 +1,4 @@
 -- `operations::load` meets its contract.
-use Rattle.std.proofs.Common.{rules}
 use mathlib.Core.Path.{ap, sym, ◌∙◌}
 use Prim.Native.Nat.{◌+◌}
 use Rattle.model.specs.definitions.Load.{loading}

@@ -9,7 +9,6 @@ use Rattle.job.specs.definitions.Decode.{edition_of, maker_at, kept_byte}
 use Rattle.job.specs.definitions.InnerContracts.{untested_outcome}
 use Rattle.job.proofs.laws.MakerLaws.{multiply_operation}
 use Rattle.job.proofs.OperationLaws.{performs_untested, held_two}
-use Rattle.std.proofs.Common.{rules}
 use Rattle.job.proofs.operations.multiply.Goals as goal
 
 pub read_operands-o-requires : goal.read_operands-o-requires

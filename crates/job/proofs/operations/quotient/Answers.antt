@@ -11,7 +11,6 @@ use Rattle.job.specs.definitions.Bytes.{byte_at, candidate_at}
 use Rattle.job.specs.definitions.Decode.{maker_at}
 use Rattle.job.proofs.laws.MakerLaws.{quotient_operation}
 use Rattle.job.proofs.OperationLaws.{performs, held_two}
-use Rattle.std.proofs.Common.{rules}
 use Rattle.job.proofs.operations.quotient.Goals as goal
 
 pub read_operands-o-requires : goal.read_operands-o-requires

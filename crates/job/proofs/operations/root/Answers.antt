@@ -13,7 +13,6 @@ use Rattle.job.specs.definitions.Reading.{max_results}
 use Rattle.job.specs.definitions.Decode.{maker_at}
 use Rattle.job.proofs.laws.MakerLaws.{root_operation}
 use Rattle.job.proofs.OperationLaws.{performs, held_one}
-use Rattle.std.proofs.Common.{rules}
 use Rattle.job.proofs.operations.root.Goals as goal
 
 pub named-f-requires : goal.named-f-requires

@@ -9,7 +9,6 @@ use Rattle.job.specs.definitions.Decode.{maker_at}
 use Rattle.job.specs.definitions.InnerContracts.{untested_outcome}
 use Rattle.job.proofs.laws.MakerLaws.{subtract_operation}
 use Rattle.job.proofs.OperationLaws.{performs_untested, held_two}
-use Rattle.std.proofs.Common.{rules}
 use Rattle.job.proofs.operations.subtract.Goals as goal
 
 pub read_operands-o-requires : goal.read_operands-o-requires

@@ -1,12 +1,7 @@
 -- `reports::clear_room` meets its contract.
-use Rattle.std.proofs.Common.{rules}
-use mathlib.Core.Path.{◌≡◌, subst}
-use mathlib.Core.List.{◌++◌}
-use Prim.Native.Nat.{ℕ, ◌-◌}
+use Prim.Native.Nat.{◌-◌}
 use native.Mathlib.Omega.{arith}
-use lib.ListN.{drop}
-use Rattle.job.specs.definitions.Reports.{zero_bytes}
-use Rattle.job.proofs.Rooms.{Emptying, emptying_begins, emptying_turn, emptying_ends}
+use Rattle.job.proofs.Rooms.{emptying_begins, emptying_turn}
 use Rattle.job.proofs.reports.clear_room.Goals as goal
 
 pub loop-i-init : goal.loop-i-init

@@ -1,12 +1,6 @@
 -- `reports::clear_room` meets its contract.
-use Rattle.std.proofs.Common.{rules}
-use mathlib.Core.Path.{◌≡◌, subst}
-use mathlib.Core.List.{◌++◌}
-use Prim.Native.Nat.{ℕ, ◌-◌}
-use native.Mathlib.Omega.{arith}
-use lib.ListN.{drop}
-use Rattle.job.specs.definitions.Reports.{zero_bytes}
-use Rattle.job.proofs.Rooms.{Emptying, emptying_begins, emptying_turn, emptying_ends}
+use Prim.Native.Nat.{◌-◌}
+use Rattle.job.proofs.Rooms.{Emptying}
 use Rattle.job.proofs.reports.clear_room.Given as goal
 
 abbrev pub invariant-loop-i : goal.invariant-loop-i

@@ -4,7 +4,6 @@ use native.Mathlib.Omega.{arith}
 use Rattle.job.specs.definitions.Work.{work_size}
 use Rattle.job.specs.definitions.Reports.{room_size}
 use Rattle.job.proofs.Entry.{cleared_is, cleared_clear, room_cleared_is, short_work, short_scratch, short_room, ran_leaves}
-use Rattle.std.proofs.Common.{rules}
 use Rattle.job.proofs.run.check_and_report.Goals as goal
 
 pub returns-then-work-lt-WORK_SIZE : goal.returns-then-work-lt-WORK_SIZE

@@ -1,15 +1,14 @@
 -- `run::run` meets its contract: each turn is one command, and what is left to run gives what the whole job gives.
-use Rattle.std.proofs.Common.{rules}
-use mathlib.Core.Path.{◌≡◌, refl, ap, subst, subst⁻¹, ◌∙◌}
+use mathlib.Core.Path.{◌≡◌, refl, subst, ◌∙◌}
 use mathlib.Core.List.{List}
 use Prim.Native.Nat.{ℕ, ◌+◌, ◌-◌, ◌<◌}
 use native.Mathlib.Omega.{arith}
 use lib.IntN.{ℤ}
-use lib.ListN.{length, drop}
+use lib.ListN.{drop}
 use Rattle.model.specs.declared.types.Model.{Model}
 use Rattle.job.specs.definitions.Step.{Step, command}
 use Rattle.job.specs.definitions.Work.{work_size}
-use Rattle.job.specs.definitions.InnerContracts.{Stepped, Clear, recorded_from, added_at}
+use Rattle.job.specs.definitions.InnerContracts.{Stepped, recorded_from, added_at}
 use Rattle.job.specs.declared.types.Step.{Step as CodeStep}
 use Rattle.job.proofs.Loop.{Going, going_begins, going_again, going_ends, going_stops}
 use Rattle.job.proofs.run.run.Goals as goal

@@ -1,17 +1,9 @@
 -- `run::run` meets its contract: each turn is one command, and what is left to run gives what the whole job gives.
-use Rattle.std.proofs.Common.{rules}
-use mathlib.Core.Path.{◌≡◌, refl, ap, subst, subst⁻¹, ◌∙◌}
-use mathlib.Core.List.{List}
-use Prim.Native.Nat.{ℕ, ◌+◌, ◌-◌, ◌<◌}
-use native.Mathlib.Omega.{arith}
-use lib.IntN.{ℤ}
-use lib.ListN.{length, drop}
-use Rattle.model.specs.declared.types.Model.{Model}
-use Rattle.job.specs.definitions.Step.{Step, command}
-use Rattle.job.specs.definitions.Work.{work_size}
-use Rattle.job.specs.definitions.InnerContracts.{Stepped, Clear, recorded_from, added_at}
-use Rattle.job.specs.declared.types.Step.{Step as CodeStep}
-use Rattle.job.proofs.Loop.{Going, going_begins, going_again, going_ends, going_stops}
+use mathlib.Core.Path.{◌≡◌}
+use Prim.Native.Nat.{◌-◌}
+use lib.ListN.{length}
+use Rattle.job.specs.definitions.InnerContracts.{Clear}
+use Rattle.job.proofs.Loop.{Going}
 use Rattle.job.proofs.run.run.Given as goal
 
 abbrev pub invariant-loop-results : goal.invariant-loop-results

@@ -1,7 +1,6 @@
 -- `step::perform` meets its contract: where no result is made, no record is written.
-use mathlib.Core.Path.{◌≡◌, refl}
-use Rattle.job.specs.definitions.Decode.{command_at}
-use Rattle.job.specs.definitions.InnerContracts.{recorded_from, added_by, RecordsBy}
+use mathlib.Core.Path.{refl}
+use Rattle.job.specs.definitions.InnerContracts.{recorded_from}
 use Rattle.job.proofs.step.perform.Goals as goal
 
 pub returns-in-End-clause-records_by : goal.returns-in-End-clause-records_by

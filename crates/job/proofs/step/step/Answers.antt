@@ -3,7 +3,7 @@ use mathlib.Core.Path.{refl, ap, sym, subst⁻¹, ◌∙◌}
 use mathlib.Core.List.{List}
 use Rattle.certificate.specs.definitions.Tests.{Certificate}
 use Rattle.model.specs.definitions.Outcomes.{number_of}
-use Rattle.job.specs.definitions.Reading.{command_reading_of, found, refused}
+use Rattle.job.specs.definitions.Reading.{found, refused}
 use Rattle.job.specs.definitions.InnerContracts.{Stepped, recorded_from}
 use Rattle.job.specs.declared.types.Step.TheVariants.{Refused}
 use Rattle.job.proofs.Results.{holds_all}

@@ -1,9 +1,8 @@
 -- `work::clear_work` meets its contract.
-use Rattle.std.proofs.Common.{rules}
 use Prim.Native.Nat.{◌-◌}
 use Rattle.job.specs.definitions.Work.{work_size}
 use Rattle.integer.proofs.laws.Filling.{ends}
-use Rattle.integer.proofs.laws.Clearing.{Clearing, clearing_begins, clearing_turn}
+use Rattle.integer.proofs.laws.Clearing.{clearing_begins, clearing_turn}
 use Rattle.job.proofs.work.clear_work.Goals as goal
 
 pub loop-i-init : goal.loop-i-init

@@ -1,9 +1,7 @@
 -- `work::clear_work` meets its contract.
-use Rattle.std.proofs.Common.{rules}
 use Prim.Native.Nat.{◌-◌}
 use Rattle.job.specs.definitions.Work.{work_size}
-use Rattle.integer.proofs.laws.Filling.{ends}
-use Rattle.integer.proofs.laws.Clearing.{Clearing, clearing_begins, clearing_turn}
+use Rattle.integer.proofs.laws.Clearing.{Clearing}
 use Rattle.job.proofs.work.clear_work.Given as goal
 
 abbrev pub invariant-loop-i : goal.invariant-loop-i

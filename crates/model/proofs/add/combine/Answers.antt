@@ -10,9 +10,9 @@ use mir.Val.{SFits, to_z, of_z}
 use mir.Facts.{to_z-of_z}
 use Rattle.ring.specs.laws.Parts.{abs-mul}
 use Rattle.ring.specs.definitions.Integer.{ℤ_ring}
-use Rattle.integer.proofs.laws.Machine.{signed_needs, abs-fits, fits_widens}
-use Rattle.integer.proofs.laws.Filling.{Filling, begins, turn, whole}
-use Rattle.chebyshev.specs.definitions.Coefficients.{weight, add_lists, scale_list}
+use Rattle.integer.proofs.laws.Machine.{abs-fits, fits_widens}
+use Rattle.integer.proofs.laws.Filling.{begins, turn, whole}
+use Rattle.chebyshev.specs.definitions.Coefficients.{weight}
 use Rattle.chebyshev.proofs.laws.CoefficientLaws.{length-add, length-scale, get_d_add, get_d_scale}
 use Rattle.chebyshev.proofs.laws.Weight.{weight_at, weight_step, weight_end}
 use Rattle.model.proofs.laws.CombinationLaws.{combined_weight}

@@ -1,13 +1,13 @@
 -- `area::copy` meets its contract: a turn copies one number.
-use borrow.Author.Rules.{rules, sfits_of}
-use mathlib.Core.Path.{◌≡◌, refl, sym}
+use borrow.Author.Rules.{sfits_of}
+use mathlib.Core.Path.{refl}
 use Prim.Native.Nat.{◌-◌}
 use native.Mathlib.Omega.{arith}
 use lib.IntN.{pos}
-use lib.ListN.{length, get_or}
+use lib.ListN.{get_or}
 use mir.Syntax.{w32}
 use mir.Facts.{to_z-of_z}
-use Rattle.integer.proofs.laws.Filling.{Filling, begins, turn, whole}
+use Rattle.integer.proofs.laws.Filling.{turn}
 use Rattle.model.proofs.area.copy.Goals as goal
 
 pub loop-i-preserved : goal.loop-i-preserved

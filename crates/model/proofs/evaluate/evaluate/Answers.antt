@@ -1,8 +1,8 @@
 -- `evaluate::evaluate` meets its contract: the tests are those of the definition, and V, W and the bounds fit 64 bits
 -- (EvaluationBounds.antt).
 use Rattle.std.proofs.Common.{rules}
-use mathlib.Core.Path.{◌≡◌, refl, sym, ◌∙◌, ap, ap₂}
-use mathlib.Core.Bool.{true, cond}
+use mathlib.Core.Path.{◌≡◌, refl, sym, ◌∙◌, ap}
+use mathlib.Core.Bool.{true}
 use Prim.Native.Nat.{ℕ, ◌+◌, ◌*◌, ◌^◌}
 use native.Mathlib.Omega.{arith}
 use lib.IntN.{ℤ, pos, ◌+ℤ◌, ◌-ℤ◌, ◌*ℤ◌}
@@ -24,63 +24,37 @@ use Rattle.model.proofs.evaluate.evaluate.Lts
 use Rattle.model.proofs.evaluate.evaluate.Reads
 use Rattle.model.proofs.evaluate.evaluate.Tie
 
-abbrev After-contains : Type 0
-After-contains = Lts.After-contains Tie.the-claims Reads.Pre Reads.Post Tie.handed_clauses
-
 abbrev After-map_point-mapped : Type 0
 After-map_point-mapped = Lts.After-map_point Tie.the-claims Reads.Pre Reads.Post Tie.handed_clauses
 
 abbrev After-point_sums-sums : Type 0
 After-point_sums-sums = Lts.After-point_sums Tie.the-claims Reads.Pre Reads.Post Tie.handed_clauses
 
-abbrev Start : Type 0
-Start = Lts.Start Tie.the-claims Reads.Pre Reads.Post Tie.handed_clauses
-
-abbrev Then-contains : Type 0
-Then-contains = Lts.Then2 Tie.the-claims Reads.Pre Reads.Post Tie.handed_clauses
-
-abbrev Then-is_good : Type 0
-Then-is_good = Lts.Then1 Tie.the-claims Reads.Pre Reads.Post Tie.handed_clauses
-
--- after the model's test
-module _ (c : Then-is_good) where
-  abbrev s : Start
-  s = c.before.before
-
+-- after both tests, of the model and of the point
+module _ (m : After-map_point-mapped) where
   abbrev a : Model
-  a = s.args.a
+  a = m.args.a
 
   abbrev p : ℤ
-  p = s.args.p
+  p = m.args.p
 
   passed : good a ≡ true
-  passed = sym c.before.is_good.ensures ∙ c.if-is_good.true
+  passed = sym m.is_good.ensures ∙ m.if-is_good.true
 
-contains_is : (c : After-contains) → c.contains.result ≡ contains (a c.before.before).interval (p c.before.before)
-contains_is c = simp (to_z-of_z (s c.before.before).ranges.p) at c.contains.ensures
-
--- after the point's test
-module _ (m : After-map_point-mapped) where
-  abbrev t : Then-contains
-  t = m.before.before
-
-  abbrev c : Then-is_good
-  c = t.before.before.before
-
-  inside : contains (a c).interval (p c) ≡ true
-  inside = sym (contains_is t.before) ∙ t.if-contains.true
+  inside : contains a.interval p ≡ true
+  inside = sym (simp (to_z-of_z m.ranges.p) at m.contains.ensures) ∙ m.if-contains.true
 
   abbrev q : ℤ
   q = m.map_point-mapped.result.point
 
-  point_is : q ≡ mapped_point (a c).interval (p c)
-  point_is = simp (to_z-of_z (s c).ranges.p) at m.map_point-mapped.ensures.point_value
+  point_is : q ≡ mapped_point a.interval p
+  point_is = simp (to_z-of_z m.ranges.p) at m.map_point-mapped.ensures.point_value
 
-  exact-is : m.map_point-mapped.result.exact ≡ maps_exactly (a c).interval (p c)
-  exact-is = simp (to_z-of_z (s c).ranges.p) at m.map_point-mapped.ensures.exact_value
+  exact-is : m.map_point-mapped.result.exact ≡ maps_exactly a.interval p
+  exact-is = simp (to_z-of_z m.ranges.p) at m.map_point-mapped.ensures.exact_value
 
   fits-q : SFits w64 q
-  fits-q = fits_mapped (a c) (passed c) (p c) q inside point_is
+  fits-q = fits_mapped a passed p q inside point_is
 
 module _ (k : After-point_sums-sums) where
   abbrev m : After-map_point-mapped
@@ -89,19 +63,19 @@ module _ (k : After-point_sums-sums) where
   abbrev v : ℤ
   v = k.point_sums-sums.result.value
 
-  summed : (w : ℕ) → w ≡ error_sum (a (c m)) (p (c m)) → Sums (a (c m)) (p (c m)) v w
+  summed : (w : ℕ) → w ≡ error_sum (a m) (p m) → Sums (a m) (p m) v w
   summed w e = record {
-    passed = passed (c m);
+    passed = passed m;
     inside = inside m;
-    value_is = (simp (to_z-of_z (fits-q m)) at k.point_sums-sums.ensures.value_value) ∙ ap (λ z. point_sum z 0 (terms (a (c m)))) (point_is m);
+    value_is = (simp (to_z-of_z (fits-q m)) at k.point_sums-sums.ensures.value_value) ∙ ap (λ z. point_sum z 0 (terms (a m))) (point_is m);
     error_is = e;
   }
 
   abbrev w : ℕ
   w = k.point_sums-sums.result.error
 
-  sums : Sums (a (c m)) (p (c m)) v w
-  sums = summed w (k.point_sums-sums.ensures.error_value ∙ errors_are m.map_point-mapped.result.exact (terms (a (c m))) ∙ ap (λ e. point_error 0 (terms (a (c m))) + growth e (terms (a (c m)))) (exact-is m))
+  sums : Sums (a m) (p m) v w
+  sums = summed w (k.point_sums-sums.ensures.error_value ∙ errors_are m.map_point-mapped.result.exact (terms (a m)) ∙ ap (λ e. point_error 0 (terms (a m)) + growth e (terms (a m))) (exact-is m))
 
 module _ (f : goal.After-floor) where
   abbrev k₁ : After-point_sums-sums
@@ -134,24 +108,25 @@ returns-then-contains u =
     let n = sums (k₂ u) in
     let (Fits-low, low-is) = low n _ (floor-is u.before) in
     let (fits-high, high_is) = high n _ (up_is u) in
-    let c = c (m (k₂ u)) in
+    let c = m (k₂ u) in
     simp (to_z-of_z (fits-floor u.before), to_z-of_z (fits-up u), radius_word n, to_z-of_z Fits-low, to_z-of_z fits-high, evaluation_accepted (a c) (p c) (passed c) n.inside)
     (λ i. accepted (record { low = low-is i; high = high_is i }))
 
 pub returns-else-contains : goal.returns-else-contains
 unfolding evaluation passing
-returns-else-contains c = rw (passed c.before.before.before, sym (contains_is c.before) ∙ c.if-contains.false)
+returns-else-contains c =
+    rw (sym c.is_good.ensures ∙ c.if-is_good.true, sym (simp (to_z-of_z c.ranges.p) at c.contains.ensures) ∙ c.if-contains.false)
 
 pub returns-else-is_good : goal.returns-else-is_good
 unfolding evaluation passing
-returns-else-is_good c = rw (c.fault_of.ensures, sym c.before.before.is_good.ensures ∙ c.before.if-is_good.false)
+returns-else-is_good c = rw (c.fault_of.ensures, sym c.is_good.ensures ∙ c.if-is_good.false)
 
 pub map_point-mapped-requires : goal.map_point-mapped-requires
-map_point-mapped-requires c = good_ends_lem (a c.before.before.before.before) (passed c.before.before.before.before)
+map_point-mapped-requires c = good_ends_lem c.args.a (sym c.is_good.ensures ∙ c.if-is_good.true)
 
 pub point_sums-sums-requires : goal.point_sums-sums-requires
 point_sums-sums-requires k = let m = k.before.before.before in
-    let x = c m in simp (to_z-of_z (fits-q m)) (evaluable (a x) (passed x) (p x) (q m) (inside m) (point_is m) (search rules))
+    simp (to_z-of_z (fits-q m)) (evaluable (a m) (passed m) (p m) (q m) (inside m) (point_is m) (search rules))
 
 pub overflow_mul-value : goal.overflow_mul-value
 overflow_mul-value d = let n = summed d.before.before.before _ refl in simp (to_z-of_z (fits_value n)) (fits_fourfold n)

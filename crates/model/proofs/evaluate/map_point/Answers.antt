@@ -9,7 +9,6 @@ use lib.Signed.{◌<ℤ◌}
 use mir.Syntax.{w32, w64}
 use mir.Val.{SFits}
 use mir.Facts.{to_z-of_z}
-use Rattle.integer.specs.definitions.Rounding.{near}
 use Rattle.ring.specs.laws.Difference.{<_parts}
 use Rattle.integer.proofs.laws.Machine.{abs-fits, fits_widens}
 use Rattle.ring.specs.laws.Parts.{abs, apart, abs-sub, abs-mul, difference}

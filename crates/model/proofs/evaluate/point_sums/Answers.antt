@@ -2,17 +2,16 @@
 -- 64 bits.
 use mathlib.Core.Path.{◌≡◌, refl, sym}
 use mathlib.Core.List.{List}
-use Prim.Native.Nat.{ℕ, suc, ◌+◌, ◌*◌, ◌-◌, ◌^◌, ◌≤◌, ◌<◌}
+use Prim.Native.Nat.{ℕ, suc, ◌+◌, ◌*◌, ◌-◌, ◌^◌, ◌<◌}
 use native.Mathlib.Omega.{arith}
 use lib.IntN.{ℤ, pos, nat_abs, ◌+ℤ◌, ◌-ℤ◌, ◌*ℤ◌}
 use lib.ListN.{length, get_or, take}
 use lib.Seq.{get_or-take}
-use lib.Signed.{lt_z_yes}
 use mir.Syntax.{w32, w64}
 use mir.Val.{SFits, to_z}
 use mir.Facts.{to_z-of_z}
 use Rattle.integer.specs.definitions.Rounding.{near}
-use Rattle.integer.proofs.laws.Machine.{abs-fits, fits_widens, signed_needs}
+use Rattle.integer.proofs.laws.Machine.{abs-fits, fits_widens}
 use Rattle.model.specs.definitions.InnerContracts.{error_factor}
 use Rattle.model.specs.definitions.Models.{scale}
 use Rattle.model.proofs.EvaluationWalk.{Walk, begins, turn, ends, first_fits, Turn, length_list, bounded, turn_fits}

@@ -6,7 +6,6 @@ use lib.IntN.{ℤ, pos, nat_abs, ◌-ℤ◌, ◌*ℤ◌}
 use mir.Syntax.{w64}
 use mir.Val.{SFits, to_z}
 use mir.Facts.{to_z-of_z, to_z_pos}
-use Rattle.ring.specs.laws.Difference.{<_parts}
 use Rattle.integer.proofs.laws.Machine.{abs-fits}
 use Rattle.ring.specs.laws.Parts.{abs-sub, mul_within}
 use Rattle.model.specs.definitions.Models.{scale}

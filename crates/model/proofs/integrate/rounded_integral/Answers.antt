@@ -1,21 +1,20 @@
 -- `integrate::rounded_integral` meets its contract: a turn is that of the walk (IntegralWalk.antt).
-use mathlib.Core.Path.{◌≡◌, refl, sym, ◌∙◌, ap}
-use mathlib.Core.Bool.{false}
+use mathlib.Core.Path.{◌≡◌, refl, ap}
 use mathlib.Core.List.{List}
-use Prim.Native.Nat.{ℕ, suc, ◌+◌, ◌*◌, ◌-◌, ◌^◌, ◌≤◌}
+use Prim.Native.Nat.{ℕ, suc, ◌+◌, ◌*◌, ◌-◌, ◌≤◌}
 use native.Mathlib.Omega.{arith}
 use lib.IntN.{ℤ, pos, nat_abs, ◌-ℤ◌, ◌*ℤ◌}
-use lib.Dec.{ltb}
 use lib.ListN.{get_or, take, set}
 use mir.Syntax.{w32, w64}
 use mir.Val.{SFits, to_z}
 use mir.Facts.{to_z-of_z}
 use borrow.Author.Tests.{ltb-false}
 use Rattle.integer.specs.definitions.Rounding.{near}
+use Rattle.chebyshev.proofs.laws.Weight.{weight_at}
 use Rattle.model.specs.definitions.Models.{scale, max_weight}
-use Rattle.integer.proofs.laws.Machine.{abs-fits, fits_widens, signed_needs}
+use Rattle.integer.proofs.laws.Machine.{abs-fits, fits_widens}
 use Rattle.model.proofs.laws.IntegralLaws.{coefficient_narrow}
-use Rattle.model.proofs.IntegralWalk.{Walk, begins, turn, ends, narrow, length_list, bounded, inside, below_is, numerator}
+use Rattle.model.proofs.IntegralWalk.{Walk, begins, turn, ends, narrow, length_list, bounded, below_is, numerator}
 use Rattle.model.proofs.integrate.rounded_integral.Goals as goal
 use Rattle.model.proofs.integrate.rounded_integral.Lts
 use Rattle.model.proofs.integrate.rounded_integral.Reads
@@ -33,7 +32,7 @@ module _ (b : goal.After-below-1) where
   above = to_z w64 b.loop-k.above-bits
 
   fits-32 : SFits w32 below
-  fits-32 = record { sfits = b.below-1.given }
+  fits-32 = abs-fits w32 below (omega (arith, weight_at b.args.doubled.now (b.loop-k.k - 1), b.requires.light))
 
   fits-64 : SFits w64 below
   fits-64 = fits_widens fits-32

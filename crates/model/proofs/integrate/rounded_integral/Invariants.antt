@@ -1,21 +1,10 @@
 -- `integrate::rounded_integral` meets its contract: a turn is that of the walk (IntegralWalk.antt).
-use mathlib.Core.Path.{◌≡◌, refl, sym, ◌∙◌, ap}
-use mathlib.Core.Bool.{false}
-use mathlib.Core.List.{List}
-use Prim.Native.Nat.{ℕ, suc, ◌+◌, ◌*◌, ◌-◌, ◌^◌, ◌≤◌}
-use native.Mathlib.Omega.{arith}
-use lib.IntN.{ℤ, pos, nat_abs, ◌-ℤ◌, ◌*ℤ◌}
+use mathlib.Core.Path.{◌≡◌}
+use Prim.Native.Nat.{suc, ◌*◌}
 use lib.Dec.{ltb}
-use lib.ListN.{get_or, take, set}
-use mir.Syntax.{w32, w64}
-use mir.Val.{SFits, to_z}
-use mir.Facts.{to_z-of_z}
-use borrow.Author.Tests.{ltb-false}
-use Rattle.integer.specs.definitions.Rounding.{near}
-use Rattle.model.specs.definitions.Models.{scale, max_weight}
-use Rattle.integer.proofs.laws.Machine.{abs-fits, fits_widens, signed_needs}
-use Rattle.model.proofs.laws.IntegralLaws.{coefficient_narrow}
-use Rattle.model.proofs.IntegralWalk.{Walk, begins, turn, ends, narrow, length_list, bounded, inside, below_is, numerator}
+use lib.ListN.{take}
+use Rattle.model.specs.definitions.Models.{scale}
+use Rattle.model.proofs.IntegralWalk.{Walk}
 use Rattle.model.proofs.integrate.rounded_integral.Given as goal
 
 abbrev pub invariant-loop-k : goal.invariant-loop-k

@@ -1,18 +1,16 @@
 -- `multiply::multiply` meets its contract: the tests in the order of the definition's places.
-use Rattle.std.proofs.Common.{rules}
 use borrow.Author.Tests.{not-true, not-false}
 use mathlib.Core.Path.{◌≡◌, sym, ◌∙◌, ap}
 use mathlib.Core.Bool.{true, false}
-use Prim.Native.Nat.{ℕ, ◌≤◌}
+use Prim.Native.Nat.{ℕ}
 use native.Mathlib.Omega.{arith}
 use Rattle.model.specs.definitions.InnerContracts.{unless_large}
-use Rattle.model.specs.definitions.Models.{max_degree, good}
+use Rattle.model.specs.definitions.Models.{good}
 use Rattle.model.specs.definitions.Intervals.{same_interval}
 use Rattle.model.specs.definitions.Outcomes.{passing}
-use Rattle.model.specs.definitions.Multiply.{bad_kept, kept_degree, product_model, multiplication}
+use Rattle.model.specs.definitions.Multiply.{bad_kept, product_model, multiplication}
 use Rattle.model.proofs.laws.MultiplicationLaws.{kept_within, multiplication_of_good}
 use Rattle.model.proofs.laws.ModelLaws.{good_is}
-use Rattle.model.specs.declared.types.Model.{Model}
 use Rattle.model.proofs.multiply.multiply.Goals as goal
 
 pub returns-then-not-first : goal.returns-then-not-first

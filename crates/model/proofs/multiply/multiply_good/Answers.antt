@@ -1,14 +1,14 @@
 -- `multiply::multiply_good` meets its contract.
 use Rattle.std.proofs.Common.{rules}
 use mathlib.Core.Path.{◌≡◌, sym, ◌∙◌, ap}
-use Prim.Native.Nat.{ℕ, suc, ◌+◌, ◌*◌}
+use Prim.Native.Nat.{suc, ◌+◌, ◌*◌}
 use native.Mathlib.Omega.{arith}
 use native.Mathlib.Numerals.{add-one}
 use lib.ListN.{length, take}
 use lib.Seq.{length-take-le}
 use Rattle.integer.specs.definitions.Rounding.{upℕ}
 use Rattle.chebyshev.proofs.laws.Weight.{weight-take}
-use Rattle.model.specs.definitions.InnerContracts.{Multipliable, RoundedFrom, formed_outcome}
+use Rattle.model.specs.definitions.InnerContracts.{RoundedFrom, formed_outcome}
 use Rattle.model.specs.definitions.Models.{scale}
 use Rattle.model.proofs.laws.ModelLaws.{Good, good_is}
 use Rattle.model.specs.definitions.Multiply.{product_degree, product_list, product_visits}

@@ -1,5 +1,4 @@
 -- `products::add_at` meets its contract.
-use Rattle.std.proofs.Common.{rules}
 use mathlib.Core.Path.{sym}
 use native.Mathlib.Omega.{arith}
 use lib.IntN.{ℤ, pos, ◌+ℤ◌}
@@ -15,7 +14,6 @@ use Rattle.chebyshev.proofs.laws.ProductLaws.{add_at_set}
 use Rattle.model.proofs.products.add_at.Goals as goal
 use Rattle.model.proofs.products.add_at.Lts
 use Rattle.model.proofs.products.add_at.Reads
-use Rattle.model.proofs.products.add_at.Tie
 
 abbrev Start : Type 0
 Start = Lts.Start Reads.Pre Reads.Post

@@ -1,5 +1,4 @@
 -- `products::add_pair` meets its contract: its two places, one after the other.
-use Rattle.std.proofs.Common.{rules}
 use mathlib.Core.Path.{◌≡◌}
 use mathlib.Core.List.{List}
 use Prim.Native.Nat.{◌+◌}

@@ -11,7 +11,7 @@ use mir.Syntax.{w32}
 use mir.Val.{SFits}
 use mir.Facts.{to_z-of_z}
 use Rattle.ring.specs.definitions.Integer.{ℤ_ring}
-use Rattle.integer.proofs.laws.Machine.{signed_needs, fits_widens}
+use Rattle.integer.proofs.laws.Machine.{fits_widens}
 use Rattle.chebyshev.specs.definitions.Coefficients.{weight}
 use Rattle.chebyshev.proofs.laws.Weight.{weight_step}
 use Rattle.chebyshev.specs.definitions.Product.{add_term, add_terms}

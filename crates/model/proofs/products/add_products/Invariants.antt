@@ -1,23 +1,13 @@
 -- `products::add_products` meets its contract. The loop's invariant in rest form, as for a term: the terms that are left,
 -- visited after the i · length b pairs that were, give all terms added to the list as it came.
-use mathlib.Core.Path.{◌≡◌, refl, sym, ◌∙◌, ap}
+use mathlib.Core.Path.{◌≡◌}
 use mathlib.Core.List.{List}
-use Prim.Native.Nat.{ℕ, ◌+◌, ◌-◌, ◌*◌, ◌<◌, ◌≤◌}
-use native.Mathlib.Omega.{arith}
-use native.Mathlib.Nat.{mul-le-mul, le_refl}
-use lib.IntN.{ℤ, pos, nat_abs}
-use lib.ListN.{length, get_or, drop}
-use mir.Syntax.{w32}
-use mir.Val.{SFits}
-use mir.Facts.{to_z-of_z}
+use Prim.Native.Nat.{ℕ, ◌+◌, ◌-◌, ◌*◌, ◌≤◌}
+use lib.IntN.{ℤ}
+use lib.ListN.{length, drop}
 use Rattle.ring.specs.definitions.Integer.{ℤ_ring}
-use Rattle.integer.proofs.laws.Machine.{signed_needs, fits_widens}
 use Rattle.chebyshev.specs.definitions.Coefficients.{weight}
-use Rattle.chebyshev.proofs.laws.Weight.{weight_step}
-use Rattle.chebyshev.specs.definitions.Product.{add_term, add_terms}
-use Rattle.chebyshev.proofs.laws.PairVisits.{term_visits}
-use Rattle.chebyshev.proofs.laws.ProductLaws.{length_add_term, term_counted, terms_step, terms_end}
-use Rattle.chebyshev.proofs.laws.ProductWeight.{weight_add_term}
+use Rattle.chebyshev.specs.definitions.Product.{add_terms}
 use Rattle.model.proofs.products.add_products.Given as goal
 
 pub record Walked (c₀ a b c : List ℤ) (visits i : ℕ) : Type 0 where

@@ -1,17 +1,13 @@
 -- `round::round` meets its contract: a turn is that of the walk (RoundingWalk.antt). A rounded number is written only where the
 -- weight so far is within its limit, so it fits.
 use mathlib.Core.Path.{◌≡◌, refl, sym, ◌∙◌, ap, ap₂}
-use mathlib.Core.Logic.{⊎_elim}
-use mathlib.Core.List.{List}
-use Prim.Native.Nat.{ℕ, ◌+◌, ◌-◌, ◌*◌, ◌^◌, ◌<◌, ◌≤◌}
-use native.Mathlib.Omega.{arith}
+use Prim.Native.Nat.{ℕ, ◌+◌, ◌-◌, ◌^◌, ◌<◌, ◌≤◌}
 use lib.IntN.{ℤ, pos, nat_abs, ◌-ℤ◌, ◌*ℤ◌}
-use lib.ListN.{length, get_or, take, drop, set, length-drop}
 use lib.Seq.{length-take-le, get_or-take, take_all}
 use mir.Syntax.{w64, w32}
 use mir.Val.{SFits, to_z, of_z}
-use mir.Facts.{to_z-of_z}
-use Rattle.integer.proofs.laws.Machine.{signed_needs, abs-fits, is_positive, above_one, positive_is}
+use Rattle.std.proofs.Common.{List, arith, length, get_or, take, drop, set, length-drop, to_z-of_z}
+use Rattle.integer.proofs.laws.Machine.{abs-fits, is_positive, above_one, positive_is}
 use Rattle.chebyshev.specs.definitions.Coefficients.{weight}
 use Rattle.chebyshev.proofs.laws.Weight.{weight_at, weight-drop, weight_split}
 use Rattle.model.specs.definitions.Models.{max_weight}
@@ -89,7 +85,7 @@ module _ (c : goal.After-near-q) where
   q = c.near-q.result
 
   fits-x : SFits w64 x
-  fits-x = record { sfits = c.before.exact-1.given }
+  fits-x = abs-fits w64 x (omega (arith, weight_at (all s) k, s.requires.light))
 
   q_is : q ≡ rounded_at (d s) x
   q_is = rw (to_z-of_z fits-x) at c.near-q.ensures

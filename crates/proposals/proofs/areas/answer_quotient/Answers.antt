@@ -1,5 +1,4 @@
 -- `areas::answer_quotient` meets its contract.
-use Rattle.std.proofs.Common.{rules}
 use mathlib.Core.Path.{sym, ap, ◌∙◌}
 use mathlib.Core.List.{[], ◌∷◌}
 use Rattle.model.specs.definitions.Area.{candidate_size, area_out}

@@ -1,5 +1,4 @@
 -- `areas::answer_units` meets its contract.
-use Rattle.std.proofs.Common.{rules}
 use mathlib.Core.Path.{sym, ap, ◌∙◌}
 use Rattle.model.specs.definitions.Area.{candidate_size, area_out}
 use Rattle.model.proofs.laws.OutcomeLaws.{number-judged, payload-judged}

@@ -1,11 +1,10 @@
 -- `areas::copy_values` meets its contract: a turn copies one value.
-use Rattle.std.proofs.Common.{rules}
-use mathlib.Core.Path.{◌≡◌, refl, sym}
+use mathlib.Core.Path.{refl}
 use Prim.Native.Nat.{◌-◌}
 use native.Mathlib.Omega.{arith}
-use lib.ListN.{length, get_or}
+use lib.ListN.{get_or}
 use lib.Ieee.{nan}
-use Rattle.integer.proofs.laws.Filling.{Filling, begins, turn, whole}
+use Rattle.integer.proofs.laws.Filling.{turn}
 use Rattle.proposals.proofs.areas.copy_values.Goals as goal
 
 pub loop-k-preserved : goal.loop-k-preserved

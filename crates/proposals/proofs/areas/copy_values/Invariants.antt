@@ -1,11 +1,8 @@
 -- `areas::copy_values` meets its contract: a turn copies one value.
-use Rattle.std.proofs.Common.{rules}
-use mathlib.Core.Path.{◌≡◌, refl, sym}
+use mathlib.Core.Path.{◌≡◌}
 use Prim.Native.Nat.{◌-◌}
-use native.Mathlib.Omega.{arith}
-use lib.ListN.{length, get_or}
-use lib.Ieee.{nan}
-use Rattle.integer.proofs.laws.Filling.{Filling, begins, turn, whole}
+use lib.ListN.{length}
+use Rattle.integer.proofs.laws.Filling.{Filling}
 use Rattle.proposals.proofs.areas.copy_values.Given as goal
 
 abbrev pub invariant-loop-k : goal.invariant-loop-k

@@ -1,9 +1,5 @@
 -- `areas::make_quotient_in` meets its contract.
-use Rattle.std.proofs.Common.{rules}
-use mathlib.Core.Path.{ap, ap₂, ◌∙◌}
-use Rattle.proposals.specs.definitions.Quotient.{quotient_proposal}
-use Rattle.proposals.specs.definitions.Areas.{quotient_in}
-use Rattle.proposals.proofs.Answering.{quotient_degrees, short_quotient_degrees, quotient_fits_lem}
+use Rattle.proposals.proofs.Answering.{quotient_degrees, short_quotient_degrees}
 use Rattle.proposals.proofs.areas.make_quotient_in.Goals as goal
 
 pub answer_quotient-requires : goal.answer_quotient-requires

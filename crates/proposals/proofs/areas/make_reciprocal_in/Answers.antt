@@ -1,9 +1,5 @@
 -- `areas::make_reciprocal_in` meets its contract.
-use Rattle.std.proofs.Common.{rules}
-use mathlib.Core.Path.{ap, ◌∙◌}
-use Rattle.proposals.specs.definitions.Reciprocal.{reciprocal_proposal}
-use Rattle.proposals.specs.definitions.Areas.{reciprocal_in}
-use Rattle.proposals.proofs.Answering.{reciprocal_degree, short_reciprocal_degree, reciprocal_fits_lem}
+use Rattle.proposals.proofs.Answering.{reciprocal_degree, short_reciprocal_degree}
 use Rattle.proposals.proofs.areas.make_reciprocal_in.Goals as goal
 
 pub answer_reciprocal-requires : goal.answer_reciprocal-requires

@@ -1,12 +1,11 @@
 -- `areas::store_candidate` meets its contract: the coefficients are copied into the part lent on, then the degree.
-use Rattle.std.proofs.Common.{rules}
 use borrow.Rule.Slice.PartMut.{put_mid}
 use mathlib.Core.Path.{◌≡◌, refl, ◌∙◌}
 use mathlib.Core.List.{List, [], ◌∷◌, ◌++◌}
 use Prim.Native.Nat.{◌+◌, ◌≤◌}
 use native.Mathlib.Omega.{arith}
 use lib.IntN.{ℤ, pos}
-use lib.ListN.{length, set, drop, length-take, length-drop}
+use lib.ListN.{length, set, drop}
 use mir.Syntax.{w32}
 use mir.ValLaws.{to_z_pos}
 use Rattle.model.specs.definitions.Area.{candidate_size}

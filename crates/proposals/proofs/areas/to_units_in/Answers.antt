@@ -1,12 +1,4 @@
 -- `areas::to_units_in` meets its contract.
-use Rattle.std.proofs.Common.{rules}
-use borrow.Author.Tests.{leb-true}
-use mathlib.Core.Path.{ap, ◌∙◌}
-use lib.ListN.{length}
-use Rattle.model.specs.definitions.Area.{candidate_size, fits}
-use Rattle.model.proofs.laws.AreaLaws.{fit_last}
-use Rattle.proposals.specs.definitions.Units.{in_units}
-use Rattle.proposals.specs.definitions.Areas.{value_count, units_in}
 use Rattle.proposals.proofs.Answering.{list_degree, short_list_degree}
 use Rattle.proposals.proofs.areas.to_units_in.Goals as goal
 

@@ -1,8 +1,7 @@
 -- `product::add_multiple` meets its contract: what is left of b, added from place k on, gives the whole pass.
-use mathlib.Core.Path.{◌≡◌, refl, sym, ◌∙◌, ap}
+use mathlib.Core.Path.{sym, ◌∙◌, ap}
 use mathlib.Core.Logic.{inl, inr}
-use Prim.Native.Nat.{◌+◌, ◌-◌, ◌<◌}
-use native.Mathlib.Omega.{arith}
+use Prim.Native.Nat.{◌+◌, ◌-◌}
 use lib.ListN.{length, get_or, drop, length-set}
 use lib.Ieee.{nan, binary64, add, mul}
 use Rattle.chebyshev.specs.definitions.Passes.{add_from_by}

@@ -1,14 +1,9 @@
 -- `product::add_multiple` meets its contract: what is left of b, added from place k on, gives the whole pass.
-use mathlib.Core.Path.{◌≡◌, refl, sym, ◌∙◌, ap}
-use mathlib.Core.Logic.{inl, inr}
-use Prim.Native.Nat.{◌+◌, ◌-◌, ◌<◌}
-use native.Mathlib.Omega.{arith}
-use lib.ListN.{length, get_or, drop, length-set}
-use lib.Ieee.{nan, binary64, add, mul}
+use mathlib.Core.Path.{◌≡◌}
+use Prim.Native.Nat.{◌-◌}
+use lib.ListN.{length, drop}
+use lib.Ieee.{binary64, add, mul}
 use Rattle.chebyshev.specs.definitions.Passes.{add_from_by}
-use Rattle.chebyshev.proofs.laws.ProductLaws.{add_at_by_set}
-use Rattle.proposals.proofs.Tests.{both_below, not_both}
-use Rattle.chebyshev.proofs.laws.PassLaws.{from_step, from_end, from_beyond}
 use Rattle.proposals.proofs.product.add_multiple.Given as goal
 
 abbrev pub invariant-loop-k : goal.invariant-loop-k

@@ -1,8 +1,4 @@
 -- `product::add_term` meets its contract: three passes are the term.
-use Rattle.std.proofs.Common.{rules}
-use mathlib.Core.Path.{◌≡◌, ◌∙◌, ap}
-use native.Mathlib.Omega.{arith}
-use lib.ListN.{length, length-reverse}
 use Rattle.proposals.proofs.Passes.{passes}
 use Rattle.proposals.proofs.product.add_term.Goals as goal
 

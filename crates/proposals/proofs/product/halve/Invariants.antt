@@ -1,12 +1,8 @@
 -- `product::halve` meets its contract.
-use Rattle.std.proofs.Common.{rules}
-use mathlib.Core.Path.{◌≡◌, refl}
 use Prim.Native.Nat.{◌-◌}
-use native.Mathlib.Omega.{arith}
-use lib.ListN.{length, get_or}
-use lib.Ieee.{Float, nan, binary64, div, of_bits}
+use lib.ListN.{length}
 use Rattle.proposals.specs.definitions.Product.{half}
-use Rattle.proposals.proofs.Mapping.{Mapping, map_begins, map_turn, map_ends}
+use Rattle.proposals.proofs.Mapping.{Mapping}
 use Rattle.proposals.proofs.product.halve.Given as goal
 
 abbrev pub invariant-loop-k : goal.invariant-loop-k

@@ -1,16 +1,14 @@
 -- `product::multiply` meets its contract: the terms that are left give the rest of the walk.
 use Rattle.std.proofs.Common.{rules}
-use mathlib.Core.Path.{◌≡◌, refl, sym, ◌∙◌, ap}
-use mathlib.Core.List.{map, reverse}
-use Prim.Native.Nat.{◌+◌, ◌-◌, ◌≤◌}
+use mathlib.Core.Path.{◌≡◌, sym, ◌∙◌, ap}
+use mathlib.Core.List.{map}
+use Prim.Native.Nat.{◌+◌, ◌-◌}
 use native.Mathlib.Omega.{arith}
-use lib.ListN.{length, get_or, drop, replicate}
+use lib.ListN.{length, get_or, drop}
 use lib.Ieee.{nan, binary64, add, mul}
-use Rattle.chebyshev.specs.definitions.Product.{add_term_by, add_terms_by}
+use Rattle.chebyshev.specs.definitions.Product.{add_term_by}
 use Rattle.chebyshev.proofs.laws.ProductLaws.{length_add_term_by, terms_list, terms_by_step, terms_by_end}
-use Rattle.proposals.specs.definitions.Values.{nought}
 use Rattle.proposals.specs.definitions.Product.{half, product_wide}
-use Rattle.proposals.proofs.laws.ValueLaws.{nought_is}
 use Rattle.proposals.proofs.product.multiply.Goals as goal
 
 pub loop-i-preserved : goal.loop-i-preserved

@@ -1,16 +1,11 @@
 -- `product::multiply` meets its contract: the terms that are left give the rest of the walk.
-use Rattle.std.proofs.Common.{rules}
-use mathlib.Core.Path.{◌≡◌, refl, sym, ◌∙◌, ap}
-use mathlib.Core.List.{map, reverse}
-use Prim.Native.Nat.{◌+◌, ◌-◌, ◌≤◌}
-use native.Mathlib.Omega.{arith}
-use lib.ListN.{length, get_or, drop, replicate}
-use lib.Ieee.{nan, binary64, add, mul}
-use Rattle.chebyshev.specs.definitions.Product.{add_term_by, add_terms_by}
-use Rattle.chebyshev.proofs.laws.ProductLaws.{length_add_term_by, terms_list, terms_by_step, terms_by_end}
+use mathlib.Core.Path.{◌≡◌}
+use mathlib.Core.List.{reverse}
+use Prim.Native.Nat.{◌-◌, ◌≤◌}
+use lib.ListN.{length, drop, replicate}
+use lib.Ieee.{binary64, add, mul}
+use Rattle.chebyshev.specs.definitions.Product.{add_terms_by}
 use Rattle.proposals.specs.definitions.Values.{nought}
-use Rattle.proposals.specs.definitions.Product.{half, product_wide}
-use Rattle.proposals.proofs.laws.ValueLaws.{nought_is}
 use Rattle.proposals.proofs.product.multiply.Given as goal
 
 abbrev pub invariant-loop-i : goal.invariant-loop-i

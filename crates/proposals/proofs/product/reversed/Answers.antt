@@ -1,12 +1,11 @@
 -- `product::reversed` meets its contract.
 use Rattle.std.proofs.Common.{rules}
-use mathlib.Core.Path.{◌≡◌, refl, sym}
-use mathlib.Core.List.{reverse}
+use mathlib.Core.Path.{◌≡◌, sym}
 use Prim.Native.Nat.{◌-◌}
 use native.Mathlib.Omega.{arith}
-use lib.ListN.{length, get_or, replicate, length-reverse}
-use lib.Ieee.{nan, binary64, of_bits}
-use Rattle.integer.proofs.laws.Filling.{Filling, begins, turn, whole}
+use lib.ListN.{length, get_or}
+use lib.Ieee.{nan}
+use Rattle.integer.proofs.laws.Filling.{turn}
 use Rattle.proposals.proofs.Reversal.{get_d_reverse}
 use Rattle.proposals.proofs.product.reversed.Goals as goal
 

@@ -1,13 +1,9 @@
 -- `product::reversed` meets its contract.
-use Rattle.std.proofs.Common.{rules}
-use mathlib.Core.Path.{◌≡◌, refl, sym}
 use mathlib.Core.List.{reverse}
 use Prim.Native.Nat.{◌-◌}
-use native.Mathlib.Omega.{arith}
-use lib.ListN.{length, get_or, replicate, length-reverse}
-use lib.Ieee.{nan, binary64, of_bits}
-use Rattle.integer.proofs.laws.Filling.{Filling, begins, turn, whole}
-use Rattle.proposals.proofs.Reversal.{get_d_reverse}
+use lib.ListN.{replicate}
+use lib.Ieee.{binary64, of_bits}
+use Rattle.integer.proofs.laws.Filling.{Filling}
 use Rattle.proposals.proofs.product.reversed.Given as goal
 
 abbrev pub invariant-loop-k : goal.invariant-loop-k

@@ -1,5 +1,4 @@
 -- `reciprocal::make_reciprocal` meets its contract.
-use Rattle.std.proofs.Common.{rules}
 use borrow.Author.Tests.{not-true, not-false}
 use mathlib.Core.Path.{◌≡◌, sym, ◌∙◌, ap}
 use Prim.Native.Nat.{ℕ}
@@ -9,8 +8,8 @@ use Rattle.model.specs.definitions.Outcomes.{Outcome, accepted, refused}
 use Rattle.model.specs.declared.types.Candidate.{Candidate}
 use Rattle.proposals.specs.declared.types.Made.{Made}
 use Rattle.proposals.specs.definitions.Units.{in_units}
-use Rattle.proposals.specs.definitions.Reciprocal.{Reciprocal, make_reciprocal, refused_reciprocal, reciprocal_proposal}
-use Rattle.proposals.proofs.laws.MakerLaws.{reciprocal_of_bad, reciprocal_not_finite, reciprocal_in_units, then_units, units_stop, units_go_on}
+use Rattle.proposals.specs.definitions.Reciprocal.{Reciprocal, make_reciprocal, refused_reciprocal}
+use Rattle.proposals.proofs.laws.MakerLaws.{reciprocal_of_bad, reciprocal_not_finite, reciprocal_in_units, units_stop, units_go_on}
 use Rattle.proposals.proofs.laws.ExactQuotient.{with_exact_reciprocal}
 use Rattle.proposals.proofs.reciprocal.make_reciprocal.Goals as goal
 

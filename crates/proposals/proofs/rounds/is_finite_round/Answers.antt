@@ -1,5 +1,4 @@
 -- `rounds::is_finite_round` meets its contract.
-use Rattle.std.proofs.Common.{rules}
 use Rattle.proposals.specs.definitions.Rounds.{finite_round}
 use Rattle.proposals.proofs.rounds.is_finite_round.Goals as goal
 

@@ -1,12 +1,10 @@
 -- `rounds::largest_change` meets its contract: the places that are left give the rest of the change.
 use Rattle.std.proofs.Common.{rules}
 use mathlib.Core.Path.{◌≡◌, sym, ◌∙◌}
-use Prim.Native.Nat.{◌-◌, ◌≤◌}
+use Prim.Native.Nat.{◌-◌}
 use native.Mathlib.Omega.{arith}
-use lib.ListN.{length, drop}
+use lib.ListN.{length}
 use Rattle.proposals.specs.definitions.Values.{nought}
-use Rattle.proposals.specs.definitions.Rounds.{change_from}
-use Rattle.proposals.proofs.laws.ValueLaws.{nought_is}
 use Rattle.proposals.proofs.laws.RoundsLaws.{change_again, change_end}
 use Rattle.proposals.proofs.rounds.largest_change.Goals as goal
 

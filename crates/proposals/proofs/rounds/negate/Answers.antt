@@ -1,13 +1,12 @@
 -- `rounds::negate` meets its contract.
-use Rattle.std.proofs.Common.{rules}
 use mathlib.Core.Path.{◌≡◌}
 use Prim.Native.Nat.{◌-◌}
 use native.Mathlib.Omega.{arith}
-use lib.ListN.{length, get_or}
+use lib.ListN.{get_or}
 use lib.Ieee.{Float, nan, binary64, sub, of_bits}
 use Rattle.proposals.specs.definitions.Values.{nought}
 use Rattle.proposals.proofs.laws.ValueLaws.{nought_is}
-use Rattle.proposals.proofs.Mapping.{Mapping, map_begins, map_turn, map_ends}
+use Rattle.proposals.proofs.Mapping.{map_turn}
 use Rattle.proposals.proofs.rounds.negate.Goals as goal
 
 -- 0.0 stands by its bits

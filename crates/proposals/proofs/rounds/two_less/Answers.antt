@@ -1,5 +1,4 @@
 -- `rounds::two_less` meets its contract.
-use Rattle.std.proofs.Common.{rules}
 use Rattle.proposals.proofs.laws.ValueLaws.{two_is}
 use Rattle.proposals.proofs.laws.RoundsLaws.{two_less-set}
 use Rattle.proposals.proofs.rounds.two_less.Goals as goal

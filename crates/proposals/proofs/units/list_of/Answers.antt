@@ -1,6 +1,6 @@
 -- `units::list_of` meets its contract.
 use Rattle.std.proofs.Common.{rules}
-use mathlib.Core.Path.{◌≡◌, refl}
+use mathlib.Core.Path.{◌≡◌}
 use Prim.Native.Nat.{◌-◌}
 use native.Mathlib.Omega.{arith}
 use lib.IntN.{pos}
@@ -9,10 +9,9 @@ use lib.Ieee.{nan}
 use mir.Syntax.{w32}
 use mir.Val.{SFits}
 use mir.Facts.{to_z-of_z}
-use Rattle.integer.proofs.laws.Machine.{signed_needs}
 use Rattle.proposals.specs.definitions.InnerContracts.{limited_units}
 use Rattle.proposals.proofs.laws.ValueLaws.{finite_at}
-use Rattle.proposals.proofs.Mapping.{Making, make_begins, make_turn, make_ends}
+use Rattle.proposals.proofs.Mapping.{make_turn}
 use Rattle.proposals.proofs.units.list_of.Goals as goal
 
 pub units_of-requires : goal.units_of-requires

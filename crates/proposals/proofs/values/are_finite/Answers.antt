@@ -1,11 +1,10 @@
 -- `values::are_finite` meets its contract: the values that are left decide.
 use Rattle.std.proofs.Common.{rules}
 use borrow.Author.Tests.{not-true, not-false}
-use mathlib.Core.Path.{◌≡◌, refl, sym, ◌∙◌}
-use Prim.Native.Nat.{◌-◌, ◌≤◌}
+use mathlib.Core.Path.{◌≡◌, sym, ◌∙◌}
+use Prim.Native.Nat.{◌-◌}
 use native.Mathlib.Omega.{arith}
-use lib.ListN.{length, drop}
-use Rattle.proposals.specs.definitions.Values.{all_finite}
+use lib.ListN.{length}
 use Rattle.proposals.proofs.laws.ValueLaws.{finite_stop, finite_again, finite_end}
 use Rattle.proposals.proofs.values.are_finite.Goals as goal
 

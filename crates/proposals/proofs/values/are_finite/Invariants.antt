@@ -1,12 +1,8 @@
 -- `values::are_finite` meets its contract: the values that are left decide.
-use Rattle.std.proofs.Common.{rules}
-use borrow.Author.Tests.{not-true, not-false}
-use mathlib.Core.Path.{◌≡◌, refl, sym, ◌∙◌}
+use mathlib.Core.Path.{◌≡◌}
 use Prim.Native.Nat.{◌-◌, ◌≤◌}
-use native.Mathlib.Omega.{arith}
-use lib.ListN.{length, drop}
+use lib.ListN.{drop}
 use Rattle.proposals.specs.definitions.Values.{all_finite}
-use Rattle.proposals.proofs.laws.ValueLaws.{finite_stop, finite_again, finite_end}
 use Rattle.proposals.proofs.values.are_finite.Given as goal
 
 abbrev pub invariant-loop-k : goal.invariant-loop-k

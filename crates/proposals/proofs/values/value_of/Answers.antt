@@ -1,5 +1,4 @@
 -- `values::value_of` meets its contract.
-use Rattle.std.proofs.Common.{rules}
 use mathlib.Core.Path.{refl}
 use mir.Facts.{to_z-of_z}
 use Rattle.proposals.specs.definitions.Values.{value_of}

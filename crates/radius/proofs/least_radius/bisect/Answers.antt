@@ -4,8 +4,8 @@ use Prim.Native.Nat.{ℕ, ◌+◌, ◌*◌, ◌-◌, ◌/◌, ◌^◌, ◌≤◌
 use native.Mathlib.Omega.{arith}
 use native.Mathlib.Nat.{mul-le-mul_left}
 use Rattle.model.specs.definitions.Models.{scale}
-use Rattle.radius.proofs.laws.LeastLaws.{test_holds, test_fails}
-use Rattle.radius.proofs.laws.SearchLaws.{Bracket, bracket_down, bracket_up, bracket_end}
+use Rattle.radius.proofs.laws.LeastLaws.{test_fails}
+use Rattle.radius.proofs.laws.SearchLaws.{bracket_up, bracket_end}
 use Rattle.radius.proofs.Halvings.{halvings, halvings_fall}
 use Rattle.radius.proofs.least_radius.bisect.Goals as goal
 use Rattle.radius.proofs.least_radius.bisect.Lts

@@ -1,12 +1,7 @@
 -- `least_radius::bisect` meets its contract. The invariant: high satisfies, and nothing below low does.
-use mathlib.Core.Path.{sym, ◌∙◌}
-use Prim.Native.Nat.{ℕ, ◌+◌, ◌*◌, ◌-◌, ◌/◌, ◌^◌, ◌≤◌, ◌<◌}
-use native.Mathlib.Omega.{arith}
-use native.Mathlib.Nat.{mul-le-mul_left}
-use Rattle.model.specs.definitions.Models.{scale}
-use Rattle.radius.proofs.laws.LeastLaws.{test_holds, test_fails}
-use Rattle.radius.proofs.laws.SearchLaws.{Bracket, bracket_down, bracket_up, bracket_end}
-use Rattle.radius.proofs.Halvings.{halvings, halvings_fall}
+use Prim.Native.Nat.{◌-◌, ◌≤◌}
+use Rattle.radius.proofs.laws.SearchLaws.{Bracket}
+use Rattle.radius.proofs.Halvings.{halvings}
 use Rattle.radius.proofs.least_radius.bisect.Given as goal
 
 abbrev pub invariant-loop-low : goal.invariant-loop-low

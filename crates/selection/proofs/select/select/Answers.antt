@@ -1,5 +1,4 @@
 -- `select::select` meets its contract, case by case.
-use Rattle.std.proofs.Common.{rules}
 use mathlib.Core.Path.{sym}
 use Rattle.selection.proofs.laws.SelectLaws.{smaller_second, first_not_larger, only_first, only_second, neither}
 use Rattle.selection.proofs.select.select.Goals as goal

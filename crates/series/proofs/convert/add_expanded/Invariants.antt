@@ -1,24 +1,13 @@
 -- `convert::add_expanded` meets its contract: after k turns the first k terms are expanded.
-use mathlib.Core.Path.{◌≡◌, refl, sym, ◌∙◌, ap}
+use mathlib.Core.Path.{◌≡◌}
 use mathlib.Core.List.{List}
-use Prim.Native.Nat.{ℕ, suc, ◌+◌, ◌-◌, ◌*◌, ◌<◌, ◌≤◌}
-use native.Mathlib.Omega.{arith}
-use lib.IntN.{ℤ, pos}
-use lib.ListN.{length, get_or, take, drop}
-use mir.Syntax.{w32}
-use mir.Val.{SFits}
-use mir.Facts.{to_z-of_z}
+use Prim.Native.Nat.{ℕ, ◌+◌, ◌-◌, ◌*◌, ◌≤◌}
+use lib.IntN.{ℤ}
+use lib.ListN.{length, drop}
 use Rattle.ring.specs.definitions.Integer.{ℤ_ring}
-use Rattle.integer.proofs.laws.Machine.{signed_needs, fits_widens}
-use Rattle.chebyshev.specs.definitions.Coefficients.{weight, add_lists, scale_list}
-use Rattle.chebyshev.proofs.laws.CoefficientLaws.{length-add, length-scale, add-nil, add_lists_assoc}
-use Rattle.chebyshev.proofs.laws.Weight.{weight-add, weight_step, weight-scale}
-use Rattle.model.specs.definitions.Models.{max_degree}
-use Rattle.series.specs.definitions.Table.{expansion_unit, expansion_row}
+use Rattle.chebyshev.specs.definitions.Coefficients.{weight, add_lists}
+use Rattle.series.specs.definitions.Table.{expansion_unit}
 use Rattle.series.specs.definitions.Convert.{expanded_from}
-use Rattle.series.specs.definitions.InnerContracts.{Expandable}
-use Rattle.series.proofs.laws.RowLaws.{length_row, row_alternate}
-use Rattle.series.proofs.laws.ConversionLaws.{row_in_table, length_table, expanded_step, expanded_end, multiple_weight}
 use Rattle.series.proofs.convert.add_expanded.Given as goal
 
 pub record Walked (sums₀ ps sums : List ℤ) (k : ℕ) : Type 0 where

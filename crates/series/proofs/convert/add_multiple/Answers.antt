@@ -12,7 +12,7 @@ use mir.Val.{SFits, to_z, of_z}
 use mir.Facts.{to_z-of_z}
 use Rattle.ring.specs.laws.Parts.{abs-mul, abs-add}
 use Rattle.ring.specs.definitions.Integer.{ℤ_ring}
-use Rattle.integer.proofs.laws.Machine.{signed_needs, abs-fits}
+use Rattle.integer.proofs.laws.Machine.{abs-fits}
 use Rattle.integer.proofs.laws.Filling.{next}
 use Rattle.chebyshev.specs.definitions.Coefficients.{weight, scale_list}
 use Rattle.chebyshev.proofs.laws.CoefficientLaws.{get_d_add, get_d_scale}
@@ -21,7 +21,6 @@ use Rattle.series.proofs.MultipleWalk.{filled, Walked, start_at, turn_at, end_at
 use Rattle.series.proofs.convert.add_multiple.Goals as goal
 use Rattle.series.proofs.convert.add_multiple.Lts
 use Rattle.series.proofs.convert.add_multiple.Reads
-use Rattle.series.proofs.convert.add_multiple.Tie
 
 abbrev At-loop-j : Type 0
 At-loop-j = Lts.At-loop Reads.Pre Reads.Post goal.the-invariant-loop-j goal.the-decreases-loop-j

@@ -1,5 +1,4 @@
 -- `convert::from_series` meets its contract.
-use Rattle.std.proofs.Common.{rules}
 use mathlib.Core.Path.{◌≡◌, sym, ◌∙◌}
 use Rattle.series.specs.definitions.Convert.{good_series}
 use Rattle.series.proofs.laws.ConversionLaws.{series_good, conversion_of_good, conversion_of_bad}

@@ -1,10 +1,7 @@
 -- `areas::clear` meets its contract.
-use Rattle.std.proofs.Common.{rules}
-use mathlib.Core.Path.{◌≡◌, refl, sym}
 use Prim.Native.Nat.{◌-◌}
-use native.Mathlib.Omega.{arith}
-use lib.ListN.{length, replicate, length-replicate, get_or-replicate}
-use Rattle.integer.proofs.laws.Filling.{Filling, begins, turn, whole}
+use lib.ListN.{length, replicate}
+use Rattle.integer.proofs.laws.Filling.{Filling}
 use Rattle.survey.proofs.areas.clear.Given as goal
 
 abbrev pub invariant-loop-i : goal.invariant-loop-i

@@ -1,10 +1,8 @@
 -- `areas::copy` meets its contract: a turn copies one byte.
-use Rattle.std.proofs.Common.{rules}
-use mathlib.Core.Path.{◌≡◌, refl, sym}
+use mathlib.Core.Path.{◌≡◌}
 use Prim.Native.Nat.{◌-◌}
-use native.Mathlib.Omega.{arith}
-use lib.ListN.{length, get_or}
-use Rattle.integer.proofs.laws.Filling.{Filling, begins, turn, whole}
+use lib.ListN.{length}
+use Rattle.integer.proofs.laws.Filling.{Filling}
 use Rattle.survey.proofs.areas.copy.Given as goal
 
 abbrev pub invariant-loop-i : goal.invariant-loop-i

@@ -1,10 +1,8 @@
 -- `degrees::sum_degree` meets its contract.
-use Rattle.std.proofs.Common.{rules}
 use mathlib.Core.Path.{ap₂, ◌∙◌}
-use Prim.Native.Nat.{◌+◌, max}
+use Prim.Native.Nat.{max}
 use Rattle.job.specs.definitions.Decode.{maker_at}
 use Rattle.survey.specs.definitions.Degrees.{maker_degree}
-use Rattle.survey.proofs.laws.NameLaws.{first_named, second_named}
 use Rattle.survey.proofs.degrees.sum_degree.Goals as goal
 
 pub returns : goal.returns

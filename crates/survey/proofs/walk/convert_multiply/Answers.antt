@@ -1,12 +1,10 @@
 -- `walk::convert_multiply` meets its contract.
-use Rattle.std.proofs.Common.{rules}
 use mathlib.Core.Path.{ap, ap₂, ◌∙◌}
 use Prim.Native.Nat.{◌+◌, min}
 use lib.ListN.{set}
 use Rattle.job.specs.definitions.Bytes.{byte_at}
 use Rattle.job.specs.definitions.Decode.{edition_of, kept_in, maker_at}
 use Rattle.survey.specs.definitions.Degrees.{maker_degree}
-use Rattle.survey.proofs.laws.NameLaws.{first_named, second_named}
 use Rattle.survey.proofs.walk.convert_multiply.Goals as goal
 
 pub returns : goal.returns

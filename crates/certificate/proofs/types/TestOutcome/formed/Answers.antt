@@ -1,5 +1,4 @@
 -- `TestOutcome::formed` meets its contract: of a good candidate's model the radius alone can be too large.
-use Rattle.std.proofs.Common.{rules}
 use borrow.Author.Tests.{lt-ltb, le-ltb}
 use native.Mathlib.Omega.{arith}
 use Rattle.model.specs.definitions.Models.{max_radius, candidate_model}

@@ -1,5 +1,4 @@
 -- `Model::constant` meets its contract.
-use Rattle.std.proofs.Common.{rules}
 use mathlib.Core.Path.{◌∙◌, ap}
 use mathlib.Core.List.{◌∷◌}
 use lib.IntN.{pos}

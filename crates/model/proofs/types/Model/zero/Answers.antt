@@ -1,5 +1,4 @@
 -- `Model::zero` meets its contract.
-use Rattle.std.proofs.Common.{rules}
 use mathlib.Core.Path.{◌∙◌, ap}
 use lib.IntN.{pos}
 use lib.ListN.{replicate}

@@ -1,5 +1,4 @@
 -- `QuotientOutcome::refused` meets its contract.
-use Rattle.std.proofs.Common.{rules}
 use Rattle.proposals.specs.definitions.Quotient.{refused_quotient}
 use Rattle.proposals.proofs.laws.ValueLaws.{nought_is}
 use Rattle.proposals.proofs.types.QuotientOutcome.refused.Goals as goal

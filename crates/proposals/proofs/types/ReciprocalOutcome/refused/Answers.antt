@@ -1,5 +1,4 @@
 -- `ReciprocalOutcome::refused` meets its contract.
-use Rattle.std.proofs.Common.{rules}
 use Rattle.proposals.specs.definitions.Reciprocal.{refused_reciprocal}
 use Rattle.proposals.proofs.laws.ValueLaws.{nought_is}
 use Rattle.proposals.proofs.types.ReciprocalOutcome.refused.Goals as goal
