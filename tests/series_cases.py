@@ -157,7 +157,7 @@ ROWS = [binomial_row(k) for k in range(COEFFICIENTS)]
 
 def check_tables():
     """The tables of the library and of plain C have the binomials' numbers."""
-    rattle = re.findall(r'^    (\d+),$', TABLES[0].read_text(), re.M)
+    rattle = re.findall(r'\d+', re.search(r'= \[\n(.*?)\];', TABLES[0].read_text(), re.S)[1])
     assert [int(n) for n in rattle] == [n for row in ROWS for n in row], TABLES[0]
     plain = re.findall(r'\{([\d,\s]+)\}', TABLES[1].read_text())
     plain = [[int(n) for n in row.split(',')] for row in plain]
