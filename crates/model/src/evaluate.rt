@@ -5,8 +5,8 @@ ghost use Rattle.model.specs.definitions.Intervals.{good_ends};
 ghost use Rattle.model.specs.definitions.Models.{max_degree};
 ghost use Rattle.model.specs.definitions.Evaluate.{point_sum, mapped_point, maps_exactly, bounds_of, evaluation};
 
-use crate::measure::{fault_of, is_good};
-use crate::types::{BoundsOutcome, COEFFICIENTS, Interval, Model, Refusal, Verdict};
+use crate::measure::checked_weight;
+use crate::types::{Bounds, COEFFICIENTS, Interval, Model, Refusal};
 
 // 2^30, the scale of t_k: t_0 = 2^30 and t_1 = 2^10·p.
 const TERM_SCALE: i64 = 1073741824;
@@ -34,14 +34,12 @@ fn map_point(i: Interval, p: i32) -> MappedPoint
     ensures point_value { result.point ≡ mapped_point i p }
     ensures exact_value { result.exact ≡ maps_exactly i p }
 {
-    let low = i.lower;
-    let high = i.upper;
-    let lower = low as i64;
-    let upper = high as i64;
+    let lower = i.lower as i64;
+    let upper = i.upper as i64;
     let extent = upper - lower;
     let numerator = Model::SCALE * (2 * (p as i64) - lower - upper);
     let point = integer::rounding::near(numerator, extent);
-    let rest = integer::absolute::magnitude(point * extent - numerator);
+    let rest = (point * extent - numerator).unsigned_abs();
     MappedPoint {
         point,
         exact: rest == 0,
@@ -86,35 +84,19 @@ fn point_sums(degree: u32, coefficients: &[i32; COEFFICIENTS], p: i64, exact: bo
     PointSums { value, error }
 }
 
-pub fn evaluate(a: Model, p: i32) -> BoundsOutcome
+pub fn evaluate(a: Model, p: i32) -> Result<Bounds, Refusal>
     ensures { bounds_of result ≡ evaluation a p }
 {
-    if is_good(a) {
-        if Interval::contains(a.interval, p) {
-            let mapped = map_point(a.interval, p);
-            let sums = point_sums(a.degree, &a.coefficients, mapped.point, mapped.exact);
-            let value = 4 * sums.value;
-            let error = sums.error as i64;
-            let radius = a.radius as i64;
-            let low = integer::rounding::floor(value - error, SUM_SCALE) - radius;
-            let high = integer::rounding::up(value + error, SUM_SCALE) + radius;
-            BoundsOutcome {
-                verdict: Verdict::Accepted,
-                low,
-                high,
-            }
-        } else {
-            BoundsOutcome {
-                verdict: Verdict::Refused(Refusal::PointOutside),
-                low: 0,
-                high: 0,
-            }
-        }
-    } else {
-        BoundsOutcome {
-            verdict: Verdict::Refused(fault_of(a)),
-            low: 0,
-            high: 0,
-        }
+    checked_weight(a)?;
+    if !a.interval.contains(p) {
+        return Err(Refusal::PointOutside);
     }
+    let mapped = map_point(a.interval, p);
+    let sums = point_sums(a.degree, &a.coefficients, mapped.point, mapped.exact);
+    let value = 4 * sums.value;
+    let error = sums.error as i64;
+    let radius = a.radius as i64;
+    let low = integer::rounding::floor(value - error, SUM_SCALE) - radius;
+    let high = integer::rounding::up(value + error, SUM_SCALE) + radius;
+    Ok(Bounds { low, high })
 }

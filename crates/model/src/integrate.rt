@@ -8,8 +8,8 @@ ghost use Rattle.model.specs.definitions.InnerContracts.{Integrable, Numerator, 
 ghost use Rattle.model.specs.definitions.Outcomes.{outcome_of};
 ghost use Rattle.model.specs.definitions.Integrate.{integration};
 
-use crate::measure::{fault_of, is_good};
-use crate::types::{COEFFICIENTS, Interval, Model, ModelOutcome, Refusal};
+use crate::measure::checked_weight;
+use crate::types::{COEFFICIENTS, Model, Refusal};
 use integer::rounding::up_unsigned;
 
 // 4S, of the divisors 4S·k.
@@ -85,29 +85,24 @@ fn rounded_integral(degree: u32, doubled: &[i32; COEFFICIENTS], extent: u64) -> 
     }
 }
 
-pub fn integrate(a: Model) -> ModelOutcome
+pub fn integrate(a: Model) -> Result<Model, Refusal>
     ensures { outcome_of result ≡ integration a }
 {
-    if is_good(a) {
-        if a.degree < Model::MAX_DEGREE {
-            let mut doubled = a.coefficients;
-            doubled[0] = 2 * doubled[0];
-            let extent = Interval::extent(a.interval);
-            let result = rounded_integral(a.degree, &doubled, extent);
-            let spread = up_unsigned(a.radius as u64 * extent, Model::SCALE as u64);
-            let radius = spread + (a.degree as u64) + 1;
-            let coefficients = result.coefficients;
-            ModelOutcome::formed(
-                a.degree + 1,
-                coefficients,
-                result.weight,
-                radius,
-                a.interval,
-            )
-        } else {
-            ModelOutcome::refused(Refusal::LargeResult)
-        }
-    } else {
-        ModelOutcome::refused(fault_of(a))
+    checked_weight(a)?;
+    if a.degree == Model::MAX_DEGREE {
+        return Err(Refusal::LargeResult);
     }
+    let mut doubled = a.coefficients;
+    doubled[0] = 2 * doubled[0];
+    let extent = a.interval.extent();
+    let result = rounded_integral(a.degree, &doubled, extent);
+    let spread = up_unsigned(a.radius as u64 * extent, Model::SCALE as u64);
+    let radius = spread + (a.degree as u64) + 1;
+    Model::formed(
+        a.degree + 1,
+        result.coefficients,
+        result.weight,
+        radius,
+        a.interval,
+    )
 }

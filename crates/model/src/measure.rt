@@ -1,10 +1,11 @@
 // The test for a good model, and the weight, in one pass over the coefficients.
-ghost use Rattle.std.specs.Prelude.{◌≡◌, ◌<◌, ◌^◌, length};
+ghost use Rattle.std.specs.Prelude.{◌≡◌, ◌<◌, ◌^◌, length, true, false, IfOk, IfErr};
+ghost use Rattle.model.specs.declared.types.Refusal.TheVariants.{BadModel};
 ghost use Rattle.chebyshev.specs.definitions.Coefficients.{weight};
 ghost use Rattle.model.specs.definitions.Models.{coefficient_count, parts_within_limits, within_limits, good, fault};
 ghost use Rattle.model.specs.definitions.Outcomes.{number_of};
 
-use crate::types::{COEFFICIENTS, Candidate, Interval, Model, Refusal};
+use crate::types::{COEFFICIENTS, Candidate, Model, Refusal};
 
 #[derive(Clone, Copy)]
 pub struct Measured {
@@ -63,7 +64,7 @@ pub fn measure(m: Model) -> Measured
     ensures { (result.good ≡ good m) × (result.weight ≡ weight m.coefficients) }
 {
     let limits = measure_limits(m);
-    if Interval::is_good(m.interval) {
+    if m.interval.is_good() {
         limits
     } else {
         Measured {
@@ -91,13 +92,37 @@ pub fn is_good(m: Model) -> bool
 pub fn fault_of(m: Model) -> Refusal
     ensures { number_of result ≡ fault m }
 {
-    if Interval::is_good(m.interval) {
-        return Refusal::BadModel;
-    }
-    if measure_limits(m).good {
+    if !m.interval.is_good() && measure_limits(m).good {
         Refusal::BadEnds
     } else {
         Refusal::BadModel
+    }
+}
+
+// The weight of a good model, or why it is not good.
+pub fn checked_weight(m: Model) -> Result<u64, Refusal>
+    ensures ok { IfOk result (λ weight_value. (good m ≡ true) × (weight_value ≡ weight m.coefficients)) }
+    ensures err { IfErr result (λ refusal. (good m ≡ false) × (number_of refusal ≡ fault m)) }
+{
+    let measured = measure(m);
+    if measured.good {
+        Ok(measured.weight)
+    } else {
+        Err(fault_of(m))
+    }
+}
+
+// The weight of a good candidate.
+pub fn checked_candidate(c: Candidate) -> Result<u64, Refusal>
+    ensures ok { IfOk result
+        (λ weight_value. (parts_within_limits c.degree c.coefficients 0 ≡ true) × (weight_value ≡ weight c.coefficients)) }
+    ensures err { IfErr result (λ refusal. (parts_within_limits c.degree c.coefficients 0 ≡ false) × (refusal ≡ BadModel)) }
+{
+    let measured = measure_candidate(c);
+    if measured.good {
+        Ok(measured.weight)
+    } else {
+        Err(Refusal::BadModel)
     }
 }
 

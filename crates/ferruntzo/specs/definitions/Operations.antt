@@ -2,7 +2,8 @@
 -- for its numbers is refusal 1, before all else. What an area holds afterwards depends on its own length alone.
 use Rattle.std.specs.Prelude.{cond, ◌&&◌, List, [], ◌∷◌, ℕ, ℤ}
 use Rattle.model.specs.definitions.Area.{model_size, words, area_model, fits, area_out}
-use Rattle.model.specs.definitions.Evaluate.{Bounds, zero_bounds, evaluation}
+use Rattle.model.specs.definitions.Evaluate.{zero_bounds, evaluation}
+use Rattle.model.specs.declared.types.Bounds.{Bounds}
 use Rattle.model.specs.definitions.Models.{zero_model}
 use Rattle.model.specs.definitions.Outcomes.{Outcome, refused, number, payload}
 use Rattle.model.specs.definitions.Add.{addition, subtraction}

@@ -20,7 +20,8 @@ use Rattle.model.specs.definitions.Load.{loading}
 use Rattle.model.specs.definitions.Add.{addition, subtraction}
 use Rattle.model.specs.definitions.Multiply.{product_list, product_visits, multiplication}
 use Rattle.model.specs.definitions.Integrate.{exact_integral, integration}
-use Rattle.model.specs.definitions.Evaluate.{Bounds, point, evaluation}
+use Rattle.model.specs.definitions.Evaluate.{point, evaluation}
+use Rattle.model.specs.declared.types.Bounds.{Bounds}
 use Rattle.model.specs.declared.types.Interval.{Interval}
 use Rattle.model.specs.declared.types.Model.{Model}
 

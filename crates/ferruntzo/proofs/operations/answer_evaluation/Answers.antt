@@ -6,7 +6,7 @@ use mir.Syntax.{w64}
 use mir.Val.{SFits}
 use mir.Facts.{to_z-of_z}
 use Rattle.model.specs.definitions.Area.{area_out}
-use Rattle.model.specs.definitions.Evaluate.{Bounds}
+use Rattle.model.specs.declared.types.Bounds.{Bounds}
 use Rattle.model.proofs.laws.OutcomeLaws.{number-judged, payload-judged}
 use Rattle.ferruntzo.specs.definitions.Areas.{bounds_size}
 use Rattle.ferruntzo.specs.definitions.Operations.{evaluation_answer, bounds_in}

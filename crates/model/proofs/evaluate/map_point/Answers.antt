@@ -79,7 +79,7 @@ module _ (s : Start) where
 
 module _ (n : goal.After-near-point) where
   abbrev s₁ : Start
-  s₁ = n.before.before.before
+  s₁ = n.before.before.before.before.before
 
   abbrev q : ℤ
   q = n.near-point.result
@@ -116,19 +116,19 @@ module _ (n : goal.After-near-point) where
 
 pub near-point-requires : goal.near-point-requires
 near-point-requires c =
-    let s = c.before.before in
+    let s = c.before.before.before.before in
     simp (to_z-of_z (fits-l s), to_z-of_z (fits-u s), to_z-of_z (fits_widens (fits-l s)), to_z-of_z (fits_widens (fits-u s)), to_z-of_z (fits-extent s)) (positive s)
 
 pub returns : goal.returns
 unfolding maps_exactly
 returns c = let n = c.before in
     let s = s₁ n in
-    let rest : c.magnitude-rest.result ≡ nat_abs (mapped_point s.args.i (p s) *ℤ pos (d n) -ℤ numerator n) =
-    (simp (to_z-of_z (fits-l s), to_z-of_z (fits-u s), to_z-of_z (fits-p s), to_z-of_z (fits_widens (fits-l s)), to_z-of_z (fits_widens (fits-u s)), to_z-of_z (fits_widens (fits-p s)), to_z-of_z (fits-twice s), to_z-of_z (fits-first s), to_z-of_z (fits-second s), to_z-of_z (fits-numerator s), to_z-of_z (fits-extent s), to_z-of_z (fits-q n), to_z-of_z (fits-product n), to_z-of_z (fits-rest n)) at c.magnitude-rest.ensures)
+    let rest : c.unsigned_abs-rest.result ≡ nat_abs (mapped_point s.args.i (p s) *ℤ pos (d n) -ℤ numerator n) =
+    (simp (to_z-of_z (fits-l s), to_z-of_z (fits-u s), to_z-of_z (fits-p s), to_z-of_z (fits_widens (fits-l s)), to_z-of_z (fits_widens (fits-u s)), to_z-of_z (fits_widens (fits-p s)), to_z-of_z (fits-twice s), to_z-of_z (fits-first s), to_z-of_z (fits-second s), to_z-of_z (fits-numerator s), to_z-of_z (fits-extent s), to_z-of_z (fits-q n), to_z-of_z (fits-product n), to_z-of_z (fits-rest n)) at c.unsigned_abs-rest.ensures.value)
     ∙ ap (λ z. nat_abs (z -ℤ numerator n)) (product_is n) in record { point_value = to_z-of_z (fits-q n) ∙ q_is n; exact_value = ap (λ (m : ℕ). eqb m 0) rest }
 
 pub overflow_mul-numerator-2 : goal.overflow_mul-numerator-2
-overflow_mul-numerator-2 c = let s = c.before.before in simp (to_z-of_z (fits-p s), to_z-of_z (fits_widens (fits-p s)), to_z-of_z (fits-twice s), to_z-of_z (fits-l s), to_z-of_z (fits_widens (fits-l s)), to_z-of_z (fits-u s), to_z-of_z (fits_widens (fits-u s)), to_z-of_z (fits-first s), to_z-of_z (fits-second s)) (fits-numerator s)
+overflow_mul-numerator-2 c = let s = c.before.before.before.before in simp (to_z-of_z (fits-p s), to_z-of_z (fits_widens (fits-p s)), to_z-of_z (fits-twice s), to_z-of_z (fits-l s), to_z-of_z (fits_widens (fits-l s)), to_z-of_z (fits-u s), to_z-of_z (fits_widens (fits-u s)), to_z-of_z (fits-first s), to_z-of_z (fits-second s)) (fits-numerator s)
 
 pub overflow_mul-point : goal.overflow_mul-point
 overflow_mul-point n = let s = s₁ n in simp (to_z-of_z (fits-l s), to_z-of_z (fits-u s), to_z-of_z (fits_widens (fits-l s)), to_z-of_z (fits_widens (fits-u s)), to_z-of_z (fits-extent s), to_z-of_z (fits-q n)) (fits-product n)

@@ -32,16 +32,16 @@ terms_length m h l = length-take-le (m.degree + 1) m.coefficients (omega (arith,
 pub overflow_add-top : goal.overflow_add-top
 overflow_add-top c = omega (arith, good_is c.args.a c.requires.first_good, good_is c.args.b c.requires.second_good)
 
-pub slice_bounds-first-end : goal.slice_bounds-first-end
-slice_bounds-first-end c =
+pub shared_ref_as_front-round_product : goal.shared_ref_as_front-round_product
+shared_ref_as_front-round_product c =
     let l : length c.args.a.coefficients ≡ 33 = search rules in
     omega (arith, good_is c.args.a c.requires.first_good, l)
 
 pub slice_bounds-round_product-end : goal.slice_bounds-round_product-end
 slice_bounds-round_product-end c = sym (terms_length c.args.a (good_is c.args.a c.requires.first_good) (search rules))
 
-pub slice_bounds-second-end : goal.slice_bounds-second-end
-slice_bounds-second-end c =
+pub shared_ref_as_front-round_product-2 : goal.shared_ref_as_front-round_product-2
+shared_ref_as_front-round_product-2 c =
     let l : length c.args.b.coefficients ≡ 33 = search rules in
     omega (arith, good_is c.args.b c.requires.second_good, l)
 
@@ -76,13 +76,13 @@ module _ (c : After-round_product-product) where
 
 pub overflow_add-loss : goal.overflow_add-loss
 overflow_add-loss c =
-    omega (arith, c.radius_loss.ensures.1, rounded_loss (2 * scale) (omega arith) (product_list c.args.a c.args.b) _ c.round_product-product.result.rounded (walked c.before.before.before.before.before.before.before).0, weight-product_list c.args.a c.args.b c.requires.first_good c.requires.second_good)
+    omega (arith, c.radius_loss.ensures.1, rounded_loss (2 * scale) (omega arith) (product_list c.args.a c.args.b) _ c.round_product-product.result.rounded (walked c.before.before.before.before).0, weight-product_list c.args.a c.args.b c.requires.first_good c.requires.second_good)
 
 pub returns : goal.returns
 returns c =
-    let at = c.before.before.before.before.before.before.before.before.before in
+    let at = c.before.before.before.before.before.before.before in
     let p = c.round_product-product.result.rounded in
     let n : c.radius_loss.result ≡ radius_loss c.args.a c.args.b = c.radius_loss.ensures.0 ∙ (λ t. 2 * (c.requires.first_weight t * c.args.b.radius + c.requires.second_weight t * c.args.a.radius + c.args.a.radius * c.args.b.radius)) in
-    let e : c.up_unsigned.result ≡ upℕ (p.loss + radius_loss c.args.a c.args.b) (2 * scale) = c.up_unsigned.ensures ∙ ap (λ m. upℕ (p.loss + m) (2 * scale)) n in
+    let e : c.up_unsigned-radius.result ≡ upℕ (p.loss + radius_loss c.args.a c.args.b) (2 * scale) = c.up_unsigned-radius.ensures ∙ ap (λ m. upℕ (p.loss + m) (2 * scale)) n in
     let o = c.formed-outcome.ensures ∙ (λ t. formed_outcome (degree-is at t) p.coefficients p.weight (e t) c.args.a.interval) ∙ product_formed c.args.kept c.args.a c.args.b p (walked at).0 in
     record { outcome_value = o; visits_value = (walked at).1 }
