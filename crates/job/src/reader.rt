@@ -3,7 +3,8 @@ ghost use Rattle.std.specs.Prelude.{◌≡◌};
 ghost use Rattle.job.specs.definitions.Reading.{command_reading, command_reading_of};
 
 use crate::reading::read_command;
-use crate::types::CommandReading;
+use crate::types::ReadCommand;
+use model::types::Refusal;
 
 #[derive(Clone, Copy)]
 struct Reader<'a> {
@@ -12,14 +13,14 @@ struct Reader<'a> {
 }
 
 // Command k, at the reader's position, with so many results before it.
-fn next<'a>(reader: Reader<'a>, k: usize, count: usize) -> CommandReading
+fn next<'a>(reader: Reader<'a>, k: usize, count: usize) -> Result<ReadCommand, Refusal>
     ensures { command_reading_of result ≡ command_reading reader.entry.job.now k count reader.entry.at }
 {
     read_command(reader.job, k, count, reader.at)
 }
 
 // The same with plain parameters, so that the run over the commands is covered.
-pub fn read_next(job: &[u8], k: usize, count: usize, at: usize) -> CommandReading
+pub fn read_next(job: &[u8], k: usize, count: usize, at: usize) -> Result<ReadCommand, Refusal>
     ensures { command_reading_of result ≡ command_reading job.now k count at }
 {
     next(Reader { job, at }, k, count)

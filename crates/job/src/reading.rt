@@ -5,7 +5,7 @@ ghost use Rattle.job.specs.definitions.Reading.{max_results, bad_kind, bad_value
 ghost use Rattle.job.specs.definitions.Reading.{makes_result, is_end, command_reading, command_reading_of};
 
 use crate::decode::shape_of;
-use crate::types::{CommandReading, Kind, MAX_RESULTS, Names, OperandValues};
+use crate::types::{Kind, MAX_RESULTS, Names, OperandValues, ReadCommand};
 use model::multiply::is_bad_kept;
 use model::types::Refusal;
 
@@ -97,34 +97,37 @@ fn is_too_long(kind: Kind, next: usize, len: usize) -> bool
 }
 
 // Command k, whose byte stands at a position, with so many results before it.
-pub(crate) fn read_command(job: &[u8], k: usize, count: usize, at: usize) -> CommandReading
+pub(crate) fn read_command(
+    job: &[u8],
+    k: usize,
+    count: usize,
+    at: usize,
+) -> Result<ReadCommand, Refusal>
     ensures { command_reading_of result ≡ command_reading job.now k count at }
 {
     if job.len() <= at {
-        return CommandReading::Refused(Refusal::JobEnds);
+        return Err(Refusal::JobEnds);
     }
     let shape = shape_of(job[at]);
     let kind = shape.kind;
     if is_bad_kind(k, kind) {
-        return CommandReading::Refused(Refusal::BadValue);
+        return Err(Refusal::BadValue);
     }
     if job.len() - at <= shape.width {
-        return CommandReading::Refused(Refusal::JobEnds);
+        return Err(Refusal::JobEnds);
     }
-    let values = shape.values;
-    if has_bad_values(values, job, at) {
-        return CommandReading::Refused(Refusal::BadValue);
+    if has_bad_values(shape.values, job, at) {
+        return Err(Refusal::BadValue);
     }
-    let names = shape.names;
-    if has_bad_names(names, job, at, count) {
-        return CommandReading::Refused(Refusal::NotAResult);
+    if has_bad_names(shape.names, job, at, count) {
+        return Err(Refusal::NotAResult);
     }
     if is_full(kind, count) {
-        return CommandReading::Refused(Refusal::TooManyResults);
+        return Err(Refusal::TooManyResults);
     }
     let next = at + 1 + shape.width;
     if is_too_long(kind, next, job.len()) {
-        return CommandReading::Refused(Refusal::BytesAfterEnd);
+        return Err(Refusal::BytesAfterEnd);
     }
-    CommandReading::Found(kind, next)
+    Ok(ReadCommand { kind, next })
 }

@@ -10,7 +10,7 @@ ghost use Rattle.job.specs.definitions.Reports.{room_size};
 use crate::operations::operate;
 use crate::reader::read_next;
 use crate::reports::write_record;
-use crate::types::{CommandReading, Kind, Report, Step};
+use crate::types::{Kind, Progress, Report};
 use crate::work::store;
 use certificate::types::TestOutcome;
 use model::types::{Refusal, Verdict};
@@ -23,7 +23,7 @@ fn add_result(
     a: TestOutcome,
     report: Report,
     room: &mut [u8],
-) -> Step
+) -> Result<Option<Progress>, Refusal>
     requires { Storing work.old count a.model × (room_size report ≤ length room.old) }
     ensures steps_by { StepsBy result work.old work.new count (λ rs. resulting rs next (test_of a)) }
     ensures room_after { room.new ≡ recorded_from report room.old count (added_of (test_of a)) }
@@ -44,9 +44,9 @@ fn add_result(
                 a.model.radius,
             );
             let results = count + 1;
-            Step::More(results, next)
+            Ok(Some(Progress { results, next }))
         }
-        Verdict::Refused(refusal) => Step::Refused(refusal),
+        Verdict::Refused(refusal) => Err(refusal),
     }
 }
 
@@ -61,7 +61,7 @@ fn perform(
     scratch: &mut [i64],
     report: Report,
     room: &mut [u8],
-) -> Step
+) -> Result<Option<Progress>, Refusal>
     requires { Performable kind job.now count at work.old
         × (Clear scratch.old × (room_size report ≤ length room.old)) }
     ensures steps_by { StepsBy result work.old work.new count
@@ -71,13 +71,16 @@ fn perform(
         (λ rs. added_by (command_at kind job.now at) rs) }
 {
     match kind {
-        Kind::End => Step::Over,
-        Kind::Edition => Step::More(count, next),
+        Kind::End => Ok(None),
+        Kind::Edition => Ok(Some(Progress {
+            results: count,
+            next,
+        })),
         Kind::Result(op) => {
             let a = operate(op, job, at, work, scratch);
             add_result(work, count, next, a, report, room)
         }
-        Kind::Unknown => Step::Refused(Refusal::BadValue),
+        Kind::Unknown => Err(Refusal::BadValue),
     }
 }
 
@@ -91,18 +94,15 @@ pub(crate) fn step(
     scratch: &mut [i64],
     report: Report,
     room: &mut [u8],
-) -> Step
+) -> Result<Option<Progress>, Refusal>
     requires { Between work.old count scratch.old × (room_size report ≤ length room.old) }
     ensures steps_by { StepsBy result work.old work.new count (λ rs. command job.now k rs at) }
     ensures scratch_unchanged { scratch.new ≡ scratch.old }
     ensures records_by { RecordsBy report room.old room.new work.old count
         (λ rs. added_at job.now k rs at) }
 {
-    let read = read_next(job, k, count, at);
-    match read {
-        CommandReading::Refused(refusal) => Step::Refused(refusal),
-        CommandReading::Found(kind, next) => {
-            perform(kind, next, job, count, at, work, scratch, report, room)
-        }
-    }
+    let read = read_next(job, k, count, at)?;
+    perform(
+        read.kind, read.next, job, count, at, work, scratch, report, room,
+    )
 }

@@ -1,5 +1,4 @@
 -- `reports::clear_room` meets its contract.
-use Prim.Native.Nat.{◌-◌}
 use native.Mathlib.Omega.{arith}
 use Rattle.job.proofs.Rooms.{emptying_begins, emptying_turn}
 use Rattle.job.proofs.reports.clear_room.Goals as goal

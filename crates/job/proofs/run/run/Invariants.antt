@@ -6,9 +6,13 @@ use Rattle.job.specs.definitions.InnerContracts.{Clear}
 use Rattle.job.proofs.Loop.{Going}
 use Rattle.job.proofs.run.run.Given as goal
 
-abbrev pub invariant-loop-results : goal.invariant-loop-results
-invariant-loop-results l =
-    Going l.report l.job l.initial.work l.work l.initial.room l.room l.at l.k l.count × ((l.scratch ≡ l.initial.scratch) × Clear l.initial.scratch)
+abbrev pub invariant-loop-done : goal.invariant-loop-done
+invariant-loop-done l =
+    record {
+      going : Going l.report l.job l.initial.work l.work l.initial.room l.room l.at l.k l.count;
+      same : l.scratch ≡ l.initial.scratch;
+      clear : Clear l.initial.scratch;
+    }
 
-abbrev pub decreases-loop-results : goal.decreases-loop-results
-decreases-loop-results l = length l.job - l.at
+abbrev pub decreases-loop-done : goal.decreases-loop-done
+decreases-loop-done l = length l.job - l.at

@@ -12,7 +12,7 @@ use Rattle.certificate.specs.definitions.Tests.{Certificate, make_certificate}
 use Rattle.certificate.specs.declared.types.TestOutcome.{TestOutcome}
 use Rattle.job.specs.definitions.Step.{more, resulting}
 use Rattle.job.specs.definitions.InnerContracts.{Holds, Stepped, recorded_from, added_of}
-use Rattle.job.specs.declared.types.Step.TheVariants.{More}
+use Rattle.std.specs.Prelude.{Ok, Some}
 use Rattle.job.proofs.Results.{stored_holds}
 use Rattle.std.proofs.Common.{rules}
 use Rattle.job.proofs.step.add_result.Goals as goal
@@ -27,7 +27,7 @@ returns-in-Accepted-clause-steps_by c = λ rs t h.
     let m = a.a.model in
     let l : length (rs ++ (m ∷ [])) ≡ length rs + 1 = length-append rs (m ∷ []) in
     let sized : length m.coefficients ≡ coefficient_count = search rules in
-    subst⁻¹ (λ (v : Verdict). Stepped (More (a.count + 1) a.next) c.store.new.work rs t (resulting rs a.next (judged v (certified a.a)))) c.in-Accepted.is
+    subst⁻¹ (λ (v : Verdict). Stepped (Ok (Some (record { results = a.count + 1; next = a.next }))) c.store.new.work rs t (resulting rs a.next (judged v (certified a.a)))) c.in-Accepted.is
     (record {
       answer = ap (λ (n : ℕ). more n a.next) (omega (arith, h.count_is, l));
       holds =

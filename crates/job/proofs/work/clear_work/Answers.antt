@@ -1,5 +1,4 @@
 -- `work::clear_work` meets its contract.
-use Prim.Native.Nat.{◌-◌}
 use Rattle.job.specs.definitions.Work.{work_size}
 use Rattle.integer.proofs.laws.Filling.{ends}
 use Rattle.integer.proofs.laws.Clearing.{clearing_begins, clearing_turn}
