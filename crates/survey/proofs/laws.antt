@@ -1,5 +1,4 @@
 pub mod DegreeLaws
-pub mod NameLaws
 pub mod AdvanceLaws
 pub mod ConvertedBytes
 pub mod ConvertedCommand

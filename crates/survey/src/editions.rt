@@ -4,7 +4,6 @@ ghost use Rattle.job.specs.definitions.Outcomes.{accepted, job_outcome_of};
 ghost use Rattle.survey.specs.definitions.Editions.{ConvertedJob, edition_conversion, output_after};
 ghost use Rattle.survey.specs.definitions.InnerContracts.{short_output};
 
-use crate::areas::{clear, copy};
 use crate::walk::walk;
 use job::types::JobOutcome;
 use model::types::Refusal;
@@ -29,15 +28,15 @@ pub fn convert_edition(job: &[u8], out: &mut [u8]) -> JobOutcome
     let len = job.len();
     if out.len() < len {
         let read = walk(job, out);
-        clear(out);
+        out.fill(0);
         return refuse_short(read);
     }
-    copy(job, &mut out[..len]);
+    out[..len].copy_from_slice(job);
     let read = walk(job, &mut out[..len]);
     match read {
         JobOutcome::Accepted(_) => JobOutcome::Accepted(len),
         JobOutcome::Refused(refusal, command) => {
-            clear(out);
+            out.fill(0);
             JobOutcome::Refused(refusal, command)
         }
     }

@@ -25,8 +25,8 @@ returns-then-out-len c =
     let short = c.if-out-len.true in
     let e : job_outcome_of c.refuse_short.result ≡ edition_conversion job (length out) =
     c.refuse_short.ensures ∙ ap short_output c.walk-read.ensures.result_value ∙ conversion_refused job (length out) short in
-    let f : c.clear.new.area ≡ output_after job out =
-    c.clear.ensures ∙ ap (λ (n : ℕ). replicate n 0) c.walk-read.auto.out ∙ sym (output_short job out short) in
+    let f : c.fill.new.self ≡ output_after job out =
+    c.fill.ensures.after (λ y e. e) ∙ ap (λ (n : ℕ). replicate n 0) c.walk-read.auto.out ∙ sym (output_short job out short) in
     record { result_value = e; out_after = f; by_index = output_claim job out e f }
 
 -- the job was copied into the first bytes
@@ -36,14 +36,14 @@ returns-in-Accepted c =
     let out = c.args.out.now in
     let w = c.walk-read-2 in
     let roomy : length job ≤ length out = omega arith in
-    let copied : c.copy.new.to ≡ job = c.copy.ensures in
-    let first : take (length job) (c.copy.new.to ++ drop (length job) out) ≡ job =
-    take_at c.copy.new.to (drop (length job) out) (length job) (ap length copied) ∙ copied in
+    let copied : c.copy_from_slice.new.self ≡ job = c.copy_from_slice.ensures.after in
+    let first : take (length job) (c.copy_from_slice.new.self ++ drop (length job) out) ≡ job =
+    take_at c.copy_from_slice.new.self (drop (length job) out) (length job) (ap length copied) ∙ copied in
     let r = read_well (job_reading job) (sym (ap job_outcome_of c.in-Accepted.is) ∙ w.ensures.result_value) in
     let e : ◌≡◌ {A = JobOutcome ℕ} (accepted (length job)) (edition_conversion job (length out)) =
     sym (conversion_well job (length out) r.1 roomy) in
-    let f : w.new.out ++ drop (length job) (c.copy.new.to ++ drop (length job) out) ≡ output_after job out =
-    lent_twice (length job) c.copy.new.to out (ap length copied) w.new.out
+    let f : w.new.out ++ drop (length job) (c.copy_from_slice.new.self ++ drop (length job) out) ≡ output_after job out =
+    lent_twice (length job) c.copy_from_slice.new.self out (ap length copied) w.new.out
     ∙ ap (λ (l : List ℕ). l ++ drop (length job) out)
     (w.ensures.out_after r ∙ ap (convert_from (length job + 1) job [] 0) first ∙ is-converted job)
     ∙ sym (output_well job out r.1 roomy) in
@@ -56,15 +56,15 @@ returns-in-Refused c =
     let len = length job in
     let w = c.walk-read-2 in
     let roomy : len ≤ length out = omega arith in
-    let copied : c.copy.new.to ≡ job = c.copy.ensures in
-    let lent = c.copy.new.to ++ drop len out in
-    let first : take len lent ≡ job = take_at c.copy.new.to (drop len out) len (ap length copied) ∙ copied in
+    let copied : c.copy_from_slice.new.self ≡ job = c.copy_from_slice.ensures.after in
+    let lent = c.copy_from_slice.new.self ++ drop len out in
+    let first : take len lent ≡ job = take_at c.copy_from_slice.new.self (drop len out) len (ap length copied) ∙ copied in
     let k : length w.new.out ≡ len = w.auto.out ∙ ap length first in
-    let l = lent_length len c.copy.new.to out (ap length copied) roomy in
+    let l = lent_length len c.copy_from_slice.new.self out (ap length copied) roomy in
     let n = lent_length len w.new.out lent k (omega (arith, l, roomy)) ∙ l in
     let i = refused_ill (job_reading job) (sym (ap job_outcome_of c.in-Refused.is) ∙ w.ensures.result_value) in
     let e : ◌≡◌ {A = JobOutcome ℕ} (refused (number_of c.in-Refused.refusal) c.in-Refused.command) (edition_conversion job (length out)) =
     sym (conversion_ill job (length out) i) in
-    let f : c.clear-in-Refused.new.area ≡ output_after job out =
-    c.clear-in-Refused.ensures ∙ ap (λ (n : ℕ). replicate n 0) n ∙ sym (output_ill job out i) in
+    let f : c.fill-in-Refused.new.self ≡ output_after job out =
+    c.fill-in-Refused.ensures.after (λ y e. e) ∙ ap (λ (n : ℕ). replicate n 0) n ∙ sym (output_ill job out i) in
     record { result_value = e; out_after = f; by_index = output_claim job out e f }
