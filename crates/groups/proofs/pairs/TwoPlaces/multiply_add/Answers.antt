@@ -1,4 +1,4 @@
--- `pairs::multiply_add` meets its contract: a sum below 2^62 and a product of two 32-bit numbers fit 64 bits.
+-- `pairs::TwoPlaces::multiply_add` meets its contract: a sum below 2^62 and a product of two 32-bit numbers fit 64 bits.
 use Rattle.std.proofs.Common.{rules}
 use mathlib.Core.Path.{◌≡◌}
 use Prim.Native.Nat.{◌*◌, ◌≤◌, ◌<◌, ◌^◌}
@@ -9,12 +9,7 @@ use mir.Val.{SFits, to_z, of_z}
 use mir.Facts.{to_z-of_z}
 use Rattle.ring.specs.laws.Parts.{abs, apart, abs-add, mul_within}
 use Rattle.integer.proofs.laws.Machine.{within, abs-fits, fits_widens}
-use Rattle.groups.proofs.pairs.multiply_add.Goals as goal
-use Rattle.groups.proofs.pairs.multiply_add.Lts
-use Rattle.groups.proofs.pairs.multiply_add.Reads
-
-abbrev Start : Type 0
-Start = Lts.Start Reads.Pre Reads.Post
+use Rattle.groups.proofs.pairs.TwoPlaces.multiply_add.Goals as goal
 
 small : (z : ℤ) → SFits w32 z → nat_abs z ≤ 2 ^ 31
 small z f = omega (arith, abs z, apart z, within w32 z f)
@@ -43,26 +38,20 @@ module _ (s x y : ℤ) (fs : SFits w64 s) (fx : SFits w32 x) (fy : SFits w32 y) 
       simp
       (to_z-of_z fs, to_z-of_z fx, to_z-of_z fy, to_z-of_z (fits_widens fx), to_z-of_z (fits_widens fy), to_z-of_z (fits-product fx fy), to_z-of_z (fits_sum fx fy s h))
 
-module _ (c : Start) where
-  fits-first : SFits w64 c.args.sums.first
-  fits-first = search rules
-
-  fits-second : SFits w64 c.args.sums.second
-  fits-second = search rules
-
 pub overflow_add-result : goal.overflow_add-result
 overflow_add-result c =
-    let first : SFits w64 c.args.sums.first = search rules in
-    raw-sum c.args.sums.first c.args.x c.args.y first c.ranges.x c.ranges.y c.requires.0
+    let first : SFits w64 c.args.self.first = search rules in
+    raw-sum c.args.self.first c.args.x c.args.y first c.ranges.x c.ranges.y c.requires.0
 
 pub overflow_add-result-2 : goal.overflow_add-result-2
 overflow_add-result-2 c =
-    let s = c.before.before.before.before in
-    raw-sum s.args.sums.second s.args.x s.args.z (fits-second s) s.ranges.x s.ranges.z s.requires.1
+    let second : SFits w64 c.args.self.second = search rules in
+    raw-sum c.args.self.second c.args.x c.args.z second c.ranges.x c.ranges.z c.requires.1
 
 pub returns : goal.returns
 returns c =
-    let s = c.before.before.before.before in (
-      sum_is s.args.sums.first s.args.x s.args.y (fits-first s) s.ranges.x s.ranges.y s.requires.0,
-      sum_is s.args.sums.second s.args.x s.args.z (fits-second s) s.ranges.x s.ranges.z s.requires.1,
+    let first : SFits w64 c.args.self.first = search rules in
+    let second : SFits w64 c.args.self.second = search rules in (
+      sum_is c.args.self.first c.args.x c.args.y first c.ranges.x c.ranges.y c.requires.0,
+      sum_is c.args.self.second c.args.x c.args.z second c.ranges.x c.ranges.z c.requires.1,
     )
