@@ -46,7 +46,7 @@ impl<'a> Factors<'a> {
     {
         let a = self.a;
         let b = self.b;
-        let end = a.len().min(k + 1);
+        let end = (k + 1).min(a.len());
         let mut total = sums;
         for i in from..end {
             total = total.multiply_add(a[i], b[k - i], b[k + 1 - i]);
@@ -90,7 +90,7 @@ impl<'a> Factors<'a> {
         if b.len() <= k {
             return sums;
         }
-        let end = a.len().min(b.len() - 1 - k);
+        let end = (b.len() - 1 - k).min(a.len());
         let mut total = sums;
         for i in 0..end {
             total = total.multiply_add(a[i], b[k + i], b[k + i + 1]);

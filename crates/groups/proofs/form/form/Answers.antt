@@ -10,11 +10,10 @@ use mir.Syntax.{w64}
 use mir.Val.{SFits}
 use mir.Facts.{to_z-of_z}
 use Rattle.ring.specs.definitions.Integer.{ℤ_ring}
-use Rattle.integer.proofs.laws.Filling.{Filling, begins, turn, whole}
+use Rattle.integer.proofs.laws.Filling.{Filling, begins, turn}
 use Rattle.chebyshev.specs.definitions.TwoSums.{two_sums, places_from}
 use Rattle.chebyshev.proofs.laws.Tabulated.{length-tabulate, at_tabulate}
 use Rattle.groups.proofs.form.form.Goals as goal
-use Rattle.groups.proofs.form.form.Goals.{then-t-part, else-t-part}
 
 pub loop-t-init : goal.loop-t-init
 loop-t-init c =
@@ -40,40 +39,22 @@ module _ (part : List ℤ) (start : ℕ) (a b : List ℤ) where
   one {l} {t} x f h e = turn t x (pos 0) f h (omega arith) (e ∙ at_place t (start + t) h refl)
 
   both : {l : List ℤ} {t : ℕ} (x y : ℤ) → Filling G part l 0 n t → t + 1 < n → x ≡ two_sums ℤ_ring (start + t) a b
-      → y ≡ two_sums ℤ_ring (start + t + 1) a b → Filling G part (set (set l t x) (t + 1) y) 0 n (t + 2)
+      → y ≡ two_sums ℤ_ring (start + t + 1) a b → Filling G part (set (set l t x) (t + 1) y) 0 n (t + 1 + 1)
   both {l} {t} x y f h e g =
-      let two : t + 2 ≡ t + 1 + 1 = omega arith in
-      rw two (turn (t + 1) y (pos 0) (one x f (omega arith) e) h (omega arith) (g ∙ at_place (t + 1) (start + t + 1) h (omega arith)))
+      turn (t + 1) y (pos 0) (one x f (omega arith) e) h (omega arith) (g ∙ at_place (t + 1) (start + t + 1) h (omega arith))
+
+pub loop-t-preserved-then-t-part : goal.loop-t-preserved-then-t-part
+loop-t-preserved-then-t-part c =
+    let a = c.args in
+    let two = c.two_places-two in
+    let first : SFits w64 two.result.first = search rules in
+    let second : SFits w64 two.result.second = search rules in
+    simp (to_z-of_z first, to_z-of_z second)
+    (both a.part.now a.start a.a.now a.b.now two.result.first two.result.second c.loop-t.invariant (omega (arith, length-set {A = ℤ})) two.ensures.0 two.ensures.1)
 
 pub loop-t-preserved : goal.loop-t-preserved
 loop-t-preserved c =
-    let p = c.args.part.now in
-    let a = c.args.a.now in
-    let b = c.args.b.now in
+    let a = c.args in
     let two = c.two_places-two in
     let first : SFits w64 two.result.first = search rules in
-    let second : SFits w64 two.result.second = search rules in
-    elim c.if-t-part.branch [
-      | then-t-part w ↦
-          rw w.part-is
-          (simp (to_z-of_z first, to_z-of_z second)
-          (both p c.args.start a b two.result.first two.result.second c.loop-t.invariant (omega (arith, length-set {A = ℤ})) two.ensures.0 two.ensures.1))
-      | else-t-part w ↦ absurd (omega (arith, length-set {A = ℤ}))
-    ]
-
-pub returns-after-t-part : goal.returns-after-t-part
-returns-after-t-part c =
-    let p = c.args.part.now in
-    let a = c.args.a.now in
-    let b = c.args.b.now in
-    let two = c.two_places-two in
-    let first : SFits w64 two.result.first = search rules in
-    let second : SFits w64 two.result.second = search rules in
-    elim c.if-t-part.branch [
-      | then-t-part w ↦
-          let all = both p c.args.start a b two.result.first two.result.second c.loop-t.invariant (omega (arith, length-set {A = ℤ})) two.ensures.0 two.ensures.1 in
-          rw w.part-is (simp (to_z-of_z first, to_z-of_z second) (whole all (omega (arith, length-set {A = ℤ})) refl))
-      | else-t-part w ↦
-          let all = one p c.args.start a b two.result.first c.loop-t.invariant (omega arith) two.ensures.0 in
-          rw w.part-is (simp (to_z-of_z first) (whole all (omega (arith, length-set {A = ℤ})) refl))
-    ]
+    simp (to_z-of_z first) (one a.part.now a.start a.a.now a.b.now two.result.first c.loop-t.invariant (omega arith) two.ensures.0)
