@@ -1,7 +1,7 @@
 // The root tests: is h a square root of f, with w as a helper?
 ghost use Rattle.std.specs.Prelude.{◌≡◌, ◌<◌, length};
 ghost use Rattle.chebyshev.specs.definitions.Coefficients.{weight as weight_of, coefficient_sum};
-ghost use Rattle.model.specs.definitions.Models.{coefficient_count, candidate_model};
+ghost use Rattle.model.specs.definitions.Models.{candidate_model};
 ghost use Rattle.model.specs.declared.types.Verdict.TheVariants.{Accepted};
 ghost use Rattle.certificate.specs.definitions.Tests.{scratch_size, scratch_after, test_of};
 ghost use Rattle.certificate.specs.definitions.Root.{root_test};
@@ -18,14 +18,11 @@ use radius::types::FoundRadius;
 
 // Σ w_k
 fn total(coefficients: &[i32; COEFFICIENTS]) -> i64
-    requires { length coefficients.now ≡ coefficient_count }
     ensures { result ≡ coefficient_sum coefficients.now }
 {
     let mut sum: i64 = 0;
-    let mut k = 0;
-    while k < COEFFICIENTS {
-        sum = sum + (coefficients[k] as i64);
-        k += 1;
+    for x in coefficients {
+        sum += i64::from(*x);
     }
     sum
 }

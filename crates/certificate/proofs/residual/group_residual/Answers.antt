@@ -72,15 +72,15 @@ module _ (c : goal.After-window) where
         s.requires.1.weight-fits,
       )
 
-pub weight-requires : goal.weight-requires
-weight-requires c =
+pub weigh-requires : goal.weigh-requires
+weigh-requires c =
     let d = c.before.before in omega (arith, ap weight c.subtract.ensures, weight_residual (G d) (own d), weights d)
 
 pub returns : goal.returns
 returns c =
     let d = c.before.before.before in
     let w = d in
-    c.weight.ensures ∙ ap weight (c.subtract.ensures ∙ ap₂ residual_list (G-is w) (own_is w))
+    c.weigh.ensures ∙ ap weight (c.subtract.ensures ∙ ap₂ residual_list (G-is w) (own_is w))
 
 pub subtract-requires : goal.subtract-requires
 subtract-requires c = (own-short c, weights c)
