@@ -11,8 +11,8 @@ use crate::numbers::{
 };
 use crate::scratch::clear_scratch;
 use crate::types::{Certificate, SCRATCH_SIZE};
-use model::measure::{fault_of, is_good, measure_candidate};
-use model::types::{Candidate, Interval, Model, Refusal};
+use model::measure::{checked_candidate, checked_weight};
+use model::types::{Candidate, Model, Refusal};
 
 // The test of good models and candidates, over a part of the scratch of any length from 1.
 fn test_good(
@@ -52,24 +52,14 @@ fn test_in(
     requires { 0 < length part.old }
     ensures { test_of result ≡ quotient_test scratch_size f g h w }
 {
-    if !is_good(f) {
-        return Err(fault_of(f));
-    }
-    if !is_good(g) {
-        return Err(fault_of(g));
-    }
-    let of_h = measure_candidate(h);
-    if !of_h.good {
-        return Err(Refusal::BadModel);
-    }
-    let of_w = measure_candidate(w);
-    if !of_w.good {
-        return Err(Refusal::BadModel);
-    }
-    if !Interval::is_same(f.interval, g.interval) {
+    checked_weight(f)?;
+    checked_weight(g)?;
+    let h_weight = checked_candidate(h)?;
+    let w_weight = checked_candidate(w)?;
+    if f.interval != g.interval {
         return Err(Refusal::DifferentIntervals);
     }
-    test_good(part, f, g, h, of_h.weight, w, of_w.weight)
+    test_good(part, f, g, h, h_weight, w, w_weight)
 }
 
 // The last clause is what is promised of an accepted quotient.

@@ -10,8 +10,8 @@ use crate::numbers::{SCALE, displacement, root_contraction, root_residual};
 use crate::root_end::RootNumbers;
 use crate::scratch::clear_scratch;
 use crate::types::{Certificate, RootRule, SCRATCH_SIZE};
-use model::measure::{fault_of, is_good, measure_candidate};
-use model::types::{COEFFICIENTS, Candidate, Interval, Model, Refusal};
+use model::measure::{checked_candidate, checked_weight};
+use model::types::{COEFFICIENTS, Candidate, Model, Refusal};
 
 // Σ w_k
 fn total(coefficients: &[i32; COEFFICIENTS]) -> i64
@@ -65,17 +65,10 @@ fn numbers_in(
     requires { 0 < length part.old }
     ensures { reach_of result ≡ root_reach scratch_size f h w }
 {
-    if !is_good(f) {
-        return Err(fault_of(f));
-    }
-    if !measure_candidate(h).good {
-        return Err(Refusal::BadModel);
-    }
-    let of_w = measure_candidate(w);
-    if !of_w.good {
-        return Err(Refusal::BadModel);
-    }
-    numbers_of_good(part, f, h, w, of_w.weight)
+    checked_weight(f)?;
+    checked_candidate(h)?;
+    let weight = checked_candidate(w)?;
+    numbers_of_good(part, f, h, w, weight)
 }
 
 // The places through N, and b.

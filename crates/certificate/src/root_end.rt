@@ -1,6 +1,7 @@
 // A root test behind N: the radius by each rule.
 ghost use Rattle.std.specs.Prelude.{◌≡◌};
-ghost use Rattle.certificate.specs.definitions.RootEnd.{RootLast, outcome_with, rule_outcome};
+ghost use Rattle.model.specs.definitions.Outcomes.{judged};
+ghost use Rattle.certificate.specs.definitions.RootEnd.{RootLast, rule_outcome};
 
 use crate::numbers::{SCALE, root_radius};
 use crate::types::RootRule;
@@ -20,7 +21,7 @@ pub(crate) struct RootNumbers {
 impl RootNumbers {
     // Command 0x21's discriminant and radius. 8·b·M may pass 64 bits, so b is compared with (S-m)² / (8·M).
     fn discriminant_radius(self) -> Result<u32, Refusal>
-        ensures { outcome_with 0 result ≡ rule_outcome RootRule.ByDiscriminant self.weight self.contraction self.displacement }
+        ensures { judged 0 result ≡ rule_outcome RootRule.ByDiscriminant self.weight self.contraction self.displacement }
     {
         let gap = SCALE - self.contraction;
         if self.displacement <= gap * gap / (8 * self.weight) {
@@ -32,7 +33,7 @@ impl RootNumbers {
 
     // Command 0x22's least radius.
     fn least_radius(self) -> Result<u32, Refusal>
-        ensures { outcome_with 0 result ≡ rule_outcome RootRule.ByLeastRadius self.weight self.contraction self.displacement }
+        ensures { judged 0 result ≡ rule_outcome RootRule.ByLeastRadius self.weight self.contraction self.displacement }
     {
         let least = least_radius(self.weight, self.contraction, self.displacement);
         let radius = least.ok_or(Refusal::NoRadius)?;
@@ -41,7 +42,7 @@ impl RootNumbers {
 
     // The result's radius, which is never too large.
     pub(crate) fn radius(self, rule: RootRule) -> Result<u32, Refusal>
-        ensures { outcome_with 0 result ≡ rule_outcome rule self.weight self.contraction self.displacement }
+        ensures { judged 0 result ≡ rule_outcome rule self.weight self.contraction self.displacement }
     {
         match rule {
             RootRule::ByDiscriminant => self.discriminant_radius(),

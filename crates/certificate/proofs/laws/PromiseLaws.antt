@@ -11,7 +11,6 @@ use Rattle.chebyshev.specs.definitions.Coefficients.{value}
 use Rattle.model.specs.definitions.Allowed.{position, Allows, OnInterval}
 use Rattle.model.specs.definitions.Outcomes.{Outcome, accepted}
 use Rattle.model.specs.declared.types.Candidate.{Candidate}
-use Rattle.model.specs.declared.types.Interval.{Interval}
 use Rattle.model.specs.declared.types.Model.{Model}
 use Rattle.model.specs.declared.types.Refusal.{Refusal}
 use Rattle.certificate.specs.definitions.Tests.{Certificate, certificate_of, test_of}

@@ -1,9 +1,8 @@
 -- The last places of a root test, behind N: what they are given and what they answer. The contracts of the entries do not speak
 -- of this. M is the weight of w.
-use Rattle.std.specs.Prelude.{[], ◌∷◌, ℕ, ◌*◌, ◌-◌, ◌^◌, ◌≤◌, ◌<◌, Result, Ok, Err}
+use Rattle.std.specs.Prelude.{[], ◌∷◌, ℕ, ◌*◌, ◌-◌, ◌^◌, ◌≤◌, ◌<◌}
 use Rattle.model.specs.definitions.Models.{scale, max_weight}
-use Rattle.model.specs.definitions.Outcomes.{Outcome, accepted, refused, outcome, number_of}
-use Rattle.model.specs.declared.types.Refusal.{Refusal}
+use Rattle.model.specs.definitions.Outcomes.{Outcome, outcome}
 use Rattle.certificate.specs.definitions.Root.{rule_place, rule_radius}
 use Rattle.certificate.specs.declared.types.RootRule.{RootRule}
 
@@ -17,7 +16,3 @@ pub record RootLast (M m b : ℕ) : Type 0 where
 -- the radius, or the number of the rule's own place
 abbrev pub rule_outcome : RootRule → ℕ → ℕ → ℕ → Outcome ℕ
 rule_outcome rule M m b = outcome (rule_place rule M m b ∷ []) (rule_radius rule M m b) 0
-
-abbrev pub outcome_with : {A : Type 0} → A → Result A Refusal → Outcome A
-outcome_with z (Ok a) = accepted a
-outcome_with z (Err r) = refused (number_of r) z

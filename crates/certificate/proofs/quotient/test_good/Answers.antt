@@ -1,12 +1,11 @@
 -- `quotient::test_good` meets its contract: m is tested before N is formed, and N before b. m and N do not ask for the interval.
 use Rattle.std.proofs.Common.{rules}
-use mathlib.Core.Path.{◌≡◌, sym, ◌∙◌}
+use mathlib.Core.Path.{sym, ◌∙◌}
 use Prim.Native.Nat.{◌≤◌}
 use native.Mathlib.Omega.{arith}
 use Rattle.model.specs.definitions.Models.{max_weight}
 use Rattle.model.proofs.laws.ModelLaws.{good_is}
 use Rattle.certificate.specs.definitions.Tests.{placed}
-use Rattle.certificate.specs.definitions.Quotient.{quotient_contraction, quotient_residual}
 use Rattle.certificate.proofs.laws.Stages.{displacement_bound, standard_good, quotient_contraction_standard, quotient_residual_standard}
 use Rattle.certificate.proofs.laws.QuotientStages.{quotient_not_contracting, quotient_large_residual, quotient_formed}
 use Rattle.certificate.proofs.quotient.test_good.Goals as goal

@@ -7,7 +7,6 @@ use lib.Signed.{le_z}
 use mir.Syntax.{w64}
 use mir.Val.{SFits, to_z, of_z}
 use mir.Facts.{to_z-of_z}
-use Rattle.chebyshev.specs.definitions.Coefficients.{coefficient_sum}
 use Rattle.model.specs.definitions.Outcomes.{accepted}
 use Rattle.model.proofs.laws.ModelLaws.{good_is}
 use Rattle.certificate.specs.definitions.Tests.{scratch_size, placed}

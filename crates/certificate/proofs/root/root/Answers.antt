@@ -1,9 +1,8 @@
 -- `root::root` meets its contract.
 use mathlib.Core.Path.{sym, ◌∙◌, ap}
 use Rattle.std.proofs.Common.{length}
-use Rattle.std.proofs.lemmas.Result.{err_from_is_err_and}
+use Rattle.certificate.proofs.Refusing.{test_refused}
 use Rattle.model.specs.definitions.Outcomes.{accepted, number_of}
-use Rattle.certificate.specs.definitions.Promise.{RootAllowed}
 use Rattle.certificate.proofs.laws.PromiseLaws.{root_allowed}
 use Rattle.certificate.proofs.laws.RootStages.{root_reached_is, root_refused_is, root_rule_refused, root_rule_passed}
 use Rattle.certificate.proofs.root.root.Goals as goal
@@ -11,16 +10,16 @@ use Rattle.certificate.proofs.root.root.Goals as goal
 pub returns-in_err-numbers-clause-result_value : goal.returns-in_err-numbers-clause-result_value
 returns-in_err-numbers-clause-result_value c =
     let a = c.args in
-    let p = err_from_is_err_and c.from_residual.result c.from_residual.ensures.1 in
-    rw (p.1, p.2) (sym (root_refused_is (length a.scratch.now) a.f a.h a.w a.rule (number_of c.in_err-numbers.field-0.0) (sym c.in_err-numbers.ensures.result_value)))
+    test_refused c.from_residual.result _ c.from_residual.ensures
+    ∙ sym (root_refused_is (length a.scratch.now) a.f a.h a.w a.rule (number_of c.in_err-numbers.field-0.0) (sym c.in_err-numbers.ensures.result_value))
 
 pub returns-in_err-radius-clause-result_value : goal.returns-in_err-radius-clause-result_value
 returns-in_err-radius-clause-result_value c =
     let a = c.args in
     let k = c.in_ok-numbers.numbers in
     let reached = root_reached_is (length a.scratch.now) a.f a.h a.w k.weight k.contraction k.residual k.displacement (sym c.in_ok-numbers.ensures.result_value) in
-    let p = err_from_is_err_and c.from_residual-in_err-radius.result c.from_residual-in_err-radius.ensures.1 in
-    rw (p.1, p.2) (sym (root_rule_refused (length a.scratch.now) a.f a.h a.w a.rule reached (sym c.in_err-radius.ensures)))
+    let r = c.from_residual-in_err-radius in
+    test_refused r.result _ r.ensures ∙ sym (root_rule_refused (length a.scratch.now) a.f a.h a.w a.rule reached (sym c.in_err-radius.ensures))
 
 pub returns-clause-result_value : goal.returns-clause-result_value
 returns-clause-result_value c =

@@ -10,5 +10,5 @@ use Rattle.certificate.proofs.root.total.Given as goal
 abbrev pub invariant-loop-x : goal.invariant-loop-x
 invariant-loop-x l = record {
   rest : l.sum +ℤ coefficient_sum (drop l.x-index l.coefficients) ≡ coefficient_sum l.coefficients;
-  small : nat_abs l.sum ≤ l.x-index * 2 ^ 31
+  small : nat_abs l.sum ≤ l.x-index * 2 ^ 31;
 }
