@@ -38,8 +38,8 @@ module _ (a : Model) (passed : good a ≡ true) where
     pub fits_mapped : SFits w64 q
     fits_mapped = abs-fits w64 q (omega (arith, mapped_small))
 
-    pub evaluable : length a.coefficients ≡ coefficient_count → Evaluable a.degree a.coefficients q
-    evaluable all = record { all = all; degree_fits = (good_is a passed).degree_fits; light = (good_is a passed).weight-fits; inside = mapped_small }
+    pub evaluable : Evaluable a.degree a.coefficients q
+    evaluable = record { degree_fits = (good_is a passed).degree_fits; light = (good_is a passed).weight-fits; inside = mapped_small }
 
 module _ {a : Model} {p v : ℤ} {w : ℕ} (s : Sums a p v w) where
   is_good : Good a

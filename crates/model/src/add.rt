@@ -23,12 +23,10 @@ fn combine(a: &[i32; COEFFICIENTS], b: &[i32; COEFFICIENTS], sign: i32) -> Combi
 {
     let mut coefficients = [0i32; COEFFICIENTS];
     let mut weight: u64 = 0;
-    let mut i = 0;
-    while i < COEFFICIENTS {
+    for i in 0..COEFFICIENTS {
         let c = a[i] + sign * b[i];
         coefficients[i] = c;
-        weight += integer::absolute::magnitude(c as i64);
-        i += 1;
+        weight += c.unsigned_abs() as u64;
     }
     Combined {
         coefficients,

@@ -39,10 +39,9 @@ fn map_point(i: Interval, p: i32) -> MappedPoint
     let extent = upper - lower;
     let numerator = Model::SCALE * (2 * (p as i64) - lower - upper);
     let point = integer::rounding::near(numerator, extent);
-    let rest = (point * extent - numerator).unsigned_abs();
     MappedPoint {
         point,
-        exact: rest == 0,
+        exact: point * extent == numerator,
     }
 }
 
@@ -65,21 +64,16 @@ fn point_sums(degree: u32, coefficients: &[i32; COEFFICIENTS], p: i64, exact: bo
     ensures value_value { result.value ≡ point_sum p 0 (take (suc degree) coefficients.now) }
     ensures error_value { result.error ≡ error_from exact 0 (take (suc degree) coefficients.now) }
 {
-    let n = degree as usize;
     let mut value: i64 = 0;
     let mut error: u64 = 0;
     let mut t = TERM_SCALE;
     let mut next = POINT_FACTOR * p;
-    let mut k: usize = 0;
-    while k <= n {
-        let c = coefficients[k] as i64;
-        value += c * t;
-        let size = integer::absolute::magnitude(c);
-        error += size * error_factor(k, exact);
+    for (k, c) in coefficients[..=degree as usize].iter().enumerate() {
+        value += *c as i64 * t;
+        error += c.unsigned_abs() as u64 * error_factor(k, exact);
         let after = integer::rounding::near(2 * p * next, Model::SCALE) - t;
         t = next;
         next = after;
-        k += 1;
     }
     PointSums { value, error }
 }

@@ -63,19 +63,17 @@ fn rounded_integral(degree: u32, doubled: &[i32; COEFFICIENTS], extent: u64) -> 
     let mut first: i64 = 0;
     let mut above: i64 = 0;
     let mut here: i64 = 0;
-    let mut k = degree as usize + 1;
-    while 0 < k {
+    for k in (1..=degree as usize + 1).rev() {
         let below = doubled[k - 1] as i64;
         let c = rounded_coefficient(below, above, extent, k);
-        let size = integer::absolute::magnitude(c);
+        let size = c.unsigned_abs();
         weight += size;
         coefficients[k] = narrowed(c, size, wide);
         first = c - first;
         above = here;
         here = below;
-        k -= 1;
     }
-    weight += integer::absolute::magnitude(first);
+    weight += first.unsigned_abs();
     if weight <= Model::MAX_WEIGHT {
         coefficients[0] = first as i32;
     }

@@ -15,21 +15,18 @@ pub struct Measured {
 
 // The degree, the weight and what lies beyond the degree, of a model with radius 0 given by its parts.
 fn measure_parts(degree: u32, coefficients: &[i32; COEFFICIENTS]) -> Measured
-    requires { length coefficients.now ≡ coefficient_count }
     ensures good_value { result.good ≡ parts_within_limits degree coefficients.now 0 }
     ensures weight_value { result.weight ≡ weight coefficients.now }
 {
     let n = degree as usize;
     let mut total: u64 = 0;
     let mut beyond: u64 = 0;
-    let mut i = 0;
-    while i < COEFFICIENTS {
-        let size = integer::absolute::magnitude(coefficients[i] as i64);
+    for (i, c) in coefficients.iter().enumerate() {
+        let size = c.unsigned_abs() as u64;
         total += size;
         if n < i {
             beyond += size;
         }
-        i += 1;
     }
     if degree <= Model::MAX_DEGREE {
         if total <= Model::MAX_WEIGHT {
@@ -132,10 +129,8 @@ pub fn weigh(c: &[i64]) -> u64
     ensures { result ≡ weight c.now }
 {
     let mut total: u64 = 0;
-    let mut i = 0;
-    while i < c.len() {
-        total += integer::absolute::magnitude(c[i]);
-        i += 1;
+    for x in c {
+        total += x.unsigned_abs();
     }
     total
 }

@@ -37,7 +37,7 @@ fn kept_degree(kept: u32, first: u32, second: u32) -> u32
     if kept != LARGER_DEGREE {
         return kept;
     }
-    if first < second { second } else { first }
+    first.max(second)
 }
 
 // A list C, rounded, and how many pairs the walk that formed it visited.
@@ -82,7 +82,7 @@ fn multiply_good(a: Model, b: Model, weight_a: u64, weight_b: u64, kept: u32) ->
     ensures visits_value { result.visits ≡ product_visits a b }
 {
     let top = a.degree + b.degree;
-    let degree = if kept < top { kept } else { top };
+    let degree = kept.min(top);
     let product = round_product(
         &a.coefficients[..a.degree as usize + 1],
         &b.coefficients[..b.degree as usize + 1],

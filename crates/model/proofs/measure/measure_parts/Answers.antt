@@ -1,37 +1,16 @@
 -- `measure::measure_parts` meets its contract. The loop's invariant in rest form: what is summed and what is left of the
 -- weight, of all coefficients and of those beyond the degree n, is the whole of it.
-use mathlib.Core.Path.{◌≡◌, refl, ap}
-use mathlib.Core.List.{List}
-use Prim.Native.Nat.{ℕ, suc, ◌+◌, ◌^◌, ◌<◌, ◌≤◌, max}
-use native.Mathlib.Omega.{arith}
-use Rattle.std.proofs.Common.{rules}
+use Rattle.std.proofs.Common.{rules, arith, ◌≡◌, ap, ℕ, suc, ◌+◌, ◌<◌, ◌≤◌, max, List, ℤ, pos, nat_abs, length, get_or, drop, w32, FitsSigned}
 use lib.Dec.{eqb}
-use lib.IntN.{ℤ, pos, nat_abs}
-use lib.ListN.{length, get_or, drop}
 use borrow.Author.Tests.{le-leb, lt-leb}
-use mir.Syntax.{w32}
-use mir.Val.{SFits}
+use mathlib.Core.Path.{refl}
 use mir.Facts.{to_z-of_z}
-use Rattle.ring.specs.laws.Parts.{abs}
-use Rattle.integer.proofs.laws.Machine.{within, fits_widens}
 use Rattle.chebyshev.specs.definitions.Coefficients.{weight}
 use Rattle.chebyshev.proofs.laws.Weight.{weight_step, weight_end}
 use Rattle.model.specs.definitions.Models.{parts_within_limits}
 use Rattle.model.proofs.measure.measure_parts.Invariants.{left-beyond}
 use Rattle.model.proofs.measure.measure_parts.Goals as goal
-use Rattle.model.proofs.measure.measure_parts.Goals.{then-n-i, else-n-i}
-use Rattle.model.proofs.measure.measure_parts.Lts
-use Rattle.model.proofs.measure.measure_parts.Reads
-use Rattle.model.proofs.measure.measure_parts.Tie
-
-abbrev After-loop-i : Type 0
-After-loop-i = Lts.After-loop Tie.the-claims Reads.Pre Reads.Post goal.the-invariant-loop-i goal.the-decreases-loop-i Tie.handed_clauses
-
-abbrev After-magnitude-size : Type 0
-After-magnitude-size = Lts.After-magnitude Tie.the-claims Reads.Pre Reads.Post goal.the-invariant-loop-i goal.the-decreases-loop-i Tie.handed_clauses
-
-abbrev At-loop-i : Type 0
-At-loop-i = Lts.At-loop Tie.the-claims Reads.Pre Reads.Post goal.the-invariant-loop-i goal.the-decreases-loop-i Tie.handed_clauses
+use Rattle.model.proofs.measure.measure_parts.Goals.{After-loop-i, then-n-i, else-n-i}
 
 within-degree : (n i : ℕ) (cs : List ℤ) → i ≤ n → left-beyond n i cs ≡ left-beyond n (i + 1) cs
 within-degree n i cs h = let e : max i (suc n) ≡ max (i + 1) (suc n) = omega arith in ap (λ (k : ℕ). weight (drop k cs)) e
@@ -42,73 +21,47 @@ beyond-degree n i cs l h =
     let f : max (i + 1) (suc n) ≡ i + 1 = omega arith in
     rw (e, f) (weight_step cs i l)
 
-module _ (l : At-loop-i) where
-  abbrev cs : List ℤ
-  cs = l.before.args.coefficients.now
-
-  abbrev n : ℕ
-  n = l.before.args.degree
-
-  abbrev i : ℕ
-  i = l.loop-i.i
-
-module _ (c : After-magnitude-size) where
-  abbrev l : At-loop-i
-  l = c.before.before.before
-
-  abbrev x : ℤ
-  x = get_or (cs l) (i l) (pos 0)
-
-  fits-x : SFits w32 x
-  fits-x = search rules
-
-  size_is : c.magnitude-size.result ≡ nat_abs x
-  size_is = simp (to_z-of_z fits-x, to_z-of_z (fits_widens fits-x)) at c.magnitude-size.ensures
-
-  size_small : c.magnitude-size.result ≤ 2 ^ 32
-  size_small = omega (arith, size_is, within w32 x fits-x, abs x)
-
 pub loop-i-preserved : goal.loop-i-preserved
-loop-i-preserved j =
-    let c = j.before in
-    let l = l c in
-    let h : i l < length (cs l) = omega (arith, l.before.requires) in
-    let t = weight_step (cs l) (i l) h in
-    let s = size_is c in
-    let b = size_small c in
-    elim j.if-n-i.branch [
-      | then-n-i w ↦ omega (arith, s, b, t, beyond-degree (n l) (i l) (cs l) h w.if-n-i.true)
-      | else-n-i w ↦ omega (arith, s, b, t, within-degree (n l) (i l) (cs l) w.if-n-i.false)
+loop-i-preserved c =
+    let cs = c.args.coefficients.now in
+    let i = c.loop-i.i in
+    let n = c.args.degree in
+    let h : i < length cs = omega (arith, c.told-coefficients) in
+    let fits : FitsSigned w32 (get_or cs i (pos 0)) = search rules in
+    let s : c.unsigned_abs-size.result ≡ nat_abs (get_or cs i (pos 0)) = simp (to_z-of_z fits) at c.unsigned_abs-size.ensures.value in
+    let b = c.unsigned_abs-size.ensures.bound in
+    let t = weight_step cs i h in
+    elim c.if-n-i.branch [
+      | then-n-i w ↦ omega (arith, s, b, t, beyond-degree n i cs h w.if-n-i.true)
+      | else-n-i w ↦ omega (arith, s, b, t, within-degree n i cs w.if-n-i.false)
     ]
 
 -- after the loop
 module _ (c : After-loop-i) where
-  abbrev e : At-loop-i
-  e = c.before
+  total_is : c.loop-i.total ≡ weight c.args.coefficients.now
+  total_is = omega (arith, weight_end c.args.coefficients.now c.loop-i.i (omega (arith, c.told-coefficients)))
 
-  total_is : e.loop-i.total ≡ weight (cs e)
-  total_is = omega (arith, weight_end (cs e) (i e) (omega (arith, e.before.requires)))
-
-  beyond-is : e.loop-i.beyond ≡ weight (drop (suc (n e)) (cs e))
+  beyond-is : c.loop-i.beyond ≡ weight (drop (suc c.args.degree) c.args.coefficients.now)
   beyond-is =
-      let m : max 0 (suc (n e)) ≡ suc (n e) = omega arith in
-      omega (arith, weight_end (cs e) (max (i e) (suc (n e))) (omega (arith, e.before.requires)), ap (λ (k : ℕ). weight (drop k (cs e))) m)
+      let m : max 0 (suc c.args.degree) ≡ suc c.args.degree = omega arith in
+      omega (arith, weight_end c.args.coefficients.now (max c.loop-i.i (suc c.args.degree)) (omega (arith, c.told-coefficients)), ap (λ (k : ℕ). weight (drop k c.args.coefficients.now)) m)
 
 pub returns-then-total-le-MAX_WEIGHT : goal.returns-then-total-le-MAX_WEIGHT
 unfolding parts_within_limits
 returns-then-total-le-MAX_WEIGHT k =
-    let c = k.before.before in
-    rw (le-leb (n (e c)) 32 (omega arith), le-leb (weight (cs (e c))) 268435456 (omega (arith, total_is c)))
+    let c = (goal.at.returns-then-total-le-MAX_WEIGHT k).After-loop-i in
+    rw (le-leb c.args.degree 32 (omega arith), le-leb (weight c.args.coefficients.now) 268435456 (omega (arith, total_is c)))
     (record { good_value = ap (λ (b : ℕ). eqb b 0) (beyond-is c); weight_value = total_is c })
 
 pub returns-else-total-le-MAX_WEIGHT : goal.returns-else-total-le-MAX_WEIGHT
 unfolding parts_within_limits
 returns-else-total-le-MAX_WEIGHT k =
-    let c = k.before.before in
-    rw (le-leb (n (e c)) 32 (omega arith), lt-leb (weight (cs (e c))) 268435456 (omega (arith, total_is c)))
+    let c = (goal.at.returns-else-total-le-MAX_WEIGHT k).After-loop-i in
+    rw (le-leb c.args.degree 32 (omega arith), lt-leb (weight c.args.coefficients.now) 268435456 (omega (arith, total_is c)))
     (record { good_value = refl; weight_value = total_is c })
 
 pub returns-else-degree-le-MAX_DEGREE : goal.returns-else-degree-le-MAX_DEGREE
 unfolding parts_within_limits
 returns-else-degree-le-MAX_DEGREE k =
-    rw (lt-leb (n (e k.before)) 32 (omega arith)) (record { good_value = refl; weight_value = total_is k.before })
+    let c = (goal.at.returns-else-degree-le-MAX_DEGREE k).After-loop-i in
+    rw (lt-leb c.args.degree 32 (omega arith)) (record { good_value = refl; weight_value = total_is c })
