@@ -51,7 +51,7 @@ fn narrowed(c: i64, size: u64, wide: bool) -> i32
 }
 
 // The integral of 2·a_0, a_1, .., a_n, 0, .. over an interval of that extent, and its weight. On the way `above`, `here` and
-// `below` are the numbers of that list at places k + 1, k and k - 1.
+// `below` are the numbers of that list at places k + 2, k + 1 and k.
 fn rounded_integral(degree: u32, doubled: &[i32; COEFFICIENTS], extent: u64) -> Integral
     requires { Integrable degree doubled.now extent }
     ensures weight_value { result.weight ≡ weight (rounded_integral extent (take (suc degree) doubled.now)) }
@@ -63,12 +63,12 @@ fn rounded_integral(degree: u32, doubled: &[i32; COEFFICIENTS], extent: u64) -> 
     let mut first: i64 = 0;
     let mut above: i64 = 0;
     let mut here: i64 = 0;
-    for k in (1..=degree as usize + 1).rev() {
-        let below = doubled[k - 1] as i64;
-        let c = rounded_coefficient(below, above, extent, k);
+    for k in (0..degree as usize + 1).rev() {
+        let below = doubled[k] as i64;
+        let c = rounded_coefficient(below, above, extent, k + 1);
         let size = c.unsigned_abs();
         weight += size;
-        coefficients[k] = narrowed(c, size, wide);
+        coefficients[k + 1] = narrowed(c, size, wide);
         first = c - first;
         above = here;
         here = below;
