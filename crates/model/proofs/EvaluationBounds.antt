@@ -4,7 +4,6 @@ use mathlib.Core.Bool.{true}
 use Prim.Native.Nat.{ℕ, ◌+◌, ◌^◌, ◌≤◌}
 use native.Mathlib.Omega.{arith}
 use lib.IntN.{ℤ, pos, nat_abs, ◌+ℤ◌, ◌-ℤ◌, ◌*ℤ◌}
-use lib.ListN.{length}
 use mir.Syntax.{w64}
 use mir.Val.{SFits, to_z}
 use mir.Facts.{to_z_pos}
@@ -13,7 +12,7 @@ use Rattle.integer.proofs.laws.Machine.{abs-fits}
 use Rattle.integer.specs.definitions.Rounding.{floor, up}
 use Rattle.integer.proofs.laws.RoundingSize.{floor_size, up_size}
 use Rattle.model.specs.definitions.InnerContracts.{Evaluable}
-use Rattle.model.specs.definitions.Models.{scale, coefficient_count, terms, good}
+use Rattle.model.specs.definitions.Models.{scale, terms, good}
 use Rattle.model.proofs.laws.ModelLaws.{Good, good_is}
 use Rattle.model.proofs.laws.GoodLaws.{length-terms, weight-terms}
 use Rattle.model.specs.definitions.Evaluate.{mapped_point, maps_exactly, value_sum, error_sum, low_bound, high_bound}

@@ -34,7 +34,7 @@ pub turn : {d : ℕ} {cs : List ℤ} {dropped : ℕ} {out : List ℤ} {total los
     → Walk d cs dropped after (total + m) (loss + n) (k + 1)
 turn {d} {cs} {dropped} {out} {total} {loss} {k} x q m n after two w h ex eq em en stored =
     let q_is : q ≡ get_or (rounded d cs) k (pos 0) = eq ∙ ap (rounded_at d) ex ∙ sym (rounded_at_lem d two cs k) in record {
-          weight_rest = omega (arith, w.weight_rest, em, ap nat_abs q_is, weight_step (rounded d cs) k (omega (arith, rounded-length d cs)));
+      weight_rest = omega (arith, w.weight_rest, em, ap nat_abs q_is, weight_step (rounded d cs) k (omega (arith, rounded-length d cs)));
       loss_rest = omega (arith, w.loss_rest, en, ap (loss_at d) ex, loss_step d cs k h);
       written = λ l. rw (stored l) (Filling.turn k q (pos 0) (w.written (omega arith)) h (omega arith) q_is);
     }

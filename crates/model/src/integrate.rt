@@ -55,7 +55,8 @@ fn narrowed(c: i64, size: u64, wide: bool) -> i32
 fn rounded_integral(degree: u32, doubled: &[i32; COEFFICIENTS], extent: u64) -> Integral
     requires { Integrable degree doubled.now extent }
     ensures weight_value { result.weight ≡ weight (rounded_integral extent (take (suc degree) doubled.now)) }
-    ensures coefficients_value { result.weight ≤ max_weight → result.coefficients ≡ rounded_integral extent (take (suc degree) doubled.now) }
+    ensures coefficients_value { result.weight ≤ max_weight
+        → result.coefficients ≡ rounded_integral extent (take (suc degree) doubled.now) }
 {
     let wide = NARROW < extent;
     let mut coefficients = [0i32; COEFFICIENTS];

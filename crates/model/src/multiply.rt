@@ -34,10 +34,11 @@ pub fn is_bad_kept(kept: u32) -> bool
 fn kept_degree(kept: u32, first: u32, second: u32) -> u32
     ensures { result ≡ kept_degree kept first second }
 {
-    if kept != LARGER_DEGREE {
-        return kept;
+    if kept == LARGER_DEGREE {
+        first.max(second)
+    } else {
+        kept
     }
-    first.max(second)
 }
 
 // A list C, rounded, and how many pairs the walk that formed it visited.

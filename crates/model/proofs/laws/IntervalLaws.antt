@@ -1,14 +1,14 @@
 -- Intervals (Intervals.antt): what the tests of the ends tell, and where a point of an interval is taken.
 use borrow.Author.Tests.{not-true, not-false}
-use Rattle.std.specs.Prelude.{◌≡◌, refl, Bool, true, false, not, ◌&&◌, ℕ, [], ◌∷◌, ◌*◌, ◌^◌, ◌≤◌, ◌<◌, eqb, ℤ, pos, neg_ℤ, nat_abs, ◌-ℤ◌, ◌<ℤ◌}
+use Rattle.std.specs.Prelude.{◌≡◌, Bool, true, false, not, ◌&&◌, ℕ, [], ◌∷◌, ◌^◌, ◌≤◌, ◌<◌, eqb, ℤ, pos, neg_ℤ, nat_abs, ◌-ℤ◌, ◌<ℤ◌}
 use Rattle.std.proofs.Common.{sym, ◌∙◌, ap, ap₂, arith, eqb-true}
 use Rattle.std.specs.Int.Signed.{lt_z, le_z}
 use Rattle.std.specs.Ordering.{int_eq}
 use Rattle.std.proofs.lemmas.Bool.Decides.{Decides-int_eq, same_from_decides}
-use Rattle.fraction.specs.definitions.Fraction.{ℚ, whole, ◌+ℚ◌, ◌-ℚ◌, -ℚ◌, ◌*ℚ◌, ◌/ℚ◌, ◌≤ℚ◌, ∣◌∣ℚ, inverse}
+use Rattle.fraction.specs.definitions.Fraction.{ℚ, whole, ◌+ℚ◌, ◌-ℚ◌, -ℚ◌, ◌*ℚ◌, ◌≤ℚ◌, ∣◌∣ℚ}
 use Rattle.ring.specs.laws.Difference.{≤_parts, <_parts}
 use Rattle.integer.proofs.laws.FractionInverse.{quotient_mul, *ℚ_cancel}
-use Rattle.fraction.proofs.laws.FractionLaws.{whole-add, *ℚ_comm, one_*ℚ}
+use Rattle.fraction.proofs.laws.FractionLaws.{whole-add, *ℚ_comm}
 use Rattle.integer.proofs.laws.FractionOrder.{ℚ_ordered, ≤ℚ_cancel, whole_neg}
 use Rattle.integer.proofs.laws.FractionRounding.{natural_positive, natural_nonzero}
 use Rattle.integer.proofs.laws.FractionSolver.{reifyℚ, solveℚ}

@@ -1,6 +1,6 @@
 -- Two answers of the code with one meaning are the same answer.
 use Rattle.std.specs.Prelude.{◌≡◌, refl, cond, ℕ, ◌<◌, eqb, Result, Ok, Err, IsOk, IfOk}
-use Rattle.std.specs.Result.{result_map_both, result_unwrap_or}
+use Rattle.std.specs.Result.{result_map_both}
 use Rattle.std.proofs.Common.{sym, ◌∙◌, ap, subst, arith, rules}
 use Rattle.model.specs.definitions.Outcomes.{Outcome, accepted, refused, number, payload, map_outcome, number_of, verdict_number, judged, outcome_of}
 use Rattle.model.specs.definitions.Models.{zero_model}

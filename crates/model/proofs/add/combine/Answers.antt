@@ -1,5 +1,5 @@
 -- `add::combine` meets its contract. The loop fills the list a + sign·b from the front and sums its weight.
-use Rattle.std.proofs.Common.{arith, ◌≡◌, ap, List, ℕ, ◌+◌, ◌*◌, ◌^◌, ◌<◌, ◌≤◌, ℤ, pos, nat_abs, ◌+ℤ◌, ◌*ℤ◌, length, get_or, drop, w32, FitsSigned, to_z, of_z, to_z-of_z}
+use Rattle.std.proofs.Common.{arith, ◌≡◌, ap, List, ℕ, ◌+◌, ◌*◌, ◌^◌, ◌≤◌, ℤ, pos, nat_abs, ◌+ℤ◌, ◌*ℤ◌, get_or, drop, w32, FitsSigned, to_z, of_z, to_z-of_z}
 use lib.ListN.{replicate, length-replicate}
 use Rattle.ring.specs.laws.Parts.{abs-mul}
 use Rattle.ring.specs.definitions.Integer.{ℤ_ring}
@@ -8,7 +8,6 @@ use Rattle.integer.proofs.laws.Filling.{begins, turn, whole}
 use Rattle.chebyshev.specs.definitions.Coefficients.{weight}
 use Rattle.chebyshev.proofs.laws.CoefficientLaws.{length-add, length-scale, get_d_add, get_d_scale}
 use Rattle.chebyshev.proofs.laws.Weight.{weight_at, weight_step, weight_end}
-use Rattle.model.specs.definitions.InnerContracts.{Summands}
 use Rattle.model.proofs.laws.CombinationLaws.{combined_weight}
 use Rattle.model.proofs.add.combine.Invariants.{Walked, sum}
 use Rattle.model.proofs.add.combine.Goals as goal

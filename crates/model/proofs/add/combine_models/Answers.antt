@@ -1,9 +1,6 @@
 -- `add::combine_models` meets its contract: the tests in the order of the definition's places.
-use Rattle.std.proofs.Common.{rules}
 use mathlib.Core.Path.{◌≡◌, refl, ◌∙◌, ap}
-use lib.ListN.{length}
 use mir.Facts.{to_z-of_z}
-use native.Mathlib.Omega.{arith}
 use Rattle.chebyshev.specs.definitions.Coefficients.{weight}
 use Rattle.model.specs.definitions.InnerContracts.{combination, combined_model, formed_outcome}
 use Rattle.model.specs.definitions.Models.{zero_model}
@@ -32,11 +29,7 @@ returns-then-ne c =
 
 pub combine-sum-requires : goal.combine-sum-requires
 combine-sum-requires c =
-    let la : length c.args.a.coefficients ≡ 33 = search rules in
-    let lb : length c.args.b.coefficients ≡ 33 = search rules in
     simp (to_z-of_z c.ranges.sign) (record {
-      first_all = la;
-      second_all = lb;
       first_light = (good_is c.args.a c.in_ok-checked_weight.ensures.ok.0).weight-fits;
       second_light = (good_is c.args.b c.in_ok-checked_weight-2.ensures.ok.0).weight-fits;
       unit = c.requires;

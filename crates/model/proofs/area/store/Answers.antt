@@ -1,5 +1,5 @@
 -- `area::store` meets its contract, at an area that has room and at one that has not.
-use Rattle.std.proofs.Common.{rules, arith, ◌≡◌, ap, ◌∙◌, ◌++◌, List, drop}
+use Rattle.std.proofs.Common.{arith}
 use Rattle.model.proofs.laws.AreaLaws.{filled, untouched}
 use Rattle.model.proofs.area.store.Goals as goal
 

@@ -1,9 +1,8 @@
 -- `evaluate::evaluate` meets its contract: the tests are those of the definition, and V, W and the bounds fit 64 bits
 -- (EvaluationBounds.antt).
-use Rattle.std.proofs.Common.{rules}
 use mathlib.Core.Path.{◌≡◌, refl, sym, ◌∙◌, ap}
 use mathlib.Core.Bool.{true}
-use Prim.Native.Nat.{ℕ, ◌+◌, ◌*◌, ◌^◌}
+use Prim.Native.Nat.{ℕ, ◌+◌, ◌^◌}
 use native.Mathlib.Omega.{arith}
 use lib.IntN.{ℤ, pos, ◌+ℤ◌, ◌-ℤ◌, ◌*ℤ◌}
 use mir.Syntax.{w64}
@@ -128,7 +127,7 @@ map_point-mapped-requires c = good_ends_lem c.args.a c.in_ok-checked_weight.ensu
 
 pub point_sums-sums-requires : goal.point_sums-sums-requires
 point_sums-sums-requires k = let m = k.before.before.before in
-    simp (to_z-of_z (fits-q m)) (evaluable (a m) (passed m) (p m) (q m) (inside m) (point_is m) (search rules))
+    simp (to_z-of_z (fits-q m)) (evaluable (a m) (passed m) (p m) (q m) (inside m) (point_is m))
 
 pub overflow_mul-value : goal.overflow_mul-value
 overflow_mul-value d = let n = summed d.before.before.before _ refl in simp (to_z-of_z (fits_value n)) (fits_fourfold n)

@@ -1,13 +1,12 @@
 -- `evaluate::map_point` meets its contract: every number fits 64 bits, for any point.
-use Rattle.std.proofs.Common.{rules, arith, ◌≡◌, sym, ◌∙◌, ap, ap₂, ℕ, ◌*◌, ◌^◌, ◌≤◌, ℤ, pos, nat_abs, ◌-ℤ◌, ◌*ℤ◌, ◌<ℤ◌, w32, w64, FitsSigned, to_z-of_z}
+use Rattle.std.proofs.Common.{rules, arith, ◌≡◌, sym, ◌∙◌, ap, ap₂, ℕ, ◌^◌, ◌≤◌, ℤ, pos, nat_abs, ◌-ℤ◌, ◌*ℤ◌, ◌<ℤ◌, w32, w64, FitsSigned, to_z-of_z}
 use lib.Dec.{eqb}
 use Rattle.ring.specs.laws.Difference.{<_parts}
 use Rattle.integer.proofs.laws.Machine.{abs-fits, fits_widens}
 use Rattle.ring.specs.laws.Parts.{abs, apart, abs-sub, abs-mul, difference}
 use Rattle.integer.proofs.laws.RoundingLaws.{near_error}
 use Rattle.model.specs.definitions.Evaluate.{mapped_numerator, mapped_point, maps_exactly}
-use Rattle.model.specs.definitions.Intervals.{good_ends, extent}
-use Rattle.model.specs.declared.types.Interval.{Interval}
+use Rattle.model.specs.definitions.Intervals.{extent}
 use Rattle.model.proofs.laws.IntervalLaws.{ends_are, extent_positive, extent-fits, extent_is}
 use Rattle.model.proofs.EndWords.{word_size, difference-fits, word_equal}
 use Rattle.model.proofs.evaluate.map_point.Goals as goal

@@ -1,6 +1,6 @@
 -- `evaluate::point_sums` meets its contract: a turn is that of the walk (EvaluationWalk.antt), whose sizes keep every number within
 -- 64 bits.
-use Rattle.std.proofs.Common.{arith, ◌≡◌, refl, sym, ap, List, ℕ, suc, ◌+◌, ◌*◌, ◌^◌, ◌<◌, ℤ, pos, nat_abs, ◌+ℤ◌, ◌-ℤ◌, ◌*ℤ◌, length, get_or, take, w32, w64, FitsSigned, to_z, of_z, to_z-of_z}
+use Rattle.std.proofs.Common.{arith, ◌≡◌, refl, ap, List, ℕ, suc, ◌+◌, ◌*◌, ◌<◌, ℤ, pos, nat_abs, ◌+ℤ◌, ◌-ℤ◌, ◌*ℤ◌, length, get_or, take, w32, w64, FitsSigned, to_z, of_z, to_z-of_z}
 use Rattle.integer.specs.definitions.Rounding.{near}
 use Rattle.integer.proofs.laws.Machine.{abs-fits, fits_widens}
 use Rattle.chebyshev.proofs.laws.Weight.{weight_at, weight-take}

@@ -1,12 +1,11 @@
 -- `integrate::integrate` meets its contract: the tests are those of the definition, and 2·a_0 fits 32 bits.
-use Rattle.std.proofs.Common.{rules}
-use mathlib.Core.Path.{◌≡◌, sym, ◌∙◌, ap}
+use mathlib.Core.Path.{◌≡◌, ◌∙◌, ap}
 use mathlib.Core.Bool.{true}
 use Prim.Native.Nat.{ℕ, suc, ◌+◌, ◌*◌, ◌^◌, ◌≤◌}
 use native.Mathlib.Nat.{mul-le-mul}
 use native.Mathlib.Omega.{arith}
 use lib.IntN.{ℤ, pos, ◌*ℤ◌}
-use lib.ListN.{length, get_or, take, set, length-set}
+use lib.ListN.{get_or, take, set}
 use mir.Syntax.{w32}
 use mir.Val.{SFits}
 use mir.Facts.{to_z-of_z}
@@ -58,9 +57,7 @@ overflow_mul-doubled c =
 pub rounded_integral-result-requires : goal.rounded_integral-result-requires
 rounded_integral-result-requires c =
     let g = good_is c.args.a c.in_ok-checked_weight.ensures.ok.0 in
-    let long : length c.args.a.coefficients ≡ 33 = search rules in
     simp (to_z-of_z (fits-x g), to_z-of_z (fits-double g)) (record {
-      all = length-set c.args.a.coefficients 0 (pos 2 *ℤ x g) ∙ long;
       degree_fits = omega arith;
       light = omega (arith, weight_doubled c.args.a.coefficients, g.weight-fits);
       extent-fits = omega (arith, c.extent-extent.ensures, extent-small g);

@@ -1,5 +1,5 @@
 -- `integrate::rounded_integral` meets its contract: a turn is that of the walk (IntegralWalk.antt).
-use Rattle.std.proofs.Common.{arith, ◌≡◌, refl, ap, List, ℕ, suc, ◌+◌, ◌*◌, ◌-◌, ◌<◌, ◌≤◌, ℤ, pos, nat_abs, ◌-ℤ◌, ◌*ℤ◌, get_or, take, set, w32, w64, FitsSigned, to_z, to_z-of_z}
+use Rattle.std.proofs.Common.{arith, ◌≡◌, refl, ap, List, ℕ, suc, ◌+◌, ◌*◌, ◌-◌, ◌≤◌, ℤ, pos, nat_abs, ◌-ℤ◌, ◌*ℤ◌, get_or, take, set, w32, w64, FitsSigned, to_z, to_z-of_z}
 use borrow.Author.Tests.{ltb-false}
 use Rattle.integer.specs.definitions.Rounding.{near}
 use Rattle.chebyshev.proofs.laws.Weight.{weight_at}

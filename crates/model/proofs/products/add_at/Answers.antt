@@ -1,5 +1,5 @@
 -- `products::add_at` meets its contract.
-use Rattle.std.proofs.Common.{rules, arith, sym, ◌+ℤ◌, ℤ, pos, get_or, w64, FitsSigned}
+use Rattle.std.proofs.Common.{arith, sym, ◌+ℤ◌, ℤ, pos, get_or, w64, FitsSigned}
 use mir.Facts.{to_z-of_z}
 use Rattle.ring.specs.laws.Parts.{abs-add}
 use Rattle.ring.specs.definitions.Integer.{ℤ_ring}

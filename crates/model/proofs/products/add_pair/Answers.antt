@@ -1,8 +1,8 @@
 -- `products::add_pair` meets its contract: its two places, one after the other.
-use Rattle.std.proofs.Common.{arith, ◌≡◌, ◌+◌}
+use Rattle.std.proofs.Common.{arith, ◌+◌}
 use mir.Facts.{to_z-of_z}
 use Rattle.ring.specs.definitions.Integer.{ℤ_ring}
-use Rattle.chebyshev.specs.definitions.Product.{add_at, add_pair_by}
+use Rattle.chebyshev.specs.definitions.Product.{add_pair_by}
 use Rattle.chebyshev.proofs.laws.ProductLaws.{length_add_at}
 use Rattle.chebyshev.proofs.laws.ProductWeight.{weight_add_at}
 use Rattle.model.proofs.products.add_pair.Goals as goal

@@ -1,6 +1,6 @@
 -- `products::add_pairs` meets its contract. The loop's invariant in rest form: the pairs that are left, visited after the k
 -- that were, give the whole term added to the list as it came, and no weight is above what the whole term may bring.
-use Rattle.std.proofs.Common.{rules, arith, ◌≡◌, sym, ◌∙◌, ap, List, ℕ, ◌+◌, ◌-◌, ◌*◌, ◌<◌, ℤ, pos, nat_abs, ◌*ℤ◌, length, get_or, drop, w32, w64, FitsSigned}
+use Rattle.std.proofs.Common.{rules, arith, ◌≡◌, sym, ◌∙◌, ap, List, ℕ, ◌+◌, ◌*◌, ◌<◌, ℤ, pos, nat_abs, ◌*ℤ◌, length, get_or, drop, w32, w64, FitsSigned}
 use mir.Facts.{to_z-of_z}
 use Rattle.ring.specs.laws.Parts.{abs-mul}
 use Rattle.ring.specs.definitions.Integer.{ℤ_ring}

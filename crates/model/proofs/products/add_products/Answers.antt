@@ -1,6 +1,6 @@
 -- `products::add_products` meets its contract. The loop's invariant in rest form, as for a term: the terms that are left,
 -- visited after the i · length b pairs that were, give all terms added to the list as it came.
-use Rattle.std.proofs.Common.{rules, arith, ◌≡◌, sym, ◌∙◌, ap, List, ℕ, ◌+◌, ◌-◌, ◌*◌, ◌<◌, ◌≤◌, ℤ, pos, nat_abs, length, get_or, drop, w32, FitsSigned}
+use Rattle.std.proofs.Common.{rules, arith, ◌≡◌, sym, ◌∙◌, ap, List, ℕ, ◌+◌, ◌*◌, ◌<◌, ◌≤◌, ℤ, pos, nat_abs, length, get_or, drop, w32, FitsSigned}
 use native.Mathlib.Nat.{mul-le-mul, le_refl}
 use mir.Facts.{to_z-of_z}
 use Rattle.ring.specs.definitions.Integer.{ℤ_ring}

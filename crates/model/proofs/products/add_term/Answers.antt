@@ -1,5 +1,5 @@
 -- `products::add_term` meets its contract: the two parts, one after the other, are the term cut at place i.
-use Rattle.std.proofs.Common.{rules, arith, ◌≡◌, ap, ℕ, ◌+◌, ◌-◌, ◌*◌, List, ℤ, nat_abs, length, take, drop, length-drop}
+use Rattle.std.proofs.Common.{arith, ◌≡◌, ap, ℕ, ◌+◌, ◌-◌, ◌*◌, List, ℤ, nat_abs, length, take, drop, length-drop}
 use lib.Seq.{length-take-le, take_all}
 use mir.Facts.{to_z-of_z}
 use Rattle.ring.specs.definitions.Integer.{ℤ_ring}
