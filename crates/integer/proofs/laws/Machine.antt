@@ -74,10 +74,6 @@ pub positive_is : (d : ℤ) → 0 < d ⁺ → d ≡ pos (nat_abs d)
 positive_is (pos n) h = refl
 positive_is (negsuc n) h = absurd (omega arith)
 
-pub positive_bits : (w : Width) (d : ℤ) → 0 < d ⁺ → 0 < of_z w d
-positive_bits w (pos n) h = h
-positive_bits w (negsuc n) h = absurd (omega arith)
-
 -- ---- the lowest bit
 
 -- z & 1 is the parity of z, below zero too: 2^64 is even
