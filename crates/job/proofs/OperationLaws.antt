@@ -35,15 +35,6 @@ performs e s g = record {
   gives = λ count rs t h n. e ∙ g count rs t h n;
 }
 
--- the model beside a verdict
-pub model_storable : (r : TestOutcome) → Storable (payload (test_of r)).model → Storable r.model
-model_storable r h = subst (λ (c : Certificate). Storable c.model) (payload-judged r.verdict _) h
-
--- where no test runs
-pub untested-judged : (v : Verdict) (m : Model) → judged v (untested m) ≡ untested_outcome (judged v m)
-untested-judged Accepted m = refl
-untested-judged (Refused r) m = refl
-
 untested_storable : (o : Outcome Model) → Storable (payload o) → Storable (payload (untested_outcome o)).model
 untested_storable (accepted m) h = h
 untested_storable (refused n m) h = h
@@ -75,8 +66,5 @@ module _ {w : List ℤ} {count : ℕ} {rs : List Model} {t : List ℤ} (h : Hold
 -- ---- an arm of a match on an operation, where it is known which it is
 
 module _ {op o : Operation} (e : op ≡ o) (job : List ℕ) (at : ℕ) (w : List ℤ) where
-  pub operable_told : Operable op job at w → Operable o job at w
-  operable_told h = rw e at h
-
   pub performs_told : (r : Outcome Certificate) → Performs (maker_at o job at) w r → Performs (maker_at op job at) w r
   performs_told r h = rw e h

@@ -1,4 +1,4 @@
--- The room of report records: clearing it, writing one record, and the records that it holds.
+-- The room of report records: writing one record, and the records that it holds.
 use mathlib.Core.Path.{◌≡◌, ap, ap₂, sym, ◌∙◌}
 use mathlib.Core.List.{List, [], ◌∷◌, ◌++◌, append_assoc, append-nil}
 use Prim.Native.Nat.{ℕ, suc, ◌+◌, ◌*◌, ◌-◌, ◌≤◌, ◌<◌}
@@ -15,38 +15,11 @@ use Rattle.job.proofs.laws.RecordLaws.{length-records_from, records_from-append,
 use Rattle.job.specs.declared.types.Report.{Report}
 use Rattle.job.specs.declared.types.Report.TheVariants.{Empty, Workshop, Service}
 
--- ---- clearing
-
-at_zero_bytes : (n i : ℕ) → i < n → get_or (zero_bytes n) i 0 ≡ 0
-unfolding zero_bytes
-at_zero_bytes n i h = get_or-replicate n i 0 0 h
-
 zero_bytes-append : (m n : ℕ) → zero_bytes m ++ zero_bytes n ≡ zero_bytes (m + n)
 unfolding zero_bytes
 zero_bytes-append m n = replicate-append-replicate m n 0
 
--- the first n bytes of a room, i of them cleared
-abbrev pub Emptying : ℕ → List ℕ → List ℕ → ℕ → Type 0
-Emptying n start l i = Filling (zero_bytes n) start l 0 n i
-
-pub emptying_begins : (n : ℕ) (start : List ℕ) → n ≤ length start → Emptying n start start 0
-emptying_begins n start h = begins (zero_bytes n) start 0 n (length-zero_bytes n) (omega arith)
-
-pub emptying_turn : {n : ℕ} {start l : List ℕ} {i : ℕ} → Emptying n start l i → i < n → Emptying n start (set l i 0) (i + 1)
-emptying_turn {n} {start} {l} {i} f h = turn i 0 0 f h (omega arith) (sym (at_zero_bytes n i h))
-
-pub emptying_ends : {n : ℕ} {start l : List ℕ} {i : ℕ} → Emptying n start l i → n ≤ i → l ≡ zero_bytes n ++ drop n start
-emptying_ends {n} {start} f h = let e : 0 + n ≡ n = omega arith in ends f h ∙ ap (λ (k : ℕ). zero_bytes n ++ drop k start) e
-
 -- ---- one record
-
--- bytes stored one after the other from a position on
-pub four_stored : (l : List ℕ) (at a b c d : ℕ) → set (set (set (set l at a) (at + 1) b) (at + 2) c) (at + 3) d ≡ sets l at (a ∷ b ∷ c ∷ d ∷ [])
-four_stored l at a b c d =
-    let e : at + 1 ≡ suc at = omega arith in
-    let f : at + 2 ≡ suc (suc at) = omega arith in
-    let g : at + 3 ≡ suc (suc (suc at)) = omega arith in
-    λ k. set (set (set (set l at a) (e k) b) (f k) c) (g k) d
 
 -- number and degree, then the fields, of four bytes each
 module _ (l : List ℕ) (at i degree : ℕ) where
@@ -140,7 +113,3 @@ module _ (report : Report) where
       ap (λ (k : ℕ). written_at report room k (record_bytes report k c)) n ∙ written_holds cs c room t (omega arith) e in
       recorded_holds new (cs ++ (c ∷ [])) (i + 1) _ t (omega (arith, length-append cs (c ∷ []))) (omega (arith, length-append cs (c ∷ []))) w
       ∙ ap (λ (l : List Certificate). room_with report l ++ t) (append_assoc cs (c ∷ []) new)
-
--- where no records are asked for, none is written
-pub empty_written : (room : List ℕ) (i : ℕ) → room ≡ written_at Empty room i []
-empty_written room i = let e : 0 * i ≡ 0 = omega arith in let f : 0 * i + 0 ≡ 0 = omega arith in rw (f, e)

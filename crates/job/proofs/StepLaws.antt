@@ -99,16 +99,3 @@ module _ (job : List ℕ) (k count at : ℕ) (kind : Kind) (next : ℕ) (work : 
         room = rw kind_is at r.room;
         long = long;
       }
-
--- ---- a command that makes a result names results below 32
-
-module _ (count : ℕ) (few : count ≤ max_results) where
-  making_below : (r : Making) → bad_in r count ≡ false → bad_in r max_results ≡ false
-  making_below (of_none g) h = refl
-  making_below (of_one i g) h = lt-leb max_results i (omega (arith, leb-false count i h))
-  making_below (of_two i j g) h =
-      let b = both_below count i j h in
-      simp (lt-leb max_results i (omega (arith, b)), lt-leb max_results j (omega (arith, b)))
-
-  pub names_below : (m : Maker) → names_bad m count ≡ false → names_bad m max_results ≡ false
-  names_below m h = making_below (making_for m) h

@@ -19,7 +19,7 @@ fn named(job: &[u8], i: usize, work: &[i32]) -> Model
     requires { NamesOne job.now i work.now }
     ensures { result ≡ stored_result work.now (byte_at job.now i) }
 {
-    stored_result(work, job[i] as usize)
+    stored_result(work, usize::from(job[i]))
 }
 
 // The results that the two bytes after a command name.
@@ -101,13 +101,10 @@ fn subtract(job: &[u8], at: usize, work: &[i32]) -> TestOutcome
 fn kept_byte(edition: u8, d: u8) -> u32
     ensures { result ≡ kept_byte edition d }
 {
-    if edition == 2 {
-        return d as u32;
-    }
-    if d == 255 {
+    if edition != 2 && d == 0xff {
         Model::MAX_DEGREE
     } else {
-        d as u32
+        u32::from(d)
     }
 }
 

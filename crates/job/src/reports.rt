@@ -19,10 +19,7 @@ fn write_number(room: &mut [u8], at: usize, n: u64)
     requires { at + 4 ≤ length room.old }
     ensures { room.new ≡ sets room.old at (little_endian n) }
 {
-    room[at] = (n % 256) as u8;
-    room[at + 1] = (n / 256 % 256) as u8;
-    room[at + 2] = (n / 65536 % 256) as u8;
-    room[at + 3] = (n / 16777216 % 256) as u8;
+    room[at..at + 4].copy_from_slice(&n.to_le_bytes()[..4]);
 }
 
 // Writes the record of result i.
@@ -76,9 +73,5 @@ pub(crate) fn clear_room(report: Report, room: &mut [u8])
     ensures { room.new ≡ zero_bytes (room_size report) ++ drop (room_size report) room.old }
 {
     let size = room_size(report);
-    let mut i: usize = 0;
-    while i < size {
-        room[i] = 0;
-        i += 1;
-    }
+    room[..size].fill(0);
 }

@@ -11,7 +11,7 @@ ghost use Rattle.job.specs.definitions.Requirement.{Requirement3};
 
 use crate::reports::{clear_room, room_size};
 use crate::step::step;
-use crate::types::{RefusedCommand, Report};
+use crate::types::{Progress, RefusedCommand, Report};
 use crate::work::{WORK_SIZE, clear_work};
 use certificate::scratch::clear_scratch;
 use certificate::types::SCRATCH_SIZE;
@@ -40,17 +40,18 @@ fn run(
     ensures room_after { room.new
         ≡ room_with report (job_certificates job.now) ++ drop (room_size report) room.old }
 {
-    let mut at: usize = 0;
+    let mut done = Progress {
+        results: 0,
+        next: 0,
+    };
     let mut k: usize = 0;
-    let mut count: usize = 0;
     loop {
-        match step(job, k, count, at, work, scratch, report, room) {
-            Ok(Some(done)) => {
-                at = done.next;
-                count = done.results;
+        match step(job, k, done, work, scratch, report, room) {
+            Ok(Some(after)) => {
+                done = after;
                 k += 1;
             }
-            Ok(None) => return Ok(count),
+            Ok(None) => return Ok(done.results),
             Err(refusal) => {
                 clear_work(work);
                 clear_room(report, room);

@@ -10,7 +10,7 @@ ghost use Rattle.job.specs.definitions.Reports.{room_size};
 use crate::operations::operate;
 use crate::reader::read_next;
 use crate::reports::write_record;
-use crate::types::{Kind, Progress, Report};
+use crate::types::{Kind, Progress, ReadCommand, Report};
 use crate::work::store;
 use certificate::types::TestOutcome;
 use model::types::{Refusal, Verdict};
@@ -50,59 +50,55 @@ fn add_result(
     }
 }
 
-// A command that was read.
+// A command that was read, whose byte stands where the commands before it led.
 fn perform(
-    kind: Kind,
-    next: usize,
+    read: ReadCommand,
     job: &[u8],
-    count: usize,
-    at: usize,
+    before: Progress,
     work: &mut [i32],
     scratch: &mut [i64],
     report: Report,
     room: &mut [u8],
 ) -> Result<Option<Progress>, Refusal>
-    requires { Performable kind job.now count at work.old
+    requires { Performable read.kind job.now before.results before.next work.old
         × (Clear scratch.old × (room_size report ≤ length room.old)) }
-    ensures steps_by { StepsBy result work.old work.new count
-        (λ rs. performed (command_at kind job.now at) rs next) }
+    ensures steps_by { StepsBy result work.old work.new before.results
+        (λ rs. performed (command_at read.kind job.now before.next) rs read.next) }
     ensures scratch_unchanged { scratch.new ≡ scratch.old }
-    ensures records_by { RecordsBy report room.old room.new work.old count
-        (λ rs. added_by (command_at kind job.now at) rs) }
+    ensures records_by { RecordsBy report room.old room.new work.old before.results
+        (λ rs. added_by (command_at read.kind job.now before.next) rs) }
 {
-    match kind {
+    match read.kind {
         Kind::End => Ok(None),
         Kind::Edition => Ok(Some(Progress {
-            results: count,
-            next,
+            results: before.results,
+            next: read.next,
         })),
         Kind::Result(op) => {
-            let a = operate(op, job, at, work, scratch);
-            add_result(work, count, next, a, report, room)
+            let a = operate(op, job, before.next, work, scratch);
+            add_result(work, before.results, read.next, a, report, room)
         }
         Kind::Unknown => Err(Refusal::BadValue),
     }
 }
 
-// Command k, whose byte stands at a position, with so many results before it.
+// Command k, where the commands before it led.
 pub(crate) fn step(
     job: &[u8],
     k: usize,
-    count: usize,
-    at: usize,
+    before: Progress,
     work: &mut [i32],
     scratch: &mut [i64],
     report: Report,
     room: &mut [u8],
 ) -> Result<Option<Progress>, Refusal>
-    requires { Between work.old count scratch.old × (room_size report ≤ length room.old) }
-    ensures steps_by { StepsBy result work.old work.new count (λ rs. command job.now k rs at) }
+    requires { Between work.old before.results scratch.old × (room_size report ≤ length room.old) }
+    ensures steps_by { StepsBy result work.old work.new before.results
+        (λ rs. command job.now k rs before.next) }
     ensures scratch_unchanged { scratch.new ≡ scratch.old }
-    ensures records_by { RecordsBy report room.old room.new work.old count
-        (λ rs. added_at job.now k rs at) }
+    ensures records_by { RecordsBy report room.old room.new work.old before.results
+        (λ rs. added_at job.now k rs before.next) }
 {
-    let read = read_next(job, k, count, at)?;
-    perform(
-        read.kind, read.next, job, count, at, work, scratch, report, room,
-    )
+    let read = read_next(job, k, before.results, before.next)?;
+    perform(read, job, before, work, scratch, report, room)
 }

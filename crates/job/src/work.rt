@@ -33,9 +33,5 @@ pub(crate) fn clear_work(work: &mut [i32])
     requires { work_size ≤ length work.old }
     ensures { work.new ≡ zeros work_size ++ drop work_size work.old }
 {
-    let mut i: usize = 0;
-    while i < WORK_SIZE {
-        work[i] = 0;
-        i += 1;
-    }
+    work[..WORK_SIZE].fill(0);
 }

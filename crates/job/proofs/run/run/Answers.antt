@@ -4,8 +4,8 @@ use native.Mathlib.Omega.{arith}
 use Rattle.job.proofs.Loop.{going_begins, going_again, going_ends, going_stops}
 use Rattle.job.proofs.run.run.Goals as goal
 
-pub loop-done-init : goal.loop-done-init
-loop-done-init c =
+pub loop-after-init : goal.loop-after-init
+loop-after-init c =
     let g = c.args in
     record {
       going = going_begins g.report g.job.now g.work.now g.room.now c.requires.0.long c.requires.0.zero c.requires.1;
@@ -13,29 +13,29 @@ loop-done-init c =
       clear = c.requires.0.clear;
     }
 
-pub loop-done-smaller : goal.loop-done-smaller
-loop-done-smaller c =
+pub loop-after-smaller : goal.loop-after-smaller
+loop-after-smaller c =
     let e = rw c.in-Ok-Some.field-0-is at c.in-Ok-Some.ensures in
-    let t = going_again c.loop-done.invariant.going c.step.new.work c.step.new.room e.records_by e.steps_by c.step.auto.work c.step.auto.room in
+    let t = going_again c.loop-after.invariant.going c.step.new.work c.step.new.room e.records_by e.steps_by c.step.auto.work c.step.auto.room in
     omega (arith, t.0, t.1.position)
 
-pub loop-done-preserved : goal.loop-done-preserved
-loop-done-preserved c =
+pub loop-after-preserved : goal.loop-after-preserved
+loop-after-preserved c =
     let e = rw c.in-Ok-Some.field-0-is at c.in-Ok-Some.ensures in
     record {
-      going = (going_again c.loop-done.invariant.going c.step.new.work c.step.new.room e.records_by e.steps_by c.step.auto.work c.step.auto.room).1;
-      same = e.scratch_unchanged ∙ c.loop-done.invariant.same;
-      clear = c.loop-done.invariant.clear;
+      going = (going_again c.loop-after.invariant.going c.step.new.work c.step.new.room e.records_by e.steps_by c.step.auto.work c.step.auto.room).1;
+      same = e.scratch_unchanged ∙ c.loop-after.invariant.same;
+      clear = c.loop-after.invariant.clear;
     }
 
 pub returns-in-Ok-None : goal.returns-in-Ok-None
 returns-in-Ok-None c =
     let e = rw c.in-Ok-None.field-0-is at c.in-Ok-None.ensures in
-    let r = going_ends c.loop-done.invariant.going c.step.new.work c.step.new.room e.records_by e.steps_by in
+    let r = going_ends c.loop-after.invariant.going c.step.new.work c.step.new.room e.records_by e.steps_by in
     record {
       result_value = r.answer;
       work_after = r.work_is;
-      scratch_unchanged = e.scratch_unchanged ∙ c.loop-done.invariant.same;
+      scratch_unchanged = e.scratch_unchanged ∙ c.loop-after.invariant.same;
       requirement3 = r.claim;
       room_after = r.room_is;
     }
@@ -43,11 +43,11 @@ returns-in-Ok-None c =
 pub returns-in-Err : goal.returns-in-Err
 returns-in-Err c =
     let e = c.in-Err.ensures in
-    let r = going_stops c.loop-done.invariant.going c.step.new.work c.step.new.room e.records_by e.steps_by c.clear_work.ensures c.clear_room.ensures in
+    let r = going_stops c.loop-after.invariant.going c.step.new.work c.step.new.room e.records_by e.steps_by c.clear_work.ensures c.clear_room.ensures in
     record {
       result_value = r.answer;
       work_after = r.work_is;
-      scratch_unchanged = e.scratch_unchanged ∙ c.loop-done.invariant.same;
+      scratch_unchanged = e.scratch_unchanged ∙ c.loop-after.invariant.same;
       requirement3 = r.claim;
       room_after = r.room_is;
     }

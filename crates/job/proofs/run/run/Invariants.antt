@@ -6,13 +6,13 @@ use Rattle.job.specs.definitions.InnerContracts.{Clear}
 use Rattle.job.proofs.Loop.{Going}
 use Rattle.job.proofs.run.run.Given as goal
 
-abbrev pub invariant-loop-done : goal.invariant-loop-done
-invariant-loop-done l =
+abbrev pub invariant-loop-after : goal.invariant-loop-after
+invariant-loop-after l =
     record {
-      going : Going l.report l.job l.initial.work l.work l.initial.room l.room l.at l.k l.count;
+      going : Going l.report l.job l.initial.work l.work l.initial.room l.room l.done.next l.k l.done.results;
       same : l.scratch ≡ l.initial.scratch;
       clear : Clear l.initial.scratch;
     }
 
-abbrev pub decreases-loop-done : goal.decreases-loop-done
-decreases-loop-done l = length l.job - l.at
+abbrev pub decreases-loop-after : goal.decreases-loop-after
+decreases-loop-after l = length l.job - l.done.next
