@@ -3,7 +3,7 @@ use mathlib.Core.Path.{◌≡◌, refl, ap, ◌∙◌}
 use mathlib.Core.List.{List}
 use Prim.Native.Nat.{ℕ, zero, suc, ◌+◌, ◌*◌, ◌<◌}
 use native.Mathlib.Omega.{arith}
-use lib.IntN.{ℤ, negsuc, pos, ◌-ℤ◌}
+use lib.IntN.{ℤ}
 use lib.ListN.{length, get_or}
 use Rattle.job.specs.definitions.Bytes.{unsigned_at, signed, signeds_at}
 

@@ -1,20 +1,14 @@
 -- The layouts of the commands.
 use mathlib.Core.Path.{◌≡◌, refl}
-use mathlib.Core.Bool.{false, ◌&&◌}
-use mathlib.Core.List.{List, [], ◌∷◌}
+use mathlib.Core.List.{List}
 use Prim.Native.Nat.{ℕ, ◌≤◌}
 use native.Mathlib.Omega.{arith}
-use borrow.Author.Tests.{ne_eqb}
-use lib.Dec.{eqb, leb, ltb}
-use denote.Enum.Declared.{tag_of}
-use types.Run.{OneOf, miss}
-use Rattle.job.specs.definitions.Reading.{max_results, bad_kind, bad_names, bad_bytes, name_bytes, value_bytes, makes_result, is_end}
-use Rattle.job.specs.definitions.Decode.{kind_in, layout_for, maker_at, command_at}
+use Rattle.job.specs.definitions.Reading.{bad_names, bad_bytes, name_bytes, value_bytes}
+use Rattle.job.specs.definitions.Decode.{layout_for, maker_at, command_at}
 use Rattle.job.specs.declared.types.Operation.{Operation}
 use Rattle.job.specs.declared.types.Operation.TheVariants.{Load, Add, Subtract, Multiply, LoadOn, Quotient, Root}
 use Rattle.job.specs.declared.types.Kind.{Kind}
 use Rattle.job.specs.declared.types.Kind.TheVariants.{End, Edition, Result, Unknown}
-use Rattle.job.specs.contracts.types.Kind.{the_type}
 
 -- the bytes that reading looks at are operand bytes, and those that name results are the results that the command names
 pub record Agrees (kind : Kind) : Type 0 where

@@ -1,5 +1,5 @@
 -- The operations of commands on the results that a work area holds.
-use mathlib.Core.Path.{◌≡◌, refl, ap, ap₂, subst, subst⁻¹, ◌∙◌}
+use mathlib.Core.Path.{◌≡◌, ap, ap₂, subst⁻¹, ◌∙◌}
 use mathlib.Core.Bool.{false, ◌||◌}
 use mathlib.Core.List.{List}
 use Prim.Native.Nat.{ℕ}
@@ -7,22 +7,18 @@ use borrow.Author.Tests.{leb-false, not-false}
 use lib.Dec.{leb}
 use lib.IntN.{ℤ}
 use Rattle.model.specs.definitions.Models.{good, zero_model}
-use Rattle.model.specs.definitions.Outcomes.{Outcome, accepted, refused, payload, judged}
+use Rattle.model.specs.definitions.Outcomes.{Outcome, accepted, refused, payload}
 use Rattle.model.specs.definitions.Load.{loading_places, loading}
 use Rattle.model.proofs.laws.ModelLaws.{good_is}
 use Rattle.model.specs.definitions.Area.{Storable}
 use Rattle.model.proofs.laws.ResultLaws.{outcome-payload, zero_storable}
-use Rattle.model.proofs.laws.OutcomeLaws.{payload-judged}
-use Rattle.certificate.specs.definitions.Tests.{Certificate, test_of}
-use Rattle.certificate.specs.declared.types.TestOutcome.{TestOutcome}
+use Rattle.certificate.specs.definitions.Tests.{Certificate}
 use Rattle.model.specs.declared.types.Model.{Model}
-use Rattle.model.specs.declared.types.Verdict.{Verdict}
-use Rattle.model.specs.declared.types.Verdict.TheVariants.{Accepted, Refused}
-use Rattle.job.specs.definitions.Operations.{Maker, untested, result_at, names_bad, operation}
+use Rattle.job.specs.definitions.Operations.{Maker, result_at, names_bad, operation}
 use Rattle.job.proofs.laws.CommandLaws.{both_below}
 use Rattle.job.specs.definitions.Work.{stored_result}
 use Rattle.job.specs.definitions.Decode.{maker_at}
-use Rattle.job.specs.definitions.InnerContracts.{Holds, untested_outcome, Performs, Operable}
+use Rattle.job.specs.definitions.InnerContracts.{Holds, untested_outcome, Performs}
 use Rattle.job.specs.declared.types.Operation.{Operation}
 use Rattle.job.proofs.Results.{result_held}
 

@@ -4,16 +4,15 @@ use mathlib.Core.List.{List, [], ◌∷◌, ◌++◌, append_assoc, append-nil}
 use Prim.Native.Nat.{ℕ, suc, ◌+◌, ◌*◌, ◌-◌, ◌≤◌, ◌<◌}
 use native.Mathlib.Omega.{arith}
 use native.Mathlib.Nat.{mul-le-mul_left}
-use lib.ListN.{length, get_or, set, take, drop, length-append, get_or-replicate, replicate-append-replicate}
+use lib.ListN.{length, set, take, drop, length-append, replicate-append-replicate}
 use lib.Seq.{sets, sets-eq, take_at, drop_at, drop-drop}
-use Rattle.integer.proofs.laws.Filling.{Filling, begins, turn, ends}
 use Rattle.certificate.specs.definitions.Tests.{Certificate}
 use Rattle.job.specs.definitions.Reading.{max_results}
 use Rattle.job.specs.definitions.Reports.{little_endian, record_size, record_with, record_bytes, records_from, zero_bytes, room_size, room_with}
 use Rattle.job.specs.definitions.InnerContracts.{written_at, recorded_from}
 use Rattle.job.proofs.laws.RecordLaws.{length-records_from, records_from-append, length-zero_bytes, length-room_with}
 use Rattle.job.specs.declared.types.Report.{Report}
-use Rattle.job.specs.declared.types.Report.TheVariants.{Empty, Workshop, Service}
+use Rattle.job.specs.declared.types.Report.TheVariants.{Workshop, Service}
 
 zero_bytes-append : (m n : ℕ) → zero_bytes m ++ zero_bytes n ≡ zero_bytes (m + n)
 unfolding zero_bytes

@@ -1,21 +1,19 @@
 -- From the reading of a command to its performance.
-use mathlib.Core.Path.{◌≡◌, refl, ap, sym, subst, ◌∙◌}
-use mathlib.Core.Bool.{Bool, false}
+use mathlib.Core.Path.{◌≡◌, ap, sym, subst, ◌∙◌}
+use mathlib.Core.Bool.{Bool}
 use mathlib.Core.List.{List, []}
 use mathlib.Core.Logic.{◌⊎◌, inl, inr}
 use Prim.Native.Nat.{ℕ, ◌≤◌}
 use native.Mathlib.Omega.{arith}
-use borrow.Author.Tests.{leb-false, lt-leb}
 use lib.IntN.{ℤ}
 use lib.ListN.{length}
 use Rattle.model.specs.definitions.Outcomes.{Passed, First}
 use Rattle.model.proofs.laws.PlaceLaws.{passing_passed, passing_unrefused, first_or_passed, passing_first}
 use Rattle.model.specs.declared.types.Model.{Model}
-use Rattle.job.specs.definitions.Operations.{Maker, Making, of_none, of_one, of_two, making_for, bad_in, names_bad}
 use Rattle.job.specs.definitions.Reading.{max_results, shape_at, next_at, reading_places, CommandReading, found, command_reading}
 use Rattle.job.specs.definitions.Decode.{command_at}
 use Rattle.job.specs.definitions.Step.{refused, performed, command}
-use Rattle.job.proofs.laws.CommandLaws.{both_below, Readable, readable}
+use Rattle.job.proofs.laws.CommandLaws.{Readable, readable}
 use Rattle.job.specs.definitions.Work.{work_size}
 use Rattle.job.specs.definitions.InnerContracts.{Performable, added_by, added_at}
 use Rattle.job.specs.declared.types.Kind.{Kind}

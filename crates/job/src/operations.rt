@@ -11,8 +11,8 @@ ghost use Rattle.job.specs.definitions.InnerContracts.{untested_outcome, Perform
 use crate::bytes::{read_candidate, read_interval, read_model, read_unsigned};
 use crate::types::Operation;
 use crate::work::stored_result;
-use certificate::types::{RootRule, TestOutcome};
-use model::types::{Interval, Model, ModelOutcome};
+use certificate::types::{Certificate, RootRule};
+use model::types::{Interval, Model, Refusal};
 
 // The result that byte i of the job names.
 fn named(job: &[u8], i: usize, work: &[i32]) -> Model
@@ -40,22 +40,20 @@ fn read_operands(job: &[u8], at: usize, work: &[i32]) -> Operands
 }
 
 // Where no test runs, m, N and b are zero.
-fn untested(o: ModelOutcome) -> TestOutcome
-    ensures { test_of result ≡ untested_outcome (outcome_of o) }
+fn untested(made: Result<Model, Refusal>) -> Result<Certificate, Refusal>
+    ensures { test_of result ≡ untested_outcome (outcome_of made) }
 {
-    let verdict = o.verdict;
-    let model = o.model;
-    TestOutcome {
-        verdict,
+    let model = made?;
+    Ok(Certificate {
         model,
         contraction: 0,
         residual: 0,
         displacement: 0,
-    }
+    })
 }
 
 // The block and the radius behind a command byte, as a model on an interval.
-fn load_block(job: &[u8], at: usize, interval: Interval) -> TestOutcome
+fn load_block(job: &[u8], at: usize, interval: Interval) -> Result<Certificate, Refusal>
     requires { at + 138 ≤ length job.now }
     ensures { test_of result
         ≡ untested_outcome (loading (block_at job.now (at + 1) (unsigned_at job.now (at + 134)) interval)) }
@@ -65,7 +63,7 @@ fn load_block(job: &[u8], at: usize, interval: Interval) -> TestOutcome
     untested(model::load::load(m))
 }
 
-fn load(job: &[u8], at: usize) -> TestOutcome
+fn load(job: &[u8], at: usize) -> Result<Certificate, Refusal>
     requires { at + 138 ≤ length job.now }
     ensures { (w : List ℤ) → Performs (maker_at Operation.Load job.now at) w (test_of result) }
 {
@@ -73,7 +71,7 @@ fn load(job: &[u8], at: usize) -> TestOutcome
     load_block(job, at, interval)
 }
 
-fn load_on(job: &[u8], at: usize) -> TestOutcome
+fn load_on(job: &[u8], at: usize) -> Result<Certificate, Refusal>
     requires { at + 146 ≤ length job.now }
     ensures { (w : List ℤ) → Performs (maker_at Operation.LoadOn job.now at) w (test_of result) }
 {
@@ -81,7 +79,7 @@ fn load_on(job: &[u8], at: usize) -> TestOutcome
     load_block(job, at, interval)
 }
 
-fn add(job: &[u8], at: usize, work: &[i32]) -> TestOutcome
+fn add(job: &[u8], at: usize, work: &[i32]) -> Result<Certificate, Refusal>
     requires { Operable Operation.Add job.now at work.now }
     ensures { Performs (maker_at Operation.Add job.now at) work.now (test_of result) }
 {
@@ -89,7 +87,7 @@ fn add(job: &[u8], at: usize, work: &[i32]) -> TestOutcome
     untested(model::add::add(o.first, o.second))
 }
 
-fn subtract(job: &[u8], at: usize, work: &[i32]) -> TestOutcome
+fn subtract(job: &[u8], at: usize, work: &[i32]) -> Result<Certificate, Refusal>
     requires { Operable Operation.Subtract job.now at work.now }
     ensures { Performs (maker_at Operation.Subtract job.now at) work.now (test_of result) }
 {
@@ -108,7 +106,7 @@ fn kept_byte(edition: u8, d: u8) -> u32
     }
 }
 
-fn multiply(job: &[u8], at: usize, work: &[i32]) -> TestOutcome
+fn multiply(job: &[u8], at: usize, work: &[i32]) -> Result<Certificate, Refusal>
     requires { Operable Operation.Multiply job.now at work.now }
     ensures { Performs (maker_at Operation.Multiply job.now at) work.now (test_of result) }
 {
@@ -117,7 +115,12 @@ fn multiply(job: &[u8], at: usize, work: &[i32]) -> TestOutcome
     untested(model::multiply::multiply(o.first, o.second, kept))
 }
 
-fn quotient(job: &[u8], at: usize, work: &[i32], scratch: &mut [i64]) -> TestOutcome
+fn quotient(
+    job: &[u8],
+    at: usize,
+    work: &[i32],
+    scratch: &mut [i64],
+) -> Result<Certificate, Refusal>
     requires { Operable Operation.Quotient job.now at work.now × Clear scratch.old }
     ensures performs { Performs (maker_at Operation.Quotient job.now at) work.now (test_of result) }
     ensures scratch_unchanged { scratch.new ≡ scratch.old }
@@ -128,7 +131,13 @@ fn quotient(job: &[u8], at: usize, work: &[i32], scratch: &mut [i64]) -> TestOut
     certificate::quotient::quotient(o.first, o.second, h, w, scratch)
 }
 
-fn root(rule: RootRule, job: &[u8], at: usize, work: &[i32], scratch: &mut [i64]) -> TestOutcome
+fn root(
+    rule: RootRule,
+    job: &[u8],
+    at: usize,
+    work: &[i32],
+    scratch: &mut [i64],
+) -> Result<Certificate, Refusal>
     requires { Operable (Operation.Root rule) job.now at work.now × Clear scratch.old }
     ensures performs { Performs (maker_at (Operation.Root rule) job.now at) work.now (test_of result) }
     ensures scratch_unchanged { scratch.new ≡ scratch.old }
@@ -146,7 +155,7 @@ pub(crate) fn operate(
     at: usize,
     work: &[i32],
     scratch: &mut [i64],
-) -> TestOutcome
+) -> Result<Certificate, Refusal>
     requires { Operable op job.now at work.now × Clear scratch.old }
     ensures performs { Performs (maker_at op job.now at) work.now (test_of result) }
     ensures scratch_unchanged { scratch.new ≡ scratch.old }

@@ -1,10 +1,12 @@
 // Report records: that of result i in its own bytes of the room, from record_size · i on.
 ghost use Rattle.std.specs.Prelude.{◌≡◌, ◌++◌, ◌+◌, ◌≤◌, length, drop};
 ghost use Rattle.std.proofs.lemmas.List.Edits.{sets};
-ghost use Rattle.job.specs.definitions.Reports.{little_endian, record_with, zero_bytes, room_size};
+ghost use Rattle.certificate.specs.definitions.Tests.{certificate_of};
+ghost use Rattle.job.specs.definitions.Reports.{little_endian, record_bytes, zero_bytes, room_size};
 ghost use Rattle.job.specs.definitions.InnerContracts.{Recordable, written_at};
 
 use crate::types::Report;
+use certificate::types::Certificate;
 
 const WORKSHOP_SIZE: usize = 6;
 
@@ -23,35 +25,28 @@ fn write_number(room: &mut [u8], at: usize, n: u64)
 }
 
 // Writes the record of result i.
-pub(crate) fn write_record(
-    report: Report,
-    room: &mut [u8],
-    i: usize,
-    degree: u32,
-    m: u64,
-    n: u64,
-    b: u64,
-    radius: u32,
-)
-    requires { Recordable report room.old i degree }
-    ensures { room.new ≡ written_at report room.old i (record_with report i degree m n b radius) }
+pub(crate) fn write_record(report: Report, room: &mut [u8], i: usize, made: &Certificate)
+    requires { Recordable report room.old i made.now.model.degree }
+    ensures { room.new ≡ written_at report room.old i (record_bytes report i (certificate_of made.now)) }
 {
+    let degree = made.model.degree as u8;
+    let radius = u64::from(made.model.radius);
     match report {
         Report::Empty => {}
         Report::Workshop => {
             let at = WORKSHOP_SIZE * i;
             room[at] = i as u8;
-            room[at + 1] = degree as u8;
-            write_number(room, at + 2, radius as u64);
+            room[at + 1] = degree;
+            write_number(room, at + 2, radius);
         }
         Report::Service => {
             let at = SERVICE_SIZE * i;
             room[at] = i as u8;
-            room[at + 1] = degree as u8;
-            write_number(room, at + 2, m);
-            write_number(room, at + 6, n);
-            write_number(room, at + 10, b);
-            write_number(room, at + 14, radius as u64);
+            room[at + 1] = degree;
+            write_number(room, at + 2, made.contraction);
+            write_number(room, at + 6, made.residual);
+            write_number(room, at + 10, made.displacement);
+            write_number(room, at + 14, radius);
         }
     }
 }

@@ -1,53 +1,31 @@
 // One command: its reading, its operation, and its result's 37 numbers of the work area.
 ghost use Rattle.std.specs.Prelude.{◌≡◌, ◌≤◌, length};
-ghost use Rattle.certificate.specs.definitions.Tests.{test_of};
+ghost use Rattle.certificate.specs.definitions.Tests.{certificate_of};
 ghost use Rattle.job.specs.definitions.Decode.{command_at};
-ghost use Rattle.job.specs.definitions.Step.{resulting, performed, command};
+ghost use Rattle.job.specs.definitions.Step.{performed, command};
 ghost use Rattle.job.specs.definitions.InnerContracts.{StepsBy, Performable, Storing, Between, Clear};
-ghost use Rattle.job.specs.definitions.InnerContracts.{recorded_from, added_of, added_by, added_at, RecordsBy};
-ghost use Rattle.job.specs.definitions.Reports.{room_size};
+ghost use Rattle.job.specs.definitions.InnerContracts.{written_at, added_by, added_at, RecordsBy};
+ghost use Rattle.job.specs.definitions.Work.{stored_at};
+ghost use Rattle.job.specs.definitions.Reports.{room_size, record_bytes};
 
 use crate::operations::operate;
 use crate::reader::read_next;
 use crate::reports::write_record;
 use crate::types::{Kind, Progress, ReadCommand, Report};
 use crate::work::store;
-use certificate::types::TestOutcome;
-use model::types::{Refusal, Verdict};
+use certificate::types::Certificate;
+use model::types::Refusal;
 
-// The operation's answer becomes the next result.
-fn add_result(
-    work: &mut [i32],
-    count: usize,
-    next: usize,
-    a: TestOutcome,
-    report: Report,
-    room: &mut [u8],
-) -> Result<Option<Progress>, Refusal>
-    requires { Storing work.old count a.model × (room_size report ≤ length room.old) }
-    ensures steps_by { StepsBy result work.old work.new count (λ rs. resulting rs next (test_of a)) }
-    ensures room_after { room.new ≡ recorded_from report room.old count (added_of (test_of a)) }
+// A certificate's model becomes the next result, with its record.
+fn add_result(work: &mut [i32], count: usize, made: &Certificate, report: Report, room: &mut [u8])
+    requires { Storing work.old count made.now.model × (room_size report ≤ length room.old) }
+    ensures work_after { work.new ≡ stored_at work.old count made.now.model }
+    ensures room_after { room.new
+        ≡ written_at report room.old count (record_bytes report count (certificate_of made.now)) }
 {
-    let verdict = a.verdict;
-    match verdict {
-        Verdict::Accepted => {
-            let m = a.model;
-            store(work, count, m);
-            write_record(
-                report,
-                room,
-                count,
-                a.model.degree,
-                a.contraction,
-                a.residual,
-                a.displacement,
-                a.model.radius,
-            );
-            let results = count + 1;
-            Ok(Some(Progress { results, next }))
-        }
-        Verdict::Refused(refusal) => Err(refusal),
-    }
+    let m = made.model;
+    store(work, count, m);
+    write_record(report, room, count, made);
 }
 
 // A command that was read, whose byte stands where the commands before it led.
@@ -75,8 +53,12 @@ fn perform(
             next: read.next,
         })),
         Kind::Result(op) => {
-            let a = operate(op, job, before.next, work, scratch);
-            add_result(work, before.results, read.next, a, report, room)
+            let made = operate(op, job, before.next, work, scratch)?;
+            add_result(work, before.results, &made, report, room);
+            Ok(Some(Progress {
+                results: before.results + 1,
+                next: read.next,
+            }))
         }
         Kind::Unknown => Err(Refusal::BadValue),
     }

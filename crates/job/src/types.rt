@@ -66,7 +66,7 @@ pub(crate) struct Progress {
 }
 
 // Why a job is refused, and the command that is refused, counted from 0.
-#[derive(Clone, Copy)]
+#[derive(Clone, Copy, Debug, PartialEq, Eq)]
 pub struct RefusedCommand {
     pub refusal: Refusal,
     pub command: usize,
