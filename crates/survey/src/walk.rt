@@ -1,7 +1,6 @@
 // The walk over a job's commands, on their bytes alone, which converts them in a copy of the job.
 ghost use Rattle.std.specs.Prelude.{◌≡◌, [], ◌+◌, ◌<◌, length};
 ghost use Rattle.job.specs.definitions.Outcomes.{job_outcome_of};
-ghost use Rattle.job.specs.definitions.Reading.{is_end};
 ghost use Rattle.job.specs.definitions.Reader.{job_reading, ReadsWell};
 ghost use Rattle.job.specs.definitions.Decode.{maker_at, command_at};
 ghost use Rattle.survey.specs.definitions.Degrees.{maker_degree};
@@ -11,7 +10,7 @@ ghost use Rattle.survey.specs.definitions.InnerContracts.{NamesTwo, TellsDegree,
 use crate::areas::put;
 use crate::degrees::{Place, block_degree, product_degree, stands_for};
 use job::reader::read_next;
-use job::types::{CommandReading, JobOutcome, Kind, MAX_RESULTS, Operation};
+use job::types::{Kind, MAX_RESULTS, Operation, RefusedCommand};
 
 impl Place<'_> {
     // A multiply command is converted: its kept degree is stated. It answers the degree of the result.
@@ -75,14 +74,8 @@ fn other_edition(e: u8) -> u8
     if e == 1 { 2 } else { 1 }
 }
 
-fn is_end(kind: Kind) -> bool
-    ensures { result ≡ is_end kind }
-{
-    matches!(kind, Kind::End)
-}
-
 // The reading of a whole job, and the conversion of its commands in `out`, which holds a copy of the job or is too short for one.
-pub(crate) fn walk(job: &[u8], out: &mut [u8]) -> JobOutcome
+pub(crate) fn walk(job: &[u8], out: &mut [u8]) -> Result<usize, RefusedCommand>
     ensures result_value { job_outcome_of result ≡ reading_outcome (job_reading job.now) }
     ensures out_after { ReadsWell job.now
         → out.new ≡ convert_from (length job.now + 1) job.now [] 0 out.old }
@@ -90,29 +83,25 @@ pub(crate) fn walk(job: &[u8], out: &mut [u8]) -> JobOutcome
     let mut list = [0u8; MAX_RESULTS];
     let mut count = 0;
     let mut at = 0;
-    let mut k = 0;
+    let mut command = 0;
     loop {
-        let read = read_next(job, k, count, at);
-        match read {
-            CommandReading::Refused(refusal) => {
-                return JobOutcome::Refused(refusal, k);
-            }
-            CommandReading::Found(kind, next) => {
-                if is_end(kind) {
-                    return JobOutcome::Accepted(count);
-                }
-                let place = Place {
-                    job,
-                    at,
-                    degrees: &list[..count],
-                };
-                if let Some(degree) = place.convert(kind, out) {
-                    list[count] = degree;
-                    count += 1;
-                }
-                at = next;
-                k += 1;
-            }
+        let read = read_next(job, command, count, at).map_err(|refusal| RefusedCommand {
+            refusal,
+            command,
+        })?;
+        if let Kind::End = read.kind {
+            return Ok(count);
         }
+        let place = Place {
+            job,
+            at,
+            degrees: &list[..count],
+        };
+        if let Some(degree) = place.convert(read.kind, out) {
+            list[count] = degree;
+            count += 1;
+        }
+        at = read.next;
+        command += 1;
     }
 }

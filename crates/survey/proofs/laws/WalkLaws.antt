@@ -1,15 +1,20 @@
 -- The walk over a job's commands: its invariant, a turn, and its ends.
 use Rattle.std.proofs.Math.Path.{◌≡◌, sym, ap, subst}
-use Rattle.std.specs.Prelude.{refl, Bool, true, false, ◌⊎◌, None, Some, ℕ, suc, ◌+◌, ◌-◌, ◌≤◌, ◌<◌, length, take, set}
+use Rattle.std.specs.Prelude.{refl, Bool, true, false, ◌⊎◌, None, Some, Result as CodeResult, Ok, Err, ℕ, suc, ◌+◌, ◌-◌, ◌≤◌, ◌<◌, length, take, set}
 use Rattle.std.proofs.Common.{ap₂, ◌∙◌, true≢false, inl, inr, arith, ltb-false, length-append, length-set}
 use Rattle.std.proofs.lemmas.Bool.{false≢true}
+use Rattle.std.specs.Result.{MatchResult, IsErrAnd}
+use Rattle.std.proofs.lemmas.Result.{err_from_is_err_and}
 use mathlib.Core.List.{List, [], ◌∷◌, ◌++◌}
-use Rattle.model.specs.definitions.Outcomes.{Passed, First, passing}
+use Rattle.model.specs.declared.types.Refusal.{Refusal}
+use Rattle.model.specs.definitions.Outcomes.{number_of, Passed, First, passing}
 use Rattle.model.proofs.laws.PlaceLaws.{passing_passed, passing_first, passing_unrefused, first_or_passed}
 use Rattle.job.specs.definitions.Decode.{Command, result, maker_at, command_at}
-use Rattle.job.specs.definitions.Reading.{max_results, bad_names, is_end, reading_places, command_read, next_at, CommandReading, found, command_reading}
+use Rattle.job.specs.definitions.Reading.{max_results, bad_names, is_end, reading_places, command_read, next_at, CommandReading, found, command_reading_of, command_reading}
 use Rattle.job.specs.definitions.Reader.{well, ill, read_on, read_from, job_reading}
 use Rattle.job.specs.declared.types.Kind.{Kind}
+use Rattle.job.specs.declared.types.ReadCommand.{ReadCommand}
+use Rattle.job.specs.declared.types.RefusedCommand.{RefusedCommand}
 use Rattle.job.specs.declared.types.Kind.TheVariants.{End, Edition, Result, Unknown}
 use Rattle.job.specs.definitions.Operations.{Maker}
 use Rattle.survey.specs.definitions.Degrees.{maker_degree, degrees_after}
@@ -59,6 +64,38 @@ module _ (job : List ℕ) (k count at : ℕ) where
           let x : found _ _ ≡ CommandReading.refused n = sym (passing_passed places (found _ _) CommandReading.refused f) ∙ h in
           let z : ◌≡◌ {A = ℕ} 0 1 = cc x in
           absurd (omega arith)
+
+-- the code's answer, with the command's number beside a refusal
+module _ (job : List ℕ) (k count at : ℕ) (r : CodeResult ReadCommand Refusal) (e : command_reading_of r ≡ command_reading job k count at)
+    (s : CodeResult ReadCommand RefusedCommand) (F : Refusal → RefusedCommand → Type 0)
+    (h : MatchResult r (λ x. s ≡ Ok x) (λ v. IsErrAnd s (F v))) where
+  pub read_found : (x : ReadCommand) → s ≡ Ok x → command_reading job k count at ≡ found x.kind x.next
+  read_found x is = by r e h
+    where
+      by : (r : CodeResult ReadCommand Refusal) → command_reading_of r ≡ command_reading job k count at
+          → MatchResult r (λ x. s ≡ Ok x) (λ v. IsErrAnd s (F v)) → command_reading job k count at ≡ found x.kind x.next
+      by (Ok y) e h = let same : y ≡ x = cc in rw (sym same) (sym e)
+      by (Err v) e h = let p = err_from_is_err_and s h in cc
+
+  pub read_refused : ((v : Refusal) (d : RefusedCommand) → F v d → d ≡ record { refusal = v; command = k }) → (d : RefusedCommand) → s ≡ Err d
+      → (command_reading job k count at ≡ CommandReading.refused (number_of d.refusal)) × (d.command ≡ k)
+  read_refused gives d is = by r e h
+    where
+      by : (r : CodeResult ReadCommand Refusal) → command_reading_of r ≡ command_reading job k count at
+          → MatchResult r (λ x. s ≡ Ok x) (λ v. IsErrAnd s (F v))
+          → (command_reading job k count at ≡ CommandReading.refused (number_of d.refusal)) × (d.command ≡ k)
+      by (Ok y) e h = cc
+      by (Err v) e h =
+          let p = err_from_is_err_and s h in
+          let same : d ≡ record { refusal = v; command = k } = (let q : d ≡ p.0 = cc in q) ∙ gives v p.0 p.2 in
+          rw same (sym e, refl)
+
+-- a command that is not the end
+pub goes_on : (kind : Kind) → (kind ≡ End → ⊥) → is_end kind ≡ false
+goes_on End h = absurd (h refl)
+goes_on Edition h = refl
+goes_on (Result op) h = refl
+goes_on Unknown h = refl
 
 length_more : (ds : List ℕ) (m : Maker) → length (degrees_after (result m) ds) ≡ length ds + 1
 length_more ds m = length-append ds (maker_degree m ds ∷ [])

@@ -45,8 +45,3 @@ degree_made unknown ds = None
 abbrev pub reading_outcome : JobReading → JobOutcome ℕ
 reading_outcome (well cs) = accepted (length cs)
 reading_outcome (ill n k) = refused n k
-
--- what is answered where the output is too short
-abbrev pub short_output : JobOutcome ℕ → JobOutcome ℕ
-short_output (accepted count) = refused 20 0
-short_output (refused n k) = refused n k
