@@ -51,9 +51,12 @@ pub(crate) fn residual(part: &mut [i64], a: &[i32], b: &[i32], f: &[i32]) -> u64
 {
     let end = (a.len() + b.len() - 1).max(f.len());
     let mut sum: u64 = 0;
-    for start in (0..end).step_by(part.len()) {
+    // Kept: with (0..end).step_by(part.len()) a test takes 7 percent more instructions.
+    let mut start = 0;
+    while start < end {
         let n = part.len().min(end - start);
         sum += group_residual(&mut part[..n], start, a, b, f);
+        start += n;
     }
     sum
 }
