@@ -26,8 +26,7 @@ fn terms(coefficients: &[i32; COEFFICIENTS], degree: u32) -> &[i32]
     requires { degree ≤ max_degree }
     ensures { result.now ≡ take (suc degree) coefficients.now }
 {
-    let all = &coefficients[..];
-    &all[..degree as usize + 1]
+    &coefficients[..degree as usize + 1]
 }
 
 // m of the quotient; `weight` is M.

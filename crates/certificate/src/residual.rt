@@ -29,8 +29,12 @@ fn subtract(part: &mut [i64], f: &[i32])
 fn window(f: &[i32], start: usize, count: usize) -> &[i32]
     ensures { result.now ≡ group count start f.now }
 {
-    let rest = &f[start.min(f.len())..];
-    &rest[..count.min(rest.len())]
+    if start < f.len() {
+        let rest = &f[start..];
+        &rest[..count.min(rest.len())]
+    } else {
+        &[]
+    }
 }
 
 // The weight of C(a, b) - 2S f over a group: as many places from `start` on as the part has numbers.
