@@ -1,13 +1,12 @@
 // The quotient test: is h a quotient f/g, with w as a helper?
 ghost use Rattle.std.specs.Prelude.{◌≡◌, ◌<◌, length, IfOk};
-ghost use Rattle.chebyshev.specs.definitions.Coefficients.{weight};
 ghost use Rattle.certificate.specs.definitions.Tests.{scratch_size, scratch_after, test_of};
 ghost use Rattle.certificate.specs.definitions.Quotient.{quotient_test};
 ghost use Rattle.certificate.specs.definitions.Promise.{QuotientAllowed};
 ghost use Rattle.certificate.specs.definitions.InnerContracts.{QuotientReady};
 
 use crate::numbers::{
-    SCALE, displacement, quotient_contraction, quotient_radius, quotient_residual,
+    SCALE, Weighed, displacement, quotient_contraction, quotient_radius, quotient_residual,
 };
 use crate::scratch::clear_scratch;
 use crate::types::{Certificate, SCRATCH_SIZE};
@@ -19,26 +18,23 @@ fn test_good(
     part: &mut [i64],
     f: Model,
     g: Model,
-    h: Candidate,
-    h_weight: u64,
-    w: Candidate,
-    w_weight: u64,
+    h: Weighed,
+    w: Weighed,
 ) -> Result<Certificate, Refusal>
-    requires quotient_ready { QuotientReady part.old f g h w }
-    requires h_weight_value { (h_weight ≡ weight h.coefficients) × (w_weight ≡ weight w.coefficients) }
-    ensures { test_of result ≡ quotient_test scratch_size f g h w }
+    requires { QuotientReady part.old f g h.candidate.now w.candidate.now }
+    ensures { test_of result ≡ quotient_test scratch_size f g h.entry.candidate.now w.entry.candidate.now }
 {
-    let m = quotient_contraction(part, g, w, w_weight);
+    let m = quotient_contraction(part, g, w);
     if SCALE <= m {
         return Err(Refusal::NotContracting);
     }
-    let n = quotient_residual(part, f, g, h, h_weight);
+    let n = quotient_residual(part, f, g, h);
     if Model::MAX_RADIUS < n {
         return Err(Refusal::LargeResidual);
     }
-    let b = displacement(w_weight, n);
+    let b = displacement(w.weight, n);
     let radius = quotient_radius(b, m);
-    Certificate::formed(h, f.interval, radius, m, n, b)
+    Certificate::formed(*h.candidate, f.interval, radius, m, n, b)
 }
 
 // The test over a part of the scratch of any length from 1.
@@ -54,12 +50,18 @@ fn test_in(
 {
     checked_weight(f)?;
     checked_weight(g)?;
-    let h_weight = checked_candidate(h)?;
-    let w_weight = checked_candidate(w)?;
+    let weighed_h = Weighed {
+        candidate: &h,
+        weight: checked_candidate(h)?,
+    };
+    let weighed_w = Weighed {
+        candidate: &w,
+        weight: checked_candidate(w)?,
+    };
     if f.interval != g.interval {
         return Err(Refusal::DifferentIntervals);
     }
-    test_good(part, f, g, h, h_weight, w, w_weight)
+    test_good(part, f, g, weighed_h, weighed_w)
 }
 
 // The last clause is what is promised of an accepted quotient.

@@ -1,12 +1,12 @@
 // The root tests: is h a square root of f, with w as a helper?
 ghost use Rattle.std.specs.Prelude.{◌≡◌, ◌<◌, length, IfOk};
-ghost use Rattle.chebyshev.specs.definitions.Coefficients.{weight as weight_of, coefficient_sum};
+ghost use Rattle.chebyshev.specs.definitions.Coefficients.{coefficient_sum};
 ghost use Rattle.certificate.specs.definitions.Tests.{scratch_size, scratch_after, test_of};
 ghost use Rattle.certificate.specs.definitions.Root.{root_test};
 ghost use Rattle.certificate.specs.definitions.Promise.{RootAllowed};
 ghost use Rattle.certificate.specs.definitions.InnerContracts.{RootReady, reach_of, root_reach};
 
-use crate::numbers::{SCALE, displacement, root_contraction, root_residual};
+use crate::numbers::{SCALE, Weighed, displacement, root_contraction, root_residual};
 use crate::root_end::RootNumbers;
 use crate::scratch::clear_scratch;
 use crate::types::{Certificate, RootRule, SCRATCH_SIZE};
@@ -28,17 +28,16 @@ fn total(coefficients: &[i32; COEFFICIENTS]) -> i64
 fn numbers_of_good(
     part: &mut [i64],
     f: Model,
-    h: Candidate,
-    w: Candidate,
-    weight: u64,
+    h: &Candidate,
+    w: Weighed,
 ) -> Result<RootNumbers, Refusal>
-    requires { RootReady part.old f h w × (weight ≡ weight_of w.coefficients) }
-    ensures { reach_of result ≡ root_reach scratch_size f h w }
+    requires { RootReady part.old f h.now w.candidate.now }
+    ensures { reach_of result ≡ root_reach scratch_size f h.now w.entry.candidate.now }
 {
-    if total(&w.coefficients) <= 0 {
+    if total(&w.candidate.coefficients) <= 0 {
         return Err(Refusal::HelperNotPositive);
     }
-    let m = root_contraction(part, h, w);
+    let m = root_contraction(part, h, w.candidate);
     if SCALE <= m {
         return Err(Refusal::NotContracting);
     }
@@ -46,9 +45,9 @@ fn numbers_of_good(
     if Model::MAX_RADIUS < n {
         return Err(Refusal::LargeResidual);
     }
-    let b = displacement(weight, n);
+    let b = displacement(w.weight, n);
     Ok(RootNumbers {
-        weight,
+        weight: w.weight,
         contraction: m,
         residual: n,
         displacement: b,
@@ -67,8 +66,11 @@ fn numbers_in(
 {
     checked_weight(f)?;
     checked_candidate(h)?;
-    let weight = checked_candidate(w)?;
-    numbers_of_good(part, f, h, w, weight)
+    let weighed_w = Weighed {
+        candidate: &w,
+        weight: checked_candidate(w)?,
+    };
+    numbers_of_good(part, f, &h, weighed_w)
 }
 
 // The places through N, and b.

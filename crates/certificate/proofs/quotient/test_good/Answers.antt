@@ -12,37 +12,37 @@ use Rattle.certificate.proofs.quotient.test_good.Goals as goal
 
 pub quotient_contraction-m-requires : goal.quotient_contraction-m-requires
 quotient_contraction-m-requires c =
-    let r = c.requires.quotient_ready in
-    (record { room = r.room; first_good = standard_good c.args.f.interval c.args.w r.good_w; second_good = r.good_g }, c.requires.h_weight_value.1)
+    let r = c.requires in
+    record { room = r.room; first_good = standard_good c.args.f.interval c.args.w.candidate.now r.good_w; second_good = r.good_g }
 
 pub returns-then-m-ge-SCALE : goal.returns-then-m-ge-SCALE
 returns-then-m-ge-SCALE c =
     let a = c.args in
     let m = c.quotient_contraction-m in
-    sym (quotient_not_contracting c.requires.quotient_ready m.result (m.ensures ∙ quotient_contraction_standard a.f.interval a.g a.w) c.if-m-ge-SCALE.true)
+    sym (quotient_not_contracting c.requires m.result (m.ensures ∙ quotient_contraction_standard a.f.interval a.g a.w.candidate.now) c.if-m-ge-SCALE.true)
 
-pub quotient_residual-n-requires-clause-ready : goal.quotient_residual-n-requires-clause-ready
-quotient_residual-n-requires-clause-ready c =
-    let r = c.requires.quotient_ready in
-    (record { room = search rules; first_good = r.good_g; second_good = standard_good c.args.f.interval c.args.h r.good_h }, r.good_f)
+pub quotient_residual-n-requires : goal.quotient_residual-n-requires
+quotient_residual-n-requires c =
+    let r = c.requires in
+    (record { room = search rules; first_good = r.good_g; second_good = standard_good c.args.f.interval c.args.h.candidate.now r.good_h }, r.good_f)
 
 pub returns-then-n-gt-MAX_RADIUS : goal.returns-then-n-gt-MAX_RADIUS
 returns-then-n-gt-MAX_RADIUS c =
     let a = c.args in
     let m = c.quotient_contraction-m in
     let n = c.quotient_residual-n in
-    sym (quotient_large_residual c.requires.quotient_ready m.result (m.ensures ∙ quotient_contraction_standard a.f.interval a.g a.w) c.if-m-ge-SCALE.false
-    n.result (n.ensures ∙ quotient_residual_standard a.f.interval a.f a.g a.h) c.if-n-gt-MAX_RADIUS.true)
+    sym (quotient_large_residual c.requires m.result (m.ensures ∙ quotient_contraction_standard a.f.interval a.g a.w.candidate.now) c.if-m-ge-SCALE.false
+    n.result (n.ensures ∙ quotient_residual_standard a.f.interval a.f a.g a.h.candidate.now) c.if-n-gt-MAX_RADIUS.true)
 
 pub displacement-b-requires : goal.displacement-b-requires
 displacement-b-requires c =
-    (omega (arith, c.requires.h_weight_value.1, (good_is (placed c.args.f c.args.w) c.requires.quotient_ready.good_w).weight-fits), c.if-n-gt-MAX_RADIUS.false)
+    (omega (arith, c.args.w.weighed, (good_is (placed c.args.f c.args.w.candidate.now) c.requires.good_w).weight-fits), c.if-n-gt-MAX_RADIUS.false)
 
 pub quotient_radius-radius-requires : goal.quotient_radius-radius-requires
 quotient_radius-radius-requires c =
     let a = c.args in
-    let fits : a.w_weight ≤ max_weight = omega (arith, c.requires.h_weight_value.1, (good_is (placed a.f a.w) c.requires.quotient_ready.good_w).weight-fits) in
-    (omega (arith, c.displacement-b.ensures, displacement_bound a.w_weight c.quotient_residual-n.result fits c.if-n-gt-MAX_RADIUS.false), c.if-m-ge-SCALE.false)
+    let fits : a.w.weight ≤ max_weight = omega (arith, c.args.w.weighed, (good_is (placed a.f a.w.candidate.now) c.requires.good_w).weight-fits) in
+    (omega (arith, c.displacement-b.ensures, displacement_bound a.w.weight c.quotient_residual-n.result fits c.if-n-gt-MAX_RADIUS.false), c.if-m-ge-SCALE.false)
 
 pub returns : goal.returns
 returns c =
@@ -50,7 +50,7 @@ returns c =
     let m = c.quotient_contraction-m in
     let n = c.quotient_residual-n in
     c.formed.ensures
-    ∙ sym (quotient_formed c.requires.quotient_ready m.result (m.ensures ∙ quotient_contraction_standard a.f.interval a.g a.w) c.if-m-ge-SCALE.false
-    n.result (n.ensures ∙ quotient_residual_standard a.f.interval a.f a.g a.h) c.if-n-gt-MAX_RADIUS.false
-    a.w_weight c.displacement-b.result c.quotient_radius-radius.result
-    c.requires.h_weight_value.1 c.displacement-b.ensures c.quotient_radius-radius.ensures)
+    ∙ sym (quotient_formed c.requires m.result (m.ensures ∙ quotient_contraction_standard a.f.interval a.g a.w.candidate.now) c.if-m-ge-SCALE.false
+    n.result (n.ensures ∙ quotient_residual_standard a.f.interval a.f a.g a.h.candidate.now) c.if-n-gt-MAX_RADIUS.false
+    a.w.weight c.displacement-b.result c.quotient_radius-radius.result
+    c.args.w.weighed c.displacement-b.ensures c.quotient_radius-radius.ensures)

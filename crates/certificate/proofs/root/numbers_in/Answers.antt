@@ -30,14 +30,14 @@ returns-in_err-checked_candidate c =
     ∙ refusing (ap number_of bad.1 ∙ candidate_fault i a.h bad.0)
     ∙ sym (numbers_bad_h a.f a.h a.w good_f (candidate_good i a.h (good_ends_lem a.f good_f) ∙ bad.0))
 
-pub returns-in_err-weight : goal.returns-in_err-weight
-returns-in_err-weight c =
+pub returns-in_err-checked_candidate-2 : goal.returns-in_err-checked_candidate-2
+returns-in_err-checked_candidate-2 c =
     let a = c.args in
     let i = a.f.interval in
     let good_f = c.in_ok-checked_weight.ensures.ok.0 in
     let ends = good_ends_lem a.f good_f in
-    let bad = c.in_err-weight.ensures.err in
-    let r = c.from_residual-in_err-weight in
+    let bad = c.in_err-checked_candidate-2.ensures.err in
+    let r = c.from_residual-in_err-checked_candidate-2 in
     reach_refused r.result _ r.ensures
     ∙ refusing (ap number_of bad.1 ∙ candidate_fault i a.w bad.0)
     ∙ sym (numbers_bad_w a.f a.h a.w good_f (candidate_good i a.h ends ∙ c.in_ok-checked_candidate.ensures.ok.0) (candidate_good i a.w ends ∙ bad.0))
@@ -48,12 +48,9 @@ numbers_of_good-requires c =
     let i = a.f.interval in
     let good_f = c.in_ok-checked_weight.ensures.ok.0 in
     let ends = good_ends_lem a.f good_f in
-    let w = c.in_ok-weight.ensures.ok in (
-      record {
-        room = c.requires;
-        good_f = good_f;
-        good_h = candidate_good i a.h ends ∙ c.in_ok-checked_candidate.ensures.ok.0;
-        good_w = candidate_good i a.w ends ∙ w.0;
-      },
-      w.1,
-    )
+    let w = c.in_ok-checked_candidate-2.ensures.ok in record {
+      room = c.requires;
+      good_f = good_f;
+      good_h = candidate_good i a.h ends ∙ c.in_ok-checked_candidate.ensures.ok.0;
+      good_w = candidate_good i a.w ends ∙ w.0;
+    }
