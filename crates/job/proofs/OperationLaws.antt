@@ -1,5 +1,5 @@
 -- The operations of commands on the results that a work area holds.
-use mathlib.Core.Path.{◌≡◌, ap, ap₂, subst⁻¹, ◌∙◌}
+use mathlib.Core.Path.{◌≡◌, ap, ap₂, sym, subst⁻¹, ◌∙◌}
 use mathlib.Core.Bool.{false, ◌||◌}
 use mathlib.Core.List.{List}
 use Prim.Native.Nat.{ℕ}
@@ -31,15 +31,9 @@ performs e s g = record {
   gives = λ count rs t h n. e ∙ g count rs t h n;
 }
 
-untested_storable : (o : Outcome Model) → Storable (payload o) → Storable (payload (untested_outcome o)).model
+pub untested_storable : (o : Outcome Model) → Storable (payload o) → Storable (payload (untested_outcome o)).model
 untested_storable (accepted m) h = h
 untested_storable (refused n m) h = h
-
--- an outcome of an operation without a test
-pub performs_untested : {m : Maker} {w : List ℤ} {r : Outcome Certificate} (o : Outcome Model) → r ≡ untested_outcome o → Storable (payload o)
-    → ((count : ℕ) (rs : List Model) (t : List ℤ) → Holds w count rs t → names_bad m count ≡ false → untested_outcome o ≡ operation m rs)
-    → Performs m w r
-performs_untested o e s g = performs e (untested_storable o s) g
 
 pub loading_storable : (m : Model) → Storable (payload (loading m))
 unfolding loading
@@ -49,15 +43,22 @@ loading_storable m =
 
 -- ---- the results that a command names
 
-module _ {w : List ℤ} {count : ℕ} {rs : List Model} {t : List ℤ} (h : Holds w count rs t) where
-  pub held_one : (f : Model → Outcome Certificate) (m : Model) (i : ℕ) → m ≡ stored_result w i → leb count i ≡ false → f m ≡ f (result_at rs i)
-  held_one f m i e n = ap f (e ∙ result_held h i (leb-false count i n))
+-- an outcome that f gives for one of them, or for two
+pub performs_one : {m : Maker} {w : List ℤ} {o : Outcome Certificate} (f : Model → Outcome Certificate) (a : Model) (i : ℕ) → o ≡ f a
+    → Storable (payload (f a)).model → a ≡ stored_result w i → ((count : ℕ) → names_bad m count ≡ false → leb count i ≡ false)
+    → ((rs : List Model) → operation m rs ≡ f (result_at rs i)) → Performs m w o
+performs_one f a i e s p named g =
+    performs e s (λ count rs t h n. ap f (p ∙ result_held h i (leb-false count i (named count n))) ∙ sym (g rs))
 
-  pub held_two : (f : Model → Model → Outcome Certificate) (m₁ m₂ : Model) (i j : ℕ) → m₁ ≡ stored_result w i → m₂ ≡ stored_result w j
-      → (leb count i || leb count j) ≡ false → f m₁ m₂ ≡ f (result_at rs i) (result_at rs j)
-  held_two f m₁ m₂ i j e₁ e₂ n =
-      let b = both_below count i j n in
-      ap₂ f (e₁ ∙ result_held h i b.0) (e₂ ∙ result_held h j b.1)
+pub performs_two : {m : Maker} {w : List ℤ} {o : Outcome Certificate} (f : Model → Model → Outcome Certificate) (a b : Model) (i j : ℕ) → o ≡ f a b
+    → Storable (payload (f a b)).model → a ≡ stored_result w i → b ≡ stored_result w j
+    → ((count : ℕ) → names_bad m count ≡ false → (leb count i || leb count j) ≡ false)
+    → ((rs : List Model) → operation m rs ≡ f (result_at rs i) (result_at rs j)) → Performs m w o
+performs_two f a b i j e s p q named g =
+    performs e s
+    (λ count rs t h n.
+    let below = both_below count i j (named count n) in
+    ap₂ f (p ∙ result_held h i below.0) (q ∙ result_held h j below.1) ∙ sym (g rs))
 
 -- ---- an arm of a match on an operation, where it is known which it is
 

@@ -79,6 +79,7 @@ fn load_on(job: &[u8], at: usize) -> Result<Certificate, Refusal>
     load_block(job, at, interval)
 }
 
+// Kept: add and subtract stand apart, since one function for both takes a closure with what it requires and ensures.
 fn add(job: &[u8], at: usize, work: &[i32]) -> Result<Certificate, Refusal>
     requires { Operable Operation.Add job.now at work.now }
     ensures { Performs (maker_at Operation.Add job.now at) work.now (test_of result) }
@@ -96,6 +97,7 @@ fn subtract(job: &[u8], at: usize, work: &[i32]) -> Result<Certificate, Refusal>
 }
 
 // What the library takes for a byte in an edition: in edition 1 0xFF means 32, in edition 2 what 255 means in the library.
+// Kept: the edition is its byte and no enum, since the definition speaks of every byte.
 fn kept_byte(edition: u8, d: u8) -> u32
     ensures { result ≡ kept_byte edition d }
 {

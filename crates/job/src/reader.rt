@@ -21,7 +21,7 @@ impl Reader<'_> {
     }
 }
 
-// The same with plain parameters, so that the run over the commands is covered.
+// The same with plain parameters, for callers that keep the position themselves.
 pub fn read_next(job: &[u8], k: usize, count: usize, at: usize) -> Result<ReadCommand, Refusal>
     ensures { command_reading_of result ≡ command_reading job.now k count at }
 {

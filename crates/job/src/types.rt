@@ -18,6 +18,7 @@ pub enum Operation {
 }
 
 // A command is the end, the edition or one that makes a result.
+// Kept: an unknown byte is a kind and no None, since 01's table has a place for it, and its command a meaning.
 #[derive(Clone, Copy)]
 pub enum Kind {
     End,
