@@ -8,9 +8,8 @@ ghost use Rattle.std.specs.Prelude.{◌+◌};
 
 use certificate::types::SCRATCH_SIZE;
 use input::InputError;
-use job::types::JobOutcome;
+use job::types::RefusedCommand;
 use job::work::WORK_SIZE;
-use model::types::Refusal;
 use std::io;
 
 mod input;
@@ -32,8 +31,8 @@ fn answer(rt: &impl Print, job: &[u8]) -> io::Result<()> {
     let mut work = [0i32; WORK_SIZE];
     let mut scratch = [0i64; SCRATCH_SIZE];
     match job::run::check(job, &mut work, &mut scratch) {
-        JobOutcome::Accepted(count) => accepted(rt, &work, count),
-        JobOutcome::Refused(refusal, command) => refused(rt, refusal, command),
+        Ok(count) => accepted(rt, &work, count),
+        Err(r) => refused(rt, r),
     }
 }
 
@@ -61,6 +60,6 @@ fn accepted(rt: &impl Print, work: &[i32], count: usize) -> io::Result<()>
     println!(rt; "accepted {count}")
 }
 
-fn refused(rt: &impl Print, refusal: Refusal, command: usize) -> io::Result<()> {
-    println!(rt; "refused {} {command}", model::types::number_of(refusal))
+fn refused(rt: &impl Print, r: RefusedCommand) -> io::Result<()> {
+    println!(rt; "refused {} {}", u32::from(r.refusal), r.command)
 }
