@@ -28,7 +28,8 @@ impl Certificate {
         residual: u64,
         displacement: u64,
     ) -> Certificate
-        ensures { certificate_of result ≡ make_certificate (with_radius (candidate_model interval h) radius) contraction residual displacement }
+        ensures { certificate_of result
+            ≡ make_certificate (with_radius (candidate_model interval h) radius) contraction residual displacement }
     {
         let coefficients = h.coefficients;
         Certificate {
