@@ -28,16 +28,8 @@ fn measure_parts(degree: u32, coefficients: &[i32; COEFFICIENTS]) -> Measured
             beyond += size;
         }
     }
-    if degree <= Model::MAX_DEGREE {
-        if total <= Model::MAX_WEIGHT {
-            return Measured {
-                good: beyond == 0,
-                weight: total,
-            };
-        }
-    }
     Measured {
-        good: false,
+        good: (degree <= Model::MAX_DEGREE) & (total <= Model::MAX_WEIGHT) & (beyond == 0),
         weight: total,
     }
 }
@@ -47,13 +39,9 @@ fn measure_limits(m: Model) -> Measured
     ensures { (result.good ≡ within_limits m) × (result.weight ≡ weight m.coefficients) }
 {
     let parts = measure_parts(m.degree, &m.coefficients);
-    if m.radius as u64 <= Model::MAX_RADIUS {
-        parts
-    } else {
-        Measured {
-            good: false,
-            weight: parts.weight,
-        }
+    Measured {
+        good: parts.good & (m.radius as u64 <= Model::MAX_RADIUS),
+        weight: parts.weight,
     }
 }
 
@@ -61,13 +49,9 @@ pub fn measure(m: Model) -> Measured
     ensures { (result.good ≡ good m) × (result.weight ≡ weight m.coefficients) }
 {
     let limits = measure_limits(m);
-    if m.interval.is_good() {
-        limits
-    } else {
-        Measured {
-            good: false,
-            weight: limits.weight,
-        }
+    Measured {
+        good: limits.good & m.interval.is_good(),
+        weight: limits.weight,
     }
 }
 

@@ -1,16 +1,17 @@
 -- `measure::measure_parts` meets its contract. The loop's invariant in rest form: what is summed and what is left of the
 -- weight, of all coefficients and of those beyond the degree n, is the whole of it.
 use Rattle.std.proofs.Common.{rules, arith, ◌≡◌, ap, ℕ, suc, ◌+◌, ◌<◌, ◌≤◌, max, List, ℤ, pos, nat_abs, length, get_or, drop, w32, FitsSigned}
-use lib.Dec.{eqb}
-use borrow.Author.Tests.{le-leb, lt-leb}
-use mathlib.Core.Path.{refl}
+use lib.Dec.{eqb, leb}
+use mathlib.Core.Bool.{◌&&◌}
+use Rattle.std.proofs.Math.Bool.{and_assoc}
+use mathlib.Core.Path.{◌∙◌}
 use mir.Facts.{to_z-of_z}
 use Rattle.chebyshev.specs.definitions.Coefficients.{weight}
 use Rattle.chebyshev.proofs.laws.Weight.{weight_step, weight_end}
-use Rattle.model.specs.definitions.Models.{parts_within_limits}
+use Rattle.model.specs.definitions.Models.{max_degree, max_weight, parts_within_limits}
 use Rattle.model.proofs.measure.measure_parts.Invariants.{left-beyond}
 use Rattle.model.proofs.measure.measure_parts.Goals as goal
-use Rattle.model.proofs.measure.measure_parts.Goals.{After-loop-i, then-n-i, else-n-i}
+use Rattle.model.proofs.measure.measure_parts.Goals.{then-n-i, else-n-i}
 
 within-degree : (n i : ℕ) (cs : List ℤ) → i ≤ n → left-beyond n i cs ≡ left-beyond n (i + 1) cs
 within-degree n i cs h = let e : max i (suc n) ≡ max (i + 1) (suc n) = omega arith in ap (λ (k : ℕ). weight (drop k cs)) e
@@ -37,31 +38,19 @@ loop-i-preserved c =
     ]
 
 -- after the loop
-module _ (c : After-loop-i) where
-  total_is : c.loop-i.total ≡ weight c.args.coefficients.now
-  total_is = omega (arith, weight_end c.args.coefficients.now c.loop-i.i (omega (arith, c.told-coefficients)))
+whole : (n i total beyond : ℕ) (cs : List ℤ) → length cs ≤ i → total + weight (drop i cs) ≡ weight cs → beyond + left-beyond n i cs ≡ left-beyond n 0 cs
+    → (total ≡ weight cs) × (beyond ≡ weight (drop (suc n) cs))
+whole n i total beyond cs h t b =
+    let m : max 0 (suc n) ≡ suc n = omega arith in
+    (omega (arith, weight_end cs i h), omega (arith, weight_end cs (max i (suc n)) (omega arith), ap (λ (k : ℕ). weight (drop k cs)) m))
 
-  beyond-is : c.loop-i.beyond ≡ weight (drop (suc c.args.degree) c.args.coefficients.now)
-  beyond-is =
-      let m : max 0 (suc c.args.degree) ≡ suc c.args.degree = omega arith in
-      omega (arith, weight_end c.args.coefficients.now (max c.loop-i.i (suc c.args.degree)) (omega (arith, c.told-coefficients)), ap (λ (k : ℕ). weight (drop k c.args.coefficients.now)) m)
-
-pub returns-then-total-le-MAX_WEIGHT : goal.returns-then-total-le-MAX_WEIGHT
+pub returns : goal.returns
 unfolding parts_within_limits
-returns-then-total-le-MAX_WEIGHT k =
-    let c = (goal.at.returns-then-total-le-MAX_WEIGHT k).After-loop-i in
-    rw (le-leb c.args.degree 32 (omega arith), le-leb (weight c.args.coefficients.now) 268435456 (omega (arith, total_is c)))
-    (record { good_value = ap (λ (b : ℕ). eqb b 0) (beyond-is c); weight_value = total_is c })
-
-pub returns-else-total-le-MAX_WEIGHT : goal.returns-else-total-le-MAX_WEIGHT
-unfolding parts_within_limits
-returns-else-total-le-MAX_WEIGHT k =
-    let c = (goal.at.returns-else-total-le-MAX_WEIGHT k).After-loop-i in
-    rw (le-leb c.args.degree 32 (omega arith), lt-leb (weight c.args.coefficients.now) 268435456 (omega (arith, total_is c)))
-    (record { good_value = refl; weight_value = total_is c })
-
-pub returns-else-degree-le-MAX_DEGREE : goal.returns-else-degree-le-MAX_DEGREE
-unfolding parts_within_limits
-returns-else-degree-le-MAX_DEGREE k =
-    let c = (goal.at.returns-else-degree-le-MAX_DEGREE k).After-loop-i in
-    rw (lt-leb c.args.degree 32 (omega arith)) (record { good_value = refl; weight_value = total_is c })
+returns c =
+    let n = c.args.degree in
+    let w = c.loop-i.invariant in
+    let (t, b) = whole n c.loop-i.i c.loop-i.total c.loop-i.beyond c.args.coefficients.now (omega (arith, c.told-coefficients)) w.0 w.1 in
+    record {
+      good_value = and_assoc (leb n max_degree) (leb c.loop-i.total max_weight) (eqb c.loop-i.beyond 0) ∙ (λ i. leb n max_degree && (leb (t i) max_weight && eqb (b i) 0));
+      weight_value = t;
+    }

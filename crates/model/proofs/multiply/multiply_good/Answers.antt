@@ -1,6 +1,6 @@
 -- `multiply::multiply_good` meets its contract.
 use Rattle.std.proofs.Common.{rules}
-use mathlib.Core.Path.{◌≡◌, sym, ◌∙◌, ap}
+use mathlib.Core.Path.{◌≡◌, ◌∙◌, ap}
 use Prim.Native.Nat.{suc, ◌+◌, ◌*◌}
 use native.Mathlib.Omega.{arith}
 use native.Mathlib.Numerals.{add-one}
@@ -31,16 +31,10 @@ shared_ref_as_front-round_product c =
     let l : length c.args.a.coefficients ≡ 33 = search rules in
     omega (arith, good_is c.args.a c.requires.first_good, l)
 
-pub slice_bounds-round_product-end : goal.slice_bounds-round_product-end
-slice_bounds-round_product-end c = sym (terms_length c.args.a (good_is c.args.a c.requires.first_good) (search rules))
-
 pub shared_ref_as_front-round_product-2 : goal.shared_ref_as_front-round_product-2
 shared_ref_as_front-round_product-2 c =
     let l : length c.args.b.coefficients ≡ 33 = search rules in
     omega (arith, good_is c.args.b c.requires.second_good, l)
-
-pub slice_bounds-round_product-end-2 : goal.slice_bounds-round_product-end-2
-slice_bounds-round_product-end-2 c = sym (terms_length c.args.b (good_is c.args.b c.requires.second_good) (search rules))
 
 pub round_product-product-requires-clause-factors : goal.round_product-product-requires-clause-factors
 round_product-product-requires-clause-factors c =
