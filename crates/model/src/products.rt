@@ -13,12 +13,13 @@ fn add_at(c: &mut [i64], k: usize, v: i64)
 }
 
 // One visit of the pair (i, j) with the product v, for both its places: a pair with i + j = |i - j| counts twice.
+// abs_diff is asked of j: of i, the loop over j < i would keep a test.
 fn add_pair(c: &mut [i64], i: usize, j: usize, v: i64)
     requires { (i + j < length c.old) × (weight c.old + 2 * nat_abs v < 2 ^ 63) }
     ensures { c.new ≡ add_pair ℤ_ring c.old i j v }
 {
     add_at(c, i + j, v);
-    add_at(c, i.abs_diff(j), v);
+    add_at(c, j.abs_diff(i), v);
 }
 
 // The pairs of x, at place i, with each element of b, the first at place j; answers how many they are.
