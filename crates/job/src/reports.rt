@@ -5,16 +5,12 @@ ghost use Rattle.certificate.specs.definitions.Tests.{certificate_of};
 ghost use Rattle.job.specs.definitions.Reports.{little_endian, record_bytes, zero_bytes, room_size};
 ghost use Rattle.job.specs.definitions.InnerContracts.{Recordable, written_at};
 
-use crate::types::Report;
+use crate::types::{MAX_RESULTS, Report};
 use certificate::types::Certificate;
 
 const WORKSHOP_SIZE: usize = 6;
 
 const SERVICE_SIZE: usize = 18;
-
-const WORKSHOP_ROOM: usize = 192;
-
-const SERVICE_ROOM: usize = 576;
 
 // The four bytes of a number, the lowest first, from a position on.
 fn write_number(room: &mut [u8], at: usize, n: u64)
@@ -57,8 +53,8 @@ pub(crate) fn room_size(report: Report) -> usize
 {
     match report {
         Report::Empty => 0,
-        Report::Workshop => WORKSHOP_ROOM,
-        Report::Service => SERVICE_ROOM,
+        Report::Workshop => WORKSHOP_SIZE * MAX_RESULTS,
+        Report::Service => SERVICE_SIZE * MAX_RESULTS,
     }
 }
 

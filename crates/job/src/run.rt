@@ -108,6 +108,5 @@ pub fn check(job: &[u8], work: &mut [i32], scratch: &mut [i64]) -> Result<usize,
     ensures requirement3 { Requirement3 (area_places work.old scratch.old)
         job.now (job_outcome_of result) work.new }
 {
-    let mut none: [u8; 0] = [];
-    check_and_report(job, work, scratch, Report::Empty, &mut none)
+    check_and_report(job, work, scratch, Report::Empty, &mut [])
 }
