@@ -1,14 +1,12 @@
 // Rounds of w times (2 - g·w).
-ghost use Rattle.std.specs.Prelude.{◌≡◌, map};
-ghost use Rattle.std.specs.Float.{binary64};
-ghost use Rattle.std.specs.Float.Ieee.{sub};
+ghost use Rattle.std.specs.Prelude.{◌≡◌};
 ghost use Rattle.proposals.specs.definitions.Values.{nought};
 ghost use Rattle.proposals.specs.definitions.Rounds.{two_less, change_from, next_round, finite_round};
 ghost use Rattle.proposals.specs.definitions.Rounds.{max_rounds, rounds, round_of};
 
 use crate::product::multiply;
 use crate::types::{Ending, Made, Round};
-use crate::values::{are_finite, difference, greater, is_finite};
+use crate::values::{are_finite, difference, each, greater};
 use model::types::COEFFICIENTS;
 
 const ROUNDS: u32 = 12;
@@ -16,25 +14,12 @@ const ROUNDS: u32 = 12;
 // 2^-24, at or below which a change is settled.
 const SETTLED: f64 = 0.000000059604644775390625;
 
-// 0 - c_k at every place.
-fn negate(c: &mut [f64])
-    ensures { c.new ≡ map (sub binary64 nought) c.old }
-{
-    let mut k = 0;
-    while k < c.len() {
-        c[k] = 0.0 - c[k];
-        k += 1;
-    }
-}
-
 // 2 - c.
 fn two_less(c: [f64; COEFFICIENTS]) -> [f64; COEFFICIENTS]
     ensures { result ≡ two_less c }
 {
-    let first = c[0];
-    let mut d = c;
-    negate(&mut d);
-    d[0] = 2.0 - first;
+    let mut d = each(c, 0.0, |x| 0.0 - x);
+    d[0] = 2.0 - c[0];
     d
 }
 
@@ -43,10 +28,8 @@ fn largest_change(a: [f64; COEFFICIENTS], b: [f64; COEFFICIENTS]) -> f64
     ensures { result ≡ change_from nought a b }
 {
     let mut change = 0.0;
-    let mut k = 0;
-    while k < COEFFICIENTS {
-        change = greater(change, difference(a[k], b[k]));
-        k += 1;
+    for (x, y) in a.iter().zip(&b) {
+        change = greater(change, difference(*x, *y));
     }
     change
 }
@@ -67,7 +50,7 @@ fn is_finite_round(r: Round) -> bool
     ensures { result ≡ finite_round r }
 {
     let w = r.coefficients;
-    are_finite(w) & is_finite(r.change)
+    are_finite(w) & r.change.is_finite()
 }
 
 // At most 12 rounds from w on.
@@ -78,8 +61,7 @@ pub(crate) fn run_rounds(g: [f64; COEFFICIENTS], w: [f64; COEFFICIENTS]) -> Made
         coefficients: w,
         change: 0.0,
     };
-    let mut n: u32 = 0;
-    while n < ROUNDS {
+    for _ in 0..ROUNDS {
         r = next_round(g, r);
         let change = r.change;
         if !is_finite_round(r) {
@@ -96,7 +78,6 @@ pub(crate) fn run_rounds(g: [f64; COEFFICIENTS], w: [f64; COEFFICIENTS]) -> Made
                 round: r,
             };
         }
-        n += 1;
     }
     Made {
         finite: true,

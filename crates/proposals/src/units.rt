@@ -6,7 +6,7 @@ ghost use Rattle.proposals.specs.definitions.Units.{signed as signed_of, in_unit
 ghost use Rattle.proposals.specs.definitions.InnerContracts.{limited_units};
 
 use crate::types::CandidateOutcome;
-use crate::values::are_finite;
+use crate::values::{are_finite, each};
 use integer::rounding::near;
 use model::measure::measure_candidate;
 use model::types::{COEFFICIENTS, Candidate, Model, Refusal, Verdict};
@@ -50,13 +50,7 @@ fn list_of(values: [f64; COEFFICIENTS]) -> [i32; COEFFICIENTS]
     requires { all_finite values ≡ true }
     ensures { result ≡ map limited_units values }
 {
-    let mut units = [0i32; COEFFICIENTS];
-    let mut k = 0;
-    while k < COEFFICIENTS {
-        units[k] = units_of(values[k]);
-        k += 1;
-    }
-    units
+    each(values, 0, units_of)
 }
 
 // A list of values in units.
