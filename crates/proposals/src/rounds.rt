@@ -2,12 +2,12 @@
 ghost use Rattle.std.specs.Prelude.{◌≡◌};
 ghost use Rattle.proposals.specs.definitions.Values.{nought};
 ghost use Rattle.proposals.specs.definitions.Rounds.{two_less, change_from, next_round, finite_round};
-ghost use Rattle.proposals.specs.definitions.Rounds.{max_rounds, rounds, round_of};
+ghost use Rattle.proposals.specs.definitions.Rounds.{max_rounds, rounds, round_of, found_finite};
 
 use crate::product::multiply;
-use crate::types::{Ending, Made, Round};
+use crate::types::{Ending, FiniteRounds, Round};
 use crate::values::{are_finite, difference, each, greater};
-use model::types::COEFFICIENTS;
+use model::types::{COEFFICIENTS, Refusal};
 
 const ROUNDS: u32 = 12;
 
@@ -54,34 +54,27 @@ fn is_finite_round(r: Round) -> bool
 }
 
 // At most 12 rounds from w on.
-pub(crate) fn run_rounds(g: [f64; COEFFICIENTS], w: [f64; COEFFICIENTS]) -> Made
-    ensures { result ≡ rounds max_rounds g (round_of w nought) }
+pub(crate) fn run_rounds(
+    g: [f64; COEFFICIENTS],
+    w: [f64; COEFFICIENTS],
+) -> Result<FiniteRounds, Refusal>
+    ensures { result ≡ found_finite (rounds max_rounds g (round_of w nought)) }
 {
-    let mut r = Round {
+    let mut round = Round {
         coefficients: w,
         change: 0.0,
     };
     for _ in 0..ROUNDS {
-        r = next_round(g, r);
-        let change = r.change;
-        if !is_finite_round(r) {
-            return Made {
-                finite: false,
-                ending: Ending::GivenUp(change),
-                round: r,
-            };
+        round = next_round(g, round);
+        let change = round.change;
+        if !is_finite_round(round) {
+            return Err(Refusal::NotFinite);
         }
         if change <= SETTLED {
-            return Made {
-                finite: true,
-                ending: Ending::Settled(change),
-                round: r,
-            };
+            let ending = Ending::Settled(change);
+            return Ok(FiniteRounds { ending, round });
         }
     }
-    Made {
-        finite: true,
-        ending: Ending::GivenUp(r.change),
-        round: r,
-    }
+    let ending = Ending::GivenUp(round.change);
+    Ok(FiniteRounds { ending, round })
 }

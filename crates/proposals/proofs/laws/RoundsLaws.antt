@@ -10,7 +10,7 @@ use Rattle.proposals.specs.definitions.Values.{nought, two, settled_limit, diffe
 use Rattle.proposals.specs.definitions.Rounds.{two_less, change_from, next_round, finite_round, made_of, rounds}
 use Rattle.proposals.specs.definitions.Endings.{change_in}
 use Rattle.proposals.specs.declared.types.Round.{Round}
-use Rattle.proposals.specs.declared.types.Made.{Made}
+use Rattle.proposals.specs.definitions.Rounds.{Made}
 use Rattle.proposals.specs.declared.types.Ending.TheVariants.{Settled, GivenUp}
 
 pub two_less-set : (c : List Float) → set (map (sub binary64 nought) c) 0 (sub binary64 two (get_or c 0 nan)) ≡ two_less c

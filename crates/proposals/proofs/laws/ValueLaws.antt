@@ -32,14 +32,6 @@ limit_is = refl
 
 -- ---- finite values
 
--- between the infinities
-pub finite_between : (x : Float) → lt (inf true) x && lt x (inf false) ≡ finite x
-unfolding lt
-finite_between nan = refl
-finite_between (inf true) = refl
-finite_between (inf false) = refl
-finite_between (fin s m e) = refl
-
 -- std's test
 pub finite_is : (x : Float) → float_is_finite x ≡ finite x
 unfolding float_is_finite
@@ -67,11 +59,11 @@ pub finite_all : (a : List Float) (r : Bool) → MatchBool r (AllWithin (λ x. f
 finite_all a true h = sym (finite_each a (λ k l. h k nan (omega arith) l))
 finite_all a false h = sym (finite_but a h.0 h.1 (h.2 nan))
 
-pub finite_at : (a : List Float) (k : ℕ) → all_finite a ≡ true → k < length a → T (finite (get_or a k nan))
+pub finite_at : (a : List Float) (k : ℕ) (d : Float) → all_finite a ≡ true → k < length a → T (finite (get_or a k d))
 unfolding all_finite
-finite_at [] k e h = absurd (omega arith)
-finite_at (x ∷ a) zero e h = and_l (finite x) (all_finite a) (subst T (sym e) tt)
-finite_at (x ∷ a) (suc k) e h = finite_at a k (is_true (all_finite a) (and_r (finite x) (all_finite a) (subst T (sym e) tt))) (omega arith)
+finite_at [] k d e h = absurd (omega arith)
+finite_at (x ∷ a) zero d e h = and_l (finite x) (all_finite a) (subst T (sym e) tt)
+finite_at (x ∷ a) (suc k) d e h = finite_at a k d (is_true (all_finite a) (and_r (finite x) (all_finite a) (subst T (sym e) tt))) (omega arith)
 
 pub no_nan : (x : Float) → T (finite x) → T (not (is_nan x))
 unfolding is_nan

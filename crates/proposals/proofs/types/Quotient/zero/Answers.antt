@@ -1,7 +1,7 @@
--- `QuotientOutcome::refused` meets its contract.
+-- `Quotient::zero` meets its contract.
 use Rattle.proposals.specs.definitions.Quotient.{refused_quotient}
 use Rattle.proposals.proofs.laws.ValueLaws.{nought_is}
-use Rattle.proposals.proofs.types.QuotientOutcome.refused.Goals as goal
+use Rattle.proposals.proofs.types.Quotient.zero.Goals as goal
 
 pub returns : goal.returns
 unfolding refused_quotient

@@ -1,7 +1,7 @@
--- `ReciprocalOutcome::refused` meets its contract.
+-- `Reciprocal::zero` meets its contract.
 use Rattle.proposals.specs.definitions.Reciprocal.{refused_reciprocal}
 use Rattle.proposals.proofs.laws.ValueLaws.{nought_is}
-use Rattle.proposals.proofs.types.ReciprocalOutcome.refused.Goals as goal
+use Rattle.proposals.proofs.types.Reciprocal.zero.Goals as goal
 
 pub returns : goal.returns
 unfolding refused_reciprocal
