@@ -17,7 +17,7 @@ use crate::quotient::make_quotient;
 use crate::reciprocal::make_reciprocal;
 use crate::types::{Ending, Quotient, QuotientRecord, Reciprocal, Round, zero_candidate};
 use crate::units::to_units;
-use model::area::{CANDIDATE_SIZE, MODEL_SIZE, model_in};
+use model::area::{CANDIDATE_SIZE, MODEL_SIZE, model_in, store};
 use model::types::{COEFFICIENTS, Candidate, Refusal};
 
 // The coefficients of a round and its change.
@@ -39,40 +39,38 @@ fn values_in(area: &[f64]) -> [f64; COEFFICIENTS]
     values
 }
 
-// Stores a round: its coefficients, then its change.
-fn store_round(recorded: &mut [f64], round: Round)
-    ensures { recorded.new ≡ area_out round_size (round_numbers round) recorded.old }
+// The numbers of a round: its coefficients, then its change.
+fn round_numbers(round: Round) -> [f64; ROUND_SIZE]
+    ensures { result ≡ round_numbers round }
 {
-    if recorded.len() < ROUND_SIZE {
-        return;
-    }
-    recorded[..COEFFICIENTS].copy_from_slice(&round.coefficients);
-    recorded[COEFFICIENTS] = round.change;
+    let mut numbers = [0.0; ROUND_SIZE];
+    numbers[..COEFFICIENTS].copy_from_slice(&round.coefficients);
+    numbers[COEFFICIENTS] = round.change;
+    numbers
 }
 
-// Stores the record of a quotient: f·w, then the round with w.
-fn store_quotient(recorded: &mut [f64], made: QuotientRecord)
-    ensures { recorded.new ≡ area_out quotient_size (quotient_numbers made) recorded.old }
+// The record of a quotient: f·w, then the round with w.
+fn quotient_numbers(made: QuotientRecord) -> [f64; QUOTIENT_SIZE]
+    ensures { result ≡ quotient_numbers made }
 {
-    if recorded.len() < QUOTIENT_SIZE {
-        return;
-    }
-    recorded[..COEFFICIENTS].copy_from_slice(&made.quotient);
-    store_round(&mut recorded[COEFFICIENTS..], made.round);
+    let mut numbers = [0.0; QUOTIENT_SIZE];
+    numbers[..COEFFICIENTS].copy_from_slice(&made.quotient);
+    numbers[COEFFICIENTS..].copy_from_slice(&round_numbers(made.round));
+    numbers
 }
 
-// Stores a candidate.
-fn store_candidate(area: &mut [i32], c: Candidate)
+// The degree of a candidate, then its coefficients.
+fn candidate_numbers(c: Candidate) -> [i32; CANDIDATE_SIZE]
     requires { c.degree ≤ max_degree }
-    ensures { area.new ≡ area_out candidate_size (candidate_numbers c) area.old }
+    ensures { result ≡ candidate_numbers c }
 {
-    if area.len() < CANDIDATE_SIZE {
-        return;
-    }
-    area[1..CANDIDATE_SIZE].copy_from_slice(&c.coefficients);
-    area[0] = c.degree as i32;
+    let mut numbers = [0; CANDIDATE_SIZE];
+    numbers[0] = c.degree as i32;
+    numbers[1..].copy_from_slice(&c.coefficients);
+    numbers
 }
 
+// Whether the rounds settled.
 fn ending_number(ending: Ending) -> u32
     ensures { result ≡ ending_number ending }
 {
@@ -80,16 +78,6 @@ fn ending_number(ending: Ending) -> u32
         Ending::Settled(_) => 1,
         Ending::GivenUp(_) => 0,
     }
-}
-
-// Stores whether the rounds settled.
-fn store_ending(outcome: &mut [u32], ending: Ending)
-    ensures { outcome.new ≡ area_out outcome_size (ending_number ending ∷ []) outcome.old }
-{
-    if outcome.len() < OUTCOME_SIZE {
-        return;
-    }
-    outcome[0] = ending_number(ending);
 }
 
 // The number of a refusal, or 0.
@@ -114,9 +102,9 @@ fn answer_reciprocal(
         ≡ reciprocal_in (reciprocal_of made) recorded.old w.old outcome.old }
 {
     let values = made.unwrap_or(Reciprocal::zero());
-    store_round(recorded, values.round);
-    store_candidate(w, values.w);
-    store_ending(outcome, values.ending);
+    store(recorded, round_numbers(values.round));
+    store(w, candidate_numbers(values.w));
+    store(outcome, [ending_number(values.ending); OUTCOME_SIZE]);
     number(&made)
 }
 
@@ -154,10 +142,10 @@ fn answer_quotient(
         ≡ quotient_in (quotient_of made) recorded.old h.old w.old outcome.old }
 {
     let values = made.unwrap_or(Quotient::zero());
-    store_quotient(recorded, values.recorded);
-    store_candidate(h, values.h);
-    store_candidate(w, values.w);
-    store_ending(outcome, values.ending);
+    store(recorded, quotient_numbers(values.recorded));
+    store(h, candidate_numbers(values.h));
+    store(w, candidate_numbers(values.w));
+    store(outcome, [ending_number(values.ending); OUTCOME_SIZE]);
     number(&made)
 }
 
@@ -198,7 +186,7 @@ fn answer_units(list: Result<Candidate, Refusal>, units: &mut [i32]) -> u32
     requires { IfOk list (λ c. c.degree ≤ max_degree) }
     ensures { units_answer result units.new ≡ units_in (in_units_of list) units.old }
 {
-    store_candidate(units, list.unwrap_or(zero_candidate()));
+    store(units, candidate_numbers(list.unwrap_or(zero_candidate())));
     number(&list)
 }
 

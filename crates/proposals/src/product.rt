@@ -10,7 +10,8 @@ ghost use Rattle.proposals.specs.definitions.Product.{product};
 use crate::values::each;
 use model::types::COEFFICIENTS;
 
-// x times each element of b, added to c as far as both reach. Kept: the places of c that `iter_mut` and `zip` lend are not known afterwards.
+// x times each element of b, added to c as far as both reach.
+// Kept by index: a proof knows nothing of what was written through `iter_mut` under `zip`.
 fn add_multiple(c: &mut [f64], x: f64, b: &[f64])
     ensures { c.new ≡ add_from_by (add binary64) (mul binary64) c.old x 0 b.now }
 {

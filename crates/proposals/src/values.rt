@@ -36,7 +36,7 @@ pub(crate) fn values_of(coefficients: [i32; COEFFICIENTS]) -> [f64; COEFFICIENTS
     each(coefficients, 0.0, value_of)
 }
 
-// |x - y|, rounded once.
+// |x - y|, rounded once. Kept beside std's `abs`: the definition leaves a zero its sign.
 pub(crate) fn difference(x: f64, y: f64) -> f64
     ensures { result ≡ difference_of x y }
 {
@@ -44,6 +44,7 @@ pub(crate) fn difference(x: f64, y: f64) -> f64
     if d < 0.0 { -d } else { d }
 }
 
+// Kept beside std's `max`: the definition gives x where x is a NaN, and -0 for -0 and +0.
 pub(crate) fn greater(x: f64, y: f64) -> f64
     ensures { result ≡ greater_of x y }
 {
