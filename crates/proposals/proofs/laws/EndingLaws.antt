@@ -1,5 +1,5 @@
 -- How the rounds end (Rounds.antt): after how many, and what holds of the last one.
-use Rattle.std.specs.Prelude.{◌≡◌, Bool, true, false, cond, List, ◌⊎◌, Float}
+use Rattle.std.specs.Prelude.{◌≡◌, Bool, true, false, cond, List, Float}
 use Rattle.std.proofs.Math.Path.{refl, ap}
 use Rattle.std.proofs.Common.{sym, ◌∙◌, true≢false, eq-or-lt_of_le}
 use Rattle.std.proofs.Math.Logic.{inl, inr}

@@ -10,7 +10,7 @@ use Rattle.std.specs.Float.{binary64}
 use Rattle.chebyshev.specs.definitions.Coefficients.{weight}
 use Rattle.model.specs.definitions.Intervals.{same_interval}
 use Rattle.model.specs.definitions.Models.{fault, good, max_weight}
-use Rattle.model.specs.definitions.Outcomes.{Outcome, accepted, refused, passing, number_of, judged}
+use Rattle.model.specs.definitions.Outcomes.{Outcome, accepted, refused, passing, number_of}
 use Rattle.model.proofs.laws.OutcomeLaws.{judged_injective}
 use Rattle.model.specs.declared.types.Model.{Model}
 use Rattle.model.specs.declared.types.Candidate.{Candidate}

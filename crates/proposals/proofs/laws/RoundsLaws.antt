@@ -1,6 +1,6 @@
 -- Steps of the loops over rounds and changes; what is made is finite, and its outcome carries the record's change.
-use Rattle.std.specs.Prelude.{◌≡◌, refl, Bool, true, false, cond, List, [], ◌∷◌, map, ℕ, zero, suc, ◌+◌, ◌<◌, ◌≤◌, T, length, get_or, drop, set, Float}
-use Rattle.std.proofs.Common.{sym, ◌∙◌, subst}
+use Rattle.std.specs.Prelude.{◌≡◌, refl, Bool, true, false, cond, List, [], ◌∷◌, map, ℕ, zero, suc, T, get_or, set, Float}
+use Rattle.std.proofs.Common.{sym, subst}
 use Rattle.std.specs.Float.{nan, binary64}
 use Rattle.std.specs.Float.Ieee.{sub, le}
 use Rattle.std.specs.Float.Ieee.Bits.{is_true}

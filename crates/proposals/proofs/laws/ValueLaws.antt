@@ -1,10 +1,10 @@
 -- Constants as code has them, by their bits; the test for finite values.
-use Rattle.std.specs.Prelude.{◌≡◌, refl, Bool, true, false, not, ◌&&◌, List, [], ◌∷◌, ℕ, zero, suc, ◌+◌, ◌<◌, ◌≤◌, T, length, get_or, drop, Float}
-use Rattle.std.proofs.Common.{ap, sym, arith, add-one, ◌∙◌, subst, drop_of_length-le, drop-cons}
+use Rattle.std.specs.Prelude.{◌≡◌, refl, Bool, true, false, not, ◌&&◌, List, [], ◌∷◌, ℕ, zero, suc, ◌<◌, T, length, get_or, Float}
+use Rattle.std.proofs.Common.{ap, sym, arith, ◌∙◌, subst}
 use Rattle.std.specs.Bool.{MatchBool}
 use Rattle.std.specs.List.{AllWithin, HoldsAt}
 use Rattle.std.specs.Float.{nan, inf, fin, binary64, float_is_finite}
-use Rattle.std.specs.Float.Ieee.{of_bits, lt, is_nan}
+use Rattle.std.specs.Float.Ieee.{of_bits, is_nan}
 use Rattle.std.specs.Float.Ieee.Bits.{is_true}
 use Rattle.std.specs.Float.Ieee.Fits.{and_l, and_r}
 use Rattle.std.specs.Float.Ieee.Scale.{finite}

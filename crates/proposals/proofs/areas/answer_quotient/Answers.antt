@@ -1,5 +1,5 @@
 -- `areas::answer_quotient` meets its contract.
-use mathlib.Core.Path.{◌≡◌, sym, ap, ◌∙◌}
+use mathlib.Core.Path.{sym, ap, ◌∙◌}
 use mathlib.Core.List.{[], ◌∷◌}
 use Rattle.model.specs.definitions.Area.{candidate_size, area_out}
 use Rattle.model.proofs.laws.OutcomeLaws.{number-judged}

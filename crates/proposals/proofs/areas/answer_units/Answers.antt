@@ -1,5 +1,5 @@
 -- `areas::answer_units` meets its contract.
-use mathlib.Core.Path.{◌≡◌, sym, ap, ◌∙◌}
+use mathlib.Core.Path.{sym, ap, ◌∙◌}
 use Rattle.model.specs.definitions.Area.{candidate_size, area_out}
 use Rattle.model.specs.declared.types.Candidate.{Candidate}
 use Rattle.model.proofs.laws.OutcomeLaws.{number-judged}

@@ -1,11 +1,11 @@
 -- `areas::quotient_numbers` meets its contract: f·w in front, then the round.
 use Rattle.std.proofs.Common.{rules}
 use borrow.Rule.Slice.PartMut.{put_mid}
-use mathlib.Core.Path.{◌≡◌, sym, ap, ◌∙◌}
+use mathlib.Core.Path.{◌≡◌, ap, ◌∙◌}
 use mathlib.Core.List.{List, ◌++◌}
 use Prim.Native.Nat.{ℕ, ◌-◌}
 use native.Mathlib.Omega.{arith}
-use lib.ListN.{length, length-append, length-replicate, replicate}
+use lib.ListN.{length, length-append, replicate}
 use lib.Seq.{take_at}
 use lib.Ieee.{Float, binary64, of_bits}
 use Rattle.proposals.proofs.Passes.{put_rest}

@@ -1,7 +1,6 @@
 -- `product::multiply` meets its contract: the terms that are left give the rest of the walk.
 use mathlib.Core.Path.{◌≡◌}
 use mathlib.Core.List.{reverse}
-use Prim.Native.Nat.{◌-◌}
 use lib.ListN.{length, drop, replicate}
 use lib.Ieee.{binary64, add, mul}
 use Rattle.chebyshev.specs.definitions.Product.{add_terms_by}

@@ -1,5 +1,5 @@
 -- `reciprocal::make_reciprocal` meets its contract.
-use mathlib.Core.Path.{◌≡◌, refl, ◌∙◌, ap}
+use mathlib.Core.Path.{refl, ◌∙◌, ap}
 use mathlib.Core.Bool.{true}
 use Rattle.model.specs.definitions.Outcomes.{Outcome, accepted, refused}
 use Rattle.model.specs.declared.types.Candidate.{Candidate}

@@ -1,9 +1,8 @@
 -- `rounds::run_rounds` meets its contract. The rounds that are left, from the record as it is, give what 12 rounds give.
 use mathlib.Core.Path.{◌≡◌, sym, ◌∙◌, ap}
-use Prim.Native.Nat.{ℕ, suc, ◌+◌, ◌-◌}
+use Prim.Native.Nat.{◌+◌, ◌-◌}
 use native.Mathlib.Omega.{arith}
 use mathlib.Core.Bool.{Bool, true, false}
-use mathlib.Core.List.{List}
 use lib.Ieee.{Float, binary64, of_bits, le}
 use Rattle.proposals.specs.definitions.Values.{settled_limit}
 use Rattle.proposals.specs.definitions.Rounds.{rounds, round_of, found_finite}

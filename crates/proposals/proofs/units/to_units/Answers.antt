@@ -1,5 +1,5 @@
 -- `units::to_units` meets its contract.
-use mathlib.Core.Path.{◌≡◌, sym, ◌∙◌}
+use mathlib.Core.Path.{sym, ◌∙◌}
 use Rattle.proposals.proofs.laws.MakerLaws.{units_not_finite, units_too_large, units_accepted}
 use Rattle.proposals.proofs.units.to_units.Goals as goal
 
