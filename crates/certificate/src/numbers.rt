@@ -107,16 +107,10 @@ pub(crate) fn displacement(weight: u64, n: u64) -> u64
     up_unsigned(weight * n, SCALE)
 }
 
-pub(crate) fn quotient_radius(b: u64, m: u64) -> u64
-    requires { (b ≤ 2 ^ 36) × (m < scale) }
-    ensures { result ≡ upℕ (b * scale) (scale - m) }
+// up(n·S/(S-m)): a quotient's radius where n is b, a root's by the discriminant where n is 2b.
+pub(crate) fn radius_for(n: u64, m: u64) -> u64
+    requires { (n ≤ 2 ^ 37) × (m < scale) }
+    ensures { result ≡ upℕ (n * scale) (scale - m) }
 {
-    up_unsigned(b * SCALE, SCALE - m)
-}
-
-pub(crate) fn root_radius(b: u64, m: u64) -> u64
-    requires { (b ≤ 2 ^ 36) × (m < scale) }
-    ensures { result ≡ upℕ (2 * b * scale) (scale - m) }
-{
-    up_unsigned(2 * b * SCALE, SCALE - m)
+    up_unsigned(n * SCALE, SCALE - m)
 }

@@ -6,7 +6,7 @@ ghost use Rattle.certificate.specs.definitions.Promise.{QuotientAllowed};
 ghost use Rattle.certificate.specs.definitions.InnerContracts.{QuotientReady};
 
 use crate::numbers::{
-    SCALE, Weighed, displacement, quotient_contraction, quotient_radius, quotient_residual,
+    SCALE, Weighed, displacement, quotient_contraction, quotient_residual, radius_for,
 };
 use crate::scratch::clear_scratch;
 use crate::types::{Certificate, SCRATCH_SIZE};
@@ -33,7 +33,7 @@ fn test_good(
         return Err(Refusal::LargeResidual);
     }
     let b = displacement(w.weight, n);
-    let radius = quotient_radius(b, m);
+    let radius = radius_for(b, m);
     Certificate::formed(*h.candidate, f.interval, radius, m, n, b)
 }
 

@@ -3,7 +3,7 @@ ghost use Rattle.std.specs.Prelude.{◌≡◌};
 ghost use Rattle.model.specs.definitions.Outcomes.{judged};
 ghost use Rattle.certificate.specs.definitions.RootEnd.{RootLast, rule_outcome};
 
-use crate::numbers::{SCALE, root_radius};
+use crate::numbers::{SCALE, radius_for};
 use crate::types::RootRule;
 use model::types::Refusal;
 use radius::least_radius::least_radius;
@@ -25,7 +25,7 @@ impl RootNumbers {
     {
         let gap = SCALE - self.contraction;
         if self.displacement <= gap * gap / (8 * self.weight) {
-            Ok(root_radius(self.displacement, self.contraction) as u32)
+            Ok(radius_for(2 * self.displacement, self.contraction) as u32)
         } else {
             Err(Refusal::NegativeDiscriminant)
         }

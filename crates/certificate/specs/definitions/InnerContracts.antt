@@ -1,5 +1,5 @@
 -- What inner functions ask of their callers and answer to them. The contracts of the entries do not speak of this.
-use Rattle.std.specs.Prelude.{◌≡◌, Bool, true, List, [], ◌∷◌, ℕ, suc, ◌+◌, ◌*◌, ◌^◌, ◌≤◌, ◌<◌, ℤ, pos, length, Result, Ok, Err}
+use Rattle.std.specs.Prelude.{◌≡◌, true, List, [], ◌∷◌, ℕ, suc, ◌+◌, ◌*◌, ◌^◌, ◌≤◌, ◌<◌, ℤ, pos, length, Result, Ok, Err}
 use Rattle.ring.specs.definitions.Integer.{ℤ_ring}
 use Rattle.chebyshev.specs.definitions.Coefficients.{weight, subtract_lists, scale_list}
 use Rattle.model.specs.definitions.Intervals.{standard_interval, same_interval}
@@ -67,12 +67,10 @@ group_residual n start c f = weight (residual_list (group n start c) (group n st
 
 -- ---- the answer of a test by its parts
 
-abbrev pub tested : List (Bool × ℕ) → Model → ℕ → ℕ → ℕ → Outcome Certificate
-tested ps r m n b = outcome ps (make_certificate r m n b) zero_certificate
-
 -- of a test that passes unless h with radius e is too large
 abbrev pub formed_test : Model → ℕ → ℕ → ℕ → ℕ → Outcome Certificate
-formed_test h e m n b = tested (large_place (with_radius h e) ∷ []) (with_radius h e) m n b
+formed_test h e m n b =
+    let r = with_radius h e in outcome (large_place r ∷ []) (make_certificate r m n b) zero_certificate
 
 -- ---- a root test up to N and b: refused with a number, or M, m, N and b
 

@@ -38,8 +38,8 @@ pub displacement-b-requires : goal.displacement-b-requires
 displacement-b-requires c =
     (omega (arith, c.args.w.weighed, (good_is (placed c.args.f c.args.w.candidate.now) c.requires.good_w).weight-fits), c.if-n-gt-MAX_RADIUS.false)
 
-pub quotient_radius-radius-requires : goal.quotient_radius-radius-requires
-quotient_radius-radius-requires c =
+pub radius_for-radius-requires : goal.radius_for-radius-requires
+radius_for-radius-requires c =
     let a = c.args in
     let fits : a.w.weight ≤ max_weight = omega (arith, c.args.w.weighed, (good_is (placed a.f a.w.candidate.now) c.requires.good_w).weight-fits) in
     (omega (arith, c.displacement-b.ensures, displacement_bound a.w.weight c.quotient_residual-n.result fits c.if-n-gt-MAX_RADIUS.false), c.if-m-ge-SCALE.false)
@@ -52,5 +52,5 @@ returns c =
     c.formed.ensures
     ∙ sym (quotient_formed c.requires m.result (m.ensures ∙ quotient_contraction_standard a.f.interval a.g a.w.candidate.now) c.if-m-ge-SCALE.false
     n.result (n.ensures ∙ quotient_residual_standard a.f.interval a.f a.g a.h.candidate.now) c.if-n-gt-MAX_RADIUS.false
-    a.w.weight c.displacement-b.result c.quotient_radius-radius.result
-    c.args.w.weighed c.displacement-b.ensures c.quotient_radius-radius.ensures)
+    a.w.weight c.displacement-b.result c.radius_for-radius.result
+    c.args.w.weighed c.displacement-b.ensures c.radius_for-radius.ensures)
