@@ -14,6 +14,7 @@ pub const PROPOSAL_SIZE: usize = 68;
 
 // The radius of one that passes. One that is too short is refused before the models are looked at. The last clause is what is
 // promised of one that passes.
+#[tactic(auto, using(crate::proofs::laws::ProposalLaws::short_radius))]
 pub(crate) fn test_proposal(
     f: Model,
     g: Model,

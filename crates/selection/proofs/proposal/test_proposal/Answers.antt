@@ -1,15 +1,10 @@
 -- `proposal::test_proposal` meets its contract.
-use mathlib.Core.Path.{sym}
 use native.Mathlib.Omega.{arith}
 use lib.ListN.{length, length-take}
 use Rattle.std.proofs.Common.{Ok}
 use Rattle.std.proofs.lemmas.Result.{err_from_is_err_and}
-use Rattle.selection.proofs.laws.ProposalLaws.{short_radius, test_read, passed_radius, refused_radius, proposal_promised}
+use Rattle.selection.proofs.laws.ProposalLaws.{test_read, passed_radius, refused_radius, proposal_promised}
 use Rattle.selection.proofs.proposal.test_proposal.Goals as goal
-
-pub returns-then-proposal-lt-PROPOSAL_SIZE-clause-result_value : goal.returns-then-proposal-lt-PROPOSAL_SIZE-clause-result_value
-returns-then-proposal-lt-PROPOSAL_SIZE-clause-result_value c =
-    let a = c.args in sym (short_radius (length a.scratch.now) a.f a.g a.proposal.now (omega arith))
 
 pub returns-in_err-test-clause-result_value : goal.returns-in_err-test-clause-result_value
 returns-in_err-test-clause-result_value c =
