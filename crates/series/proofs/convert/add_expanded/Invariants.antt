@@ -18,6 +18,3 @@ pub record Walked (sums₀ ps sums : List ℤ) (k : ℕ) : Type 0 where
 
 abbrev pub invariant-loop-k : goal.invariant-loop-k
 invariant-loop-k l = Walked l.initial.sums l.terms l.sums l.k
-
-abbrev pub decreases-loop-k : goal.decreases-loop-k
-decreases-loop-k l = length l.terms - l.k
