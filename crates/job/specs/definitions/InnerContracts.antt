@@ -1,6 +1,7 @@
 -- What inner functions ask of their callers and answer to them: one command of the code, what it answers, and what the work area
 -- holds before and after. The contract of the entry does not speak of this.
-use Rattle.std.specs.Prelude.{◌≡◌, false, ◌&&◌, ◌||◌, List, [], ◌∷◌, ◌++◌, ℕ, ◌+◌, ◌*◌, ◌≤◌, ◌<◌, leb, ℤ, length, take, drop, Result as CodeResult, Ok, Err, Option, Some, None}
+use Rattle.std.specs.Prelude.{◌≡◌, false, ◌&&◌, ◌||◌, List, [], ◌∷◌, ◌++◌, ℕ, ◌+◌, ◌*◌, ◌≤◌, ◌<◌, leb, ℤ, length, take, drop}
+use Rattle.std.specs.Prelude.{Result as CodeResult, Ok, Err, Option, Some, None}
 use Rattle.integer.specs.definitions.Lists.{zeros}
 use Rattle.model.specs.definitions.Models.{coefficient_count, max_degree}
 use Rattle.model.specs.definitions.Outcomes.{Outcome, accepted, refused, payload, number_of, passing}
@@ -32,10 +33,11 @@ pub record Holds (w : List ℤ) (count : ℕ) (rs : List Model) (t : List ℤ) :
   pub count_is : count ≡ length rs
   pub sized : Sized rs
 
--- the code's step, with the count of the results
+-- the code's step: the progress after a command, none at the end of the job, or a refusal
 abbrev pub CodeStep : Type 0
 CodeStep = CodeResult (Option Progress) Refusal
 
+-- its meaning, with the count of the results
 abbrev pub step_of : CodeStep → Step ℕ
 step_of (Ok (Some p)) = more p.results p.next
 step_of (Ok None) = over

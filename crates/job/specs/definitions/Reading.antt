@@ -1,5 +1,6 @@
 -- Document 01, "Jobs": reading one command, on the bytes, the position and the count of results alone.
-use Rattle.std.specs.Prelude.{Bool, true, false, not, ◌&&◌, ◌||◌, List, [], ◌∷◌, ℕ, ◌+◌, leb, ltb, eqb, length, Result as CodeResult, Ok, Err}
+use Rattle.std.specs.Prelude.{Bool, true, false, not, ◌&&◌, ◌||◌, List, [], ◌∷◌, ℕ, ◌+◌, leb, ltb, eqb, length}
+use Rattle.std.specs.Prelude.{Result as CodeResult, Ok, Err}
 use Rattle.model.specs.definitions.Multiply.{bad_kept}
 use Rattle.model.specs.definitions.Outcomes.{passing, number_of}
 use Rattle.model.specs.declared.types.Refusal.{Refusal}
