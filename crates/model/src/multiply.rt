@@ -23,11 +23,7 @@ const LARGER_DEGREE: u32 = 255;
 pub fn is_bad_kept(kept: u32) -> bool
     ensures { result ≡ bad_kept kept }
 {
-    if kept == LARGER_DEGREE {
-        false
-    } else {
-        Model::MAX_DEGREE < kept
-    }
+    (kept != LARGER_DEGREE) & (Model::MAX_DEGREE < kept)
 }
 
 // The kept degree that a number stands for between factors of two degrees.

@@ -3,36 +3,28 @@ use Rattle.std.proofs.Common.{arith, ◌≡◌, refl, ap, List, ℕ, suc, ◌+�
 use borrow.Author.Tests.{ltb-false}
 use Rattle.integer.specs.definitions.Rounding.{near}
 use Rattle.chebyshev.proofs.laws.Weight.{weight_at}
+use Rattle.model.specs.definitions.InnerContracts.{Integrable}
 use Rattle.model.specs.definitions.Models.{scale, max_weight}
 use Rattle.integer.proofs.laws.Machine.{abs-fits, fits_widens}
 use Rattle.model.proofs.laws.IntegralLaws.{coefficient_narrow}
 use Rattle.model.proofs.IntegralWalk.{Walk, begins, turn, ends, narrow, length_list, bounded, below_is, numerator}
 use Rattle.model.proofs.integrate.rounded_integral.Goals as goal
-use Rattle.model.proofs.integrate.rounded_integral.Goals.{In-loop-k, After-rounded_coefficient-c, After-unsigned_abs-weight}
+use Rattle.model.proofs.integrate.rounded_integral.Goals.{After-rounded_coefficient-c}
 
 pub loop-k-init : goal.loop-k-init
 loop-k-init c = (refl, begins c.args.extent (take (suc c.args.degree) c.args.doubled.now) (c.args.degree + 1) (length_list c.told-doubled c.requires) (omega (arith, c.requires)))
 
--- a turn: the place of the coefficient, and the number below
-module _ (b : In-loop-k) where
-  place : b.loop-k.k - 1 + 1 ≡ b.loop-k.k
-  place = omega arith
-
-  abbrev below : ℤ
-  below = get_or b.args.doubled.now (b.loop-k.k - 1) (pos 0)
-
-  abbrev above : ℤ
-  above = to_z w64 b.loop-k.above-bits
-
-  fits-32 : FitsSigned w32 below
-  fits-32 = abs-fits w32 below (omega (arith, weight_at b.args.doubled.now (b.loop-k.k - 1), b.requires.light))
+-- the number below
+fits-below : {degree : ℕ} {doubled : List ℤ} {d : ℕ} → Integrable degree doubled d → (j : ℕ) → FitsSigned w32 (get_or doubled j (pos 0))
+fits-below {doubled = doubled} pre j = abs-fits w32 (get_or doubled j (pos 0)) (omega (arith, weight_at doubled j, pre.light))
 
 pub rounded_coefficient-c-requires : goal.rounded_coefficient-c-requires
 rounded_coefficient-c-requires c =
-    let b = (goal.at.rounded_coefficient-c-requires c).In-loop-k in
-    simp (place b, to_z-of_z (fits-32 b), to_z-of_z (fits_widens (fits-32 b))) (numerator c.told-doubled c.requires c.loop-k.invariant.1 (omega arith))
+    let e : c.loop-k.k - 1 + 1 ≡ c.loop-k.k = omega arith in
+    let fits-x = fits-below c.requires (c.loop-k.k - 1) in
+    simp (e, to_z-of_z fits-x, to_z-of_z (fits_widens fits-x)) (numerator c.told-doubled c.requires c.loop-k.invariant.1 (omega arith))
 
--- and the coefficient, of absolute value m
+-- a turn, with the coefficient, of absolute value m
 module _ (n : After-rounded_coefficient-c) where
   abbrev x : ℤ
   x = get_or n.args.doubled.now (n.loop-k.k - 1) (pos 0)
@@ -47,7 +39,7 @@ module _ (n : After-rounded_coefficient-c) where
   fits_c = record { sfits = n.rounded_coefficient-c.type_inv }
 
   fits-x : FitsSigned w32 x
-  fits-x = abs-fits w32 x (omega (arith, weight_at n.args.doubled.now (n.loop-k.k - 1), n.requires.light))
+  fits-x = fits-below n.requires (n.loop-k.k - 1)
 
   c_is : c ≡ near ((x -ℤ to_z w64 n.loop-k.above-bits) *ℤ pos n.args.extent) (4 * scale * n.loop-k.k)
   c_is = let e : n.loop-k.k - 1 + 1 ≡ n.loop-k.k = omega arith in simp (e, to_z-of_z fits-x, to_z-of_z (fits_widens fits-x)) at n.rounded_coefficient-c.ensures

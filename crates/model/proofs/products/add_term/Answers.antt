@@ -10,49 +10,36 @@ use Rattle.chebyshev.proofs.laws.PairVisits.{term_visits}
 use Rattle.chebyshev.proofs.laws.ProductLaws.{length_add_term, term_joined}
 use Rattle.chebyshev.proofs.laws.ProductWeight.{weight_add_term}
 use Rattle.model.proofs.products.add_term.Goals as goal
-use Rattle.model.proofs.products.add_term.Goals.{Then-i-b, After-add_pairs-before, After-add_pairs-behind}
+use Rattle.model.proofs.products.add_term.Goals.{After-add_pairs-behind}
 
--- where the term is cut
-module _ (t : Then-i-b) where
-  abbrev x : ℤ
-  x = t.args.x
-
-  abbrev i : ℕ
-  i = t.args.i
-
-  abbrev b : List ℤ
-  b = t.args.b.now
-
-  -- what the first part leaves
-  abbrev first : List ℤ
-  first = (add_term ℤ_ring (t.args.c.now, 0) x i 0 (take i b)).0
-
-  parts : nat_abs x * weight b ≡ nat_abs x * weight (take i b) + nat_abs x * weight (drop i b)
-  parts = omega (arith, ap (λ (n : ℕ). nat_abs x * n) (weight_split i b))
+-- a list cut at place i
+module _ (i : ℕ) (b : List ℤ) where
+  parts : (x : ℤ) → nat_abs x * weight b ≡ nat_abs x * weight (take i b) + nat_abs x * weight (drop i b)
+  parts x = omega (arith, ap (λ (n : ℕ). nat_abs x * n) (weight_split i b))
 
   rest-is : take (length b - i) (drop i b) ≡ drop i b
   rest-is = take_all (length b - i) (drop i b) (omega (arith, length-drop i b))
 
 pub add_pairs-before-requires : goal.add_pairs-before-requires
 add_pairs-before-requires c =
-    let t = (goal.at.add_pairs-before-requires c).Then-i-b in
-    simp (to_z-of_z c.ranges.x) (omega (arith, length-take-le (i t) (b t) (omega arith), parts t, c.requires))
+    let a = c.args in
+    simp (to_z-of_z c.ranges.x) (omega (arith, length-take-le a.i a.b.now (omega arith), parts a.i a.b.now a.x, c.requires))
 
 pub add_pairs-behind-requires : goal.add_pairs-behind-requires
 add_pairs-behind-requires c =
-    let t = (goal.at.add_pairs-behind-requires c).Then-i-b in
-    let first_is : c.add_pairs-before.new.c ≡ first t = ap (λ w. w.0) (rw (to_z-of_z c.ranges.x) at c.add_pairs-before.ensures) in
-    simp (to_z-of_z c.ranges.x, first_is, rest-is t)
-    (omega (arith, length_add_term ℤ_ring (c.args.c.now, 0) (x t) (i t) 0 (take (i t) (b t)), weight_add_term (c.args.c.now, 0) (x t) (i t) 0 (take (i t) (b t)), length-drop (i t) (b t), parts t, c.requires))
+    let a = c.args in
+    let front = take a.i a.b.now in
+    let first_is : c.add_pairs-before.new.c ≡ (add_term ℤ_ring (a.c.now, 0) a.x a.i 0 front).0 = ap (λ w. w.0) (rw (to_z-of_z c.ranges.x) at c.add_pairs-before.ensures) in
+    simp (to_z-of_z c.ranges.x, first_is, rest-is a.i a.b.now)
+    (omega (arith, length_add_term ℤ_ring (a.c.now, 0) a.x a.i 0 front, weight_add_term (a.c.now, 0) a.x a.i 0 front, length-drop a.i a.b.now, parts a.i a.b.now a.x, c.requires))
 
 -- both parts are done
 joined : (c : After-add_pairs-behind) → (c.add_pairs-behind.new.c, c.add_pairs-before.result + c.add_pairs-behind.result) ≡ add_term ℤ_ring (c.args.c.now, 0) c.args.x c.args.i 0 c.args.b.now
 joined c =
     let a = c.args in
     let e : 0 + a.i ≡ a.i = omega arith in
-    let rest-is : take (length a.b.now - a.i) (drop a.i a.b.now) ≡ drop a.i a.b.now = take_all (length a.b.now - a.i) (drop a.i a.b.now) (omega (arith, length-drop a.i a.b.now)) in
     (rw e at (term_joined ℤ_ring a.c.now a.x a.i 0 a.i a.b.now c.add_pairs-before.new.c c.add_pairs-behind.new.c c.add_pairs-before.result c.add_pairs-behind.result (omega arith) (rw (to_z-of_z c.ranges.x) at c.add_pairs-before.ensures)))
-    (rw (to_z-of_z c.ranges.x, rest-is) at c.add_pairs-behind.ensures)
+    (rw (to_z-of_z c.ranges.x, rest-is a.i a.b.now) at c.add_pairs-behind.ensures)
 
 pub overflow_add-result : goal.overflow_add-result
 overflow_add-result k =
