@@ -1,4 +1,5 @@
 pub mod DegreeLaws
+pub mod NameLaws
 pub mod AdvanceLaws
 pub mod ConvertedBytes
 pub mod ConvertedCommand

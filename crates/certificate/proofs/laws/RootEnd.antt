@@ -13,6 +13,7 @@ use Rattle.radius.proofs.laws.LeastLaws.{least_found}
 use Rattle.model.specs.declared.types.Model.{Model}
 use Rattle.certificate.specs.definitions.Tests.{with_radius, Certificate, make_certificate, zero_certificate, refused_test}
 use Rattle.certificate.specs.definitions.Root.{rule_place, rule_radius, root_last_places, root_model}
+use Rattle.certificate.specs.definitions.InnerContracts.{RootLast as RootLastOf, passed_test}
 use Rattle.certificate.specs.definitions.RootEnd.{RootLast, rule_outcome}
 use Rattle.certificate.specs.declared.types.RootRule.{RootRule}
 use Rattle.certificate.specs.declared.types.RootRule.TheVariants.{ByDiscriminant, ByLeastRadius}
@@ -79,3 +80,28 @@ module _ (rule : RootRule) (h : Model) (M m n b : ℕ) where
   end_passed r good_h e same =
       let (passed, is) = outcome_accepted (rule_place rule M m b ∷ []) (rule_radius rule M m b) 0 same in
       rw (passed.0, ← is, large_radius h e good_h, le-ltb max_radius e (omega (arith, rule_small r rule e same)))
+
+-- ---- the same of the whole answer
+
+module _ {h : Model} {M m b : ℕ} (r : RootLastOf h M m b) where
+  last : RootLast M m b
+  last = record { positive = r.positive; weight-fits = r.weight-fits; contracting = r.contracting; displaced = r.displaced; square = r.square }
+
+  pub root_end_refused : (n : ℕ) → (scale - m) * (scale - m) / (8 * M) < b → root_end ByDiscriminant h M m n b ≡ refused_test 8
+  root_end_refused n e = end_refused ByDiscriminant h M m n b (discriminant_refused last e)
+
+  module _ (enough : b ≤ (scale - m) * (scale - m) / (8 * M)) (e : ℕ) (is_e : e ≡ upℕ (2 * b * scale) (scale - m)) where
+    pub root_end_radius : e ≤ 2 ^ 27
+    root_end_radius = discriminant_radius last enough e is_e
+
+    pub root_end_passed : (n : ℕ) → root_end ByDiscriminant h M m n b ≡ passed_test (with_radius h e) m n b
+    root_end_passed n = end_passed ByDiscriminant h M m n b last r.good_h e (discriminant_passed last enough e is_e)
+
+module _ (h : Model) (M m n b : ℕ) where
+  pub root_end_missing : least_radius M m b ≡ None → root_end ByLeastRadius h M m n b ≡ refused_test 17
+  root_end_missing e = end_refused ByLeastRadius h M m n b (least_refused M m b e)
+
+  pub root_end_found : (e : ℕ) → least_radius M m b ≡ Some e → good h ≡ true → root_end ByLeastRadius h M m n b ≡ passed_test (with_radius h e) m n b
+  unfolding passing root_model
+  root_end_found e found good_h =
+      rw (found, large_radius h e good_h, le-ltb max_radius e (omega (arith, least_small M m b e found)))

@@ -1,5 +1,5 @@
 -- What inner functions ask of their callers and answer to them. The contracts of the entries do not speak of this.
-use Rattle.std.specs.Prelude.{◌≡◌, true, List, [], ◌∷◌, ℕ, suc, ◌+◌, ◌*◌, ◌^◌, ◌≤◌, ◌<◌, ℤ, pos, length, Result, Ok, Err}
+use Rattle.std.specs.Prelude.{◌≡◌, true, List, [], ◌∷◌, ℕ, suc, ◌+◌, ◌*◌, ◌-◌, ◌^◌, ◌≤◌, ◌<◌, ℤ, pos, length, Result, Ok, Err}
 use Rattle.ring.specs.definitions.Integer.{ℤ_ring}
 use Rattle.chebyshev.specs.definitions.Coefficients.{weight, subtract_lists, scale_list}
 use Rattle.model.specs.definitions.Intervals.{standard_interval, same_interval}
@@ -55,6 +55,15 @@ pub record RootReady (part : List ℤ) (f : Model) (h w : Candidate) : Type 0 wh
   pub good_h : good (placed f h) ≡ true
   pub good_w : good (placed f w) ≡ true
 
+-- what the last places of a root test are given, where M is the weight of w
+pub record RootLast (h : Model) (M m b : ℕ) : Type 0 where
+  pub good_h : good h ≡ true
+  pub positive : 0 < M
+  pub weight-fits : M ≤ max_weight
+  pub contracting : m < scale
+  pub displaced : b ≤ 2 ^ 36
+  pub square : (scale - m) * scale ≤ 2 ^ 29 * M
+
 -- ---- lists
 
 -- C − 2S·f
@@ -66,6 +75,10 @@ abbrev pub group_residual : ℕ → ℕ → List ℤ → List ℤ → ℕ
 group_residual n start c f = weight (residual_list (group n start c) (group n start f))
 
 -- ---- the answer of a test by its parts
+
+-- passed
+abbrev pub passed_test : Model → ℕ → ℕ → ℕ → Outcome Certificate
+passed_test r m n b = accepted (make_certificate r m n b)
 
 -- of a test that passes unless h with radius e is too large
 abbrev pub formed_test : Model → ℕ → ℕ → ℕ → ℕ → Outcome Certificate

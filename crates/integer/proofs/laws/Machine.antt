@@ -3,14 +3,14 @@
 use Rattle.std.specs.Prelude.{◌≡◌, refl, Bool, true, false, ◌&&◌, ℕ, suc, ◌-◌, ◌*◌, ◌/◌, ◌%◌, ◌≤◌, ◌<◌, ◌^◌, T, ℤ, pos, negsuc, neg_ℤ, ◌+ℤ◌, ◌*ℤ◌, nat_abs, ◌<ℤ◌, ◌≤ℤ◌}
 use Rattle.std.proofs.Common.{sym, ◌∙◌, ap, subst, zero-le, arith, div-le_self, mod-lt, lt_of_lt_of_le, lit≤, pow_pos}
 use Rattle.std.proofs.Math.Nat.{div-add-mod}
-use Rattle.std.specs.Int.Signed.{quot_z, rem_z, le_z, lt_z, le_z_yes, lt_z_yes}
+use Rattle.std.specs.Int.Signed.{quot_z, rem_z, le_z, lt_z, le_z_yes, lt_z_yes, mag, non_neg}
 use Rattle.std.specs.Int.Bits.{bit_and}
 use Rattle.std.proofs.lemmas.Nat.{and_mask}
 use Rattle.std.specs.Int.{Width, w32, w64}
 use mir.Val.{SFits, hbits, to_z, of_z}
 use Rattle.std.proofs.Math.Facts.{to_z_pos}
-use Rattle.ring.specs.laws.Parts.{◌⁺, ◌⁻, same, sum, product, opposite, abs, le_no}
-use Rattle.ring.specs.laws.Difference.{<_parts}
+use Rattle.ring.specs.laws.Parts.{◌⁺, ◌⁻, same, sum, product, opposite, abs, le_no, lt_no}
+use Rattle.ring.specs.laws.Difference.{≤_parts, <_parts}
 use Rattle.integer.specs.definitions.Rounding.{parity}
 
 -- ---- ranges
@@ -30,7 +30,14 @@ pub within : (w : Width) (z : ℤ) → SFits w z → Within w z
 within w (pos a) h = record { p = h.sfits; n = zero-le }
 within w (negsuc a) h = record { p = pow_pos (hbits w); n = h.sfits }
 
--- a number that 32 bits hold, 64 bits hold
+pub non_neg_lem : (z : ℤ) → z ⁻ ≡ 0 → T (non_neg z)
+non_neg_lem (pos a) h = tt
+non_neg_lem (negsuc a) h = absurd (omega arith)
+
+-- a number that 32 bits hold, 64 bits hold: the first of its size, the second of the range
+pub read_widens : {z : ℤ} → mag z < 2 ^ 31 → SFits w64 z
+read_widens {z} h = record { sfits = lt_of_lt_of_le h (lit≤ tt) }
+
 pub fits_widens : {z : ℤ} → SFits w32 z → SFits w64 z
 fits_widens {z} h = record { sfits = lt_of_lt_of_le h.sfits (lit≤ tt) }
 
@@ -44,6 +51,9 @@ le_false a b e = (<_parts b a).1 (le_no a b e)
 
 pub lt_true : (a b : ℤ) → lt_z a b ≡ true → a <ℤ b
 lt_true a b e = lt_z_yes (subst T (sym e) tt)
+
+pub lt_false : (a b : ℤ) → lt_z a b ≡ false → b ≤ℤ a
+lt_false a b e = (≤_parts b a).1 (lt_no a b e)
 
 pub both_true : (a b : Bool) → (a && b) ≡ true → (a ≡ true) × (b ≡ true)
 both_true true b e = (refl, e)
@@ -60,6 +70,10 @@ above_one d h = let p = (<_parts (pos 1) d).0 h in ((<_parts (pos 0) d).1 (omega
 pub positive_is : (d : ℤ) → 0 < d ⁺ → d ≡ pos (nat_abs d)
 positive_is (pos n) h = refl
 positive_is (negsuc n) h = absurd (omega arith)
+
+pub positive_bits : (w : Width) (d : ℤ) → 0 < d ⁺ → 0 < of_z w d
+positive_bits w (pos n) h = h
+positive_bits w (negsuc n) h = absurd (omega arith)
 
 -- ---- the lowest bit
 

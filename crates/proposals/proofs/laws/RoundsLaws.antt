@@ -1,6 +1,6 @@
 -- Steps of the loops over rounds and changes; what is made is finite, and its outcome carries the record's change.
-use Rattle.std.specs.Prelude.{◌≡◌, refl, Bool, true, false, cond, List, [], ◌∷◌, map, ℕ, zero, suc, T, get_or, set, Float}
-use Rattle.std.proofs.Common.{sym, subst}
+use Rattle.std.specs.Prelude.{◌≡◌, refl, Bool, true, false, cond, List, [], ◌∷◌, map, ℕ, zero, suc, ◌+◌, ◌<◌, ◌≤◌, T, length, get_or, drop, set, Float}
+use Rattle.std.proofs.Common.{sym, ◌∙◌, subst, add-one, drop_of_length-le, drop-cons}
 use Rattle.std.specs.Float.{nan, binary64}
 use Rattle.std.specs.Float.Ieee.{sub, le}
 use Rattle.std.specs.Float.Ieee.Bits.{is_true}
@@ -26,9 +26,23 @@ pub change_turn : (d x y : Float) {u v : Float} {a a' b b' : List Float} → a �
 unfolding change_from
 change_turn d x y ea eb ex ey = rw (ea, eb, ey, ex)
 
-pub change_end : (d : Float) (a b : List Float) → a ≡ [] → change_from d a b ≡ d
+pub change_none : (d : Float) (a b : List Float) → a ≡ [] → change_from d a b ≡ d
 unfolding change_from
-change_end d a b e = rw e
+change_none d a b e = rw e
+
+-- the same by places
+change_step : (d : Float) (a b : List Float) (k : ℕ) → k < length a → k < length b
+    → change_from d (drop k a) (drop k b) ≡ change_from (greater d (difference (get_or a k nan) (get_or b k nan))) (drop (k + 1) a) (drop (k + 1) b)
+unfolding change_from
+change_step d a b k h l = rw (drop-cons a k nan h, drop-cons b k nan l, add-one k)
+
+pub change_end : (d : Float) (a b : List Float) (k : ℕ) → length a ≤ k → change_from d (drop k a) (drop k b) ≡ d
+unfolding change_from
+change_end d a b k h = rw (drop_of_length-le a {i = k} h)
+
+pub change_again : (a b : List Float) (k : ℕ) (d₀ d x y : Float) → k < length a → k < length b → change_from d (drop k a) (drop k b) ≡ change_from d₀ a b
+    → x ≡ difference (get_or a k nan) (get_or b k nan) → y ≡ greater d x → change_from y (drop (k + 1) a) (drop (k + 1) b) ≡ change_from d₀ a b
+change_again a b k d₀ d x y h l i ex ey = rw (ey, ex) (sym (change_step d a b k h l)) ∙ i
 
 -- ---- a round, as the loop takes it: n rounds are left, n' after it
 

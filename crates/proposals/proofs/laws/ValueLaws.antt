@@ -1,10 +1,10 @@
 -- Constants as code has them, by their bits; the test for finite values.
-use Rattle.std.specs.Prelude.{◌≡◌, refl, Bool, true, false, not, ◌&&◌, List, [], ◌∷◌, ℕ, zero, suc, ◌<◌, T, length, get_or, Float}
-use Rattle.std.proofs.Common.{ap, sym, arith, ◌∙◌, subst}
+use Rattle.std.specs.Prelude.{◌≡◌, refl, Bool, true, false, not, ◌&&◌, List, [], ◌∷◌, ℕ, zero, suc, ◌+◌, ◌<◌, ◌≤◌, T, length, get_or, drop, Float}
+use Rattle.std.proofs.Common.{ap, sym, arith, add-one, ◌∙◌, subst, drop_of_length-le, drop-cons}
 use Rattle.std.specs.Bool.{MatchBool}
 use Rattle.std.specs.List.{AllWithin, HoldsAt}
 use Rattle.std.specs.Float.{nan, inf, fin, binary64, float_is_finite}
-use Rattle.std.specs.Float.Ieee.{of_bits, is_nan}
+use Rattle.std.specs.Float.Ieee.{of_bits, lt, is_nan}
 use Rattle.std.specs.Float.Ieee.Bits.{is_true}
 use Rattle.std.specs.Float.Ieee.Fits.{and_l, and_r}
 use Rattle.std.specs.Float.Ieee.Scale.{finite}
@@ -31,6 +31,29 @@ unfolding of_bits
 limit_is = refl
 
 -- ---- finite values
+
+-- between the infinities
+pub finite_between : (x : Float) → lt (inf true) x && lt x (inf false) ≡ finite x
+unfolding lt
+finite_between nan = refl
+finite_between (inf true) = refl
+finite_between (inf false) = refl
+finite_between (fin s m e) = refl
+
+pub finite_step : (a : List Float) (k : ℕ) → k < length a → all_finite (drop k a) ≡ finite (get_or a k nan) && all_finite (drop (k + 1) a)
+unfolding all_finite
+finite_step a k h = rw (drop-cons a k nan h, add-one k)
+
+pub finite_end : (a : List Float) (k : ℕ) → length a ≤ k → all_finite (drop k a) ≡ true
+unfolding all_finite
+finite_end a k h = rw (drop_of_length-le a {i = k} h)
+
+-- turns of a loop over a list: it has found a value that is not finite, or goes on
+pub finite_stop : (a : List Float) (k : ℕ) (b : Bool) → k < length a → all_finite (drop k a) ≡ all_finite a → b ≡ finite (get_or a k nan) → b ≡ false → false ≡ all_finite a
+finite_stop a k b h i e f = sym (sym i ∙ finite_step a k h ∙ rw (← e, f))
+
+pub finite_again : (a : List Float) (k : ℕ) (b : Bool) → k < length a → all_finite (drop k a) ≡ all_finite a → b ≡ finite (get_or a k nan) → b ≡ true → all_finite (drop (k + 1) a) ≡ all_finite a
+finite_again a k b h i e f = sym (sym i ∙ finite_step a k h ∙ rw (← e, f))
 
 -- std's test
 pub finite_is : (x : Float) → float_is_finite x ≡ finite x

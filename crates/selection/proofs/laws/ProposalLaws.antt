@@ -1,12 +1,13 @@
 -- One proposal: where it or the scratch is short, where it passes, and what a test that passes says of its coefficients.
 use Rattle.std.specs.Prelude.{◌≡◌, Bool, List, Result, Ok, Err, IfOk, ℕ, ◌≤◌, ◌<◌, ltb, ℤ, length, take, drop}
+use Rattle.std.specs.Result.{result_map_both}
 use Rattle.std.proofs.Math.Path.{refl, ap}
 use Rattle.std.proofs.Common.{sym, ◌∙◌, arith, ltb-true, ltb-false, le-ltb, lt-ltb}
 use Rattle.std.proofs.Math.Bool.{true, false, cond}
 use Rattle.model.specs.definitions.Models.{product_size, make_model, zero_model}
 use Rattle.model.specs.definitions.Area.{candidate_size, area_candidate}
 use Rattle.model.proofs.laws.AreaLaws.{candidate_front}
-use Rattle.model.specs.definitions.Outcomes.{Outcome, accepted, refused, map_outcome}
+use Rattle.model.specs.definitions.Outcomes.{Outcome, accepted, refused, map_outcome, judged}
 use Rattle.model.proofs.laws.PlaceLaws.{refused_not_accepted}
 use Rattle.model.specs.definitions.Allowed.{AllowsAt}
 use Rattle.model.specs.declared.types.Model.{Model}
@@ -68,6 +69,12 @@ module _ (len : ℕ) (f g : Model) (s : List ℤ) where
       e ∙ (λ k. quotient_test len f g (i k) (j k)) ∙ sym (proposal_long long)
 
   -- and its radius from the test's result
+  pub proposal_read : (t : Result CodeCertificate Refusal) → test_of t ≡ proposal_test len f g s
+      → judged 0 (result_map_both (λ (c : CodeCertificate). c.model.radius) (λ (r : Refusal). r) t) ≡ proposal_radius len f g s
+  unfolding zero_model
+  proposal_read (Ok c) e = ap (map_outcome result_radius) e
+  proposal_read (Err r) e = ap (map_outcome result_radius) e
+
   pub passed_radius : (c : Certificate) → accepted c ≡ proposal_test len f g s → accepted (result_radius c) ≡ proposal_radius len f g s
   passed_radius c e = ap (map_outcome result_radius) e
 

@@ -1,6 +1,6 @@
 -- What a selection tells of the two proposals, what the lent numbers mean, and how long the scratch must be.
 use Rattle.std.specs.Prelude.{◌≡◌, refl, ◌⊎◌, Bool, true, false, cond, List, ℕ, ◌≤◌, ◌<◌, min, eqb, ltb, ℤ, Result, Ok, Err}
-use Rattle.std.proofs.Common.{sym, ◌∙◌, ap, inl, inr, ⊎_elim, arith, ltb-true, ltb-false, eqb-true}
+use Rattle.std.proofs.Common.{sym, ◌∙◌, ap, inl, inr, ⊎_elim, arith, ltb-true, ltb-false, le-ltb, lt-ltb, eqb-true}
 use Rattle.std.proofs.Math.Path.{ap₂}
 use Rattle.model.specs.definitions.Models.{product_size, zero_model}
 use Rattle.model.specs.definitions.Outcomes.{Outcome, accepted, refused, number, payload, map_outcome}
@@ -15,6 +15,28 @@ use Rattle.selection.specs.definitions.Promise.{Tightest}
 use Rattle.selection.proofs.laws.ProposalLaws.{proposal_as_65, proposal_below_16}
 use Rattle.selection.specs.declared.types.Chosen.{Chosen}
 use Rattle.selection.specs.declared.types.Chosen.TheVariants.{First, Second}
+
+-- ---- the cases, as the code meets them
+
+pub smaller_second : (e d : ℕ) → d < e → tighter (accepted e) (accepted d) ≡ accepted (make_selected 2 d)
+unfolding tighter
+smaller_second e d h = rw (lt-ltb d e h)
+
+pub first_not_larger : (e d : ℕ) → e ≤ d → tighter (accepted e) (accepted d) ≡ accepted (make_selected 1 e)
+unfolding tighter
+first_not_larger e d h = rw (le-ltb d e h)
+
+pub only_first : (e m z : ℕ) → tighter (accepted e) (refused m z) ≡ accepted (make_selected 1 e)
+unfolding tighter
+only_first e m z = refl
+
+pub only_second : (n z d : ℕ) → tighter (refused n z) (accepted d) ≡ accepted (make_selected 2 d)
+unfolding tighter
+only_second n z d = refl
+
+pub neither : (n z m y : ℕ) → tighter (refused n z) (refused m y) ≡ refused n (make_selected 0 0)
+unfolding tighter
+neither n z m y = refl
 
 -- ---- the chosen proposal
 

@@ -8,7 +8,7 @@ use Rattle.job.specs.definitions.Decode.{Command}
 use Rattle.job.specs.definitions.Outcomes.{accepted, refused}
 use Rattle.job.specs.definitions.Reader.{JobReading, well, ill, job_reading}
 use Rattle.survey.specs.definitions.Editions.{converted, edition_conversion, conversion_by, output_by, output_after}
-use Rattle.survey.specs.definitions.InnerContracts.{reading_outcome}
+use Rattle.survey.specs.definitions.InnerContracts.{reading_outcome, short_output}
 
 -- ---- what an outcome says of the reading
 
@@ -34,6 +34,13 @@ module _ (job : List ℕ) where
   pub conversion_ill : (room : ℕ) {n k : ℕ} → job_reading job ≡ ill n k → edition_conversion job room ≡ refused n k
   unfolding edition_conversion
   conversion_ill room e = ap (conversion_by job room) e
+
+  pub conversion_refused : (room : ℕ) → room < length job → short_output (reading_outcome (job_reading job)) ≡ edition_conversion job room
+  conversion_refused room h = by (job_reading job) refl
+    where
+      by : (j : JobReading) → job_reading job ≡ j → short_output (reading_outcome j) ≡ edition_conversion job room
+      by (well cs) e = sym (conversion_short room e h)
+      by (ill n k) e = sym (conversion_ill room e)
 
   -- ---- the output
 

@@ -19,7 +19,7 @@ use Rattle.job.specs.declared.types.Kind.TheVariants.{End, Edition, Result, Unkn
 use Rattle.job.specs.definitions.Operations.{Maker}
 use Rattle.survey.specs.definitions.Degrees.{maker_degree, degrees_after}
 use Rattle.survey.specs.definitions.Editions.{command_converted, convert_from}
-use Rattle.survey.specs.definitions.InnerContracts.{Converting, degree_made}
+use Rattle.survey.specs.definitions.InnerContracts.{Advancing, Converting, degree_made}
 use Rattle.survey.proofs.laws.AdvanceLaws.{Advanced, held_length, held_more, room_left, degree_added, degrees_left}
 use Rattle.survey.proofs.laws.ConvertedCommand.{convert_by, next_for, places_for, kind_at}
 
@@ -194,9 +194,9 @@ module _ {job begun out list : List ℕ} {count at k : ℕ} (w : Walking job beg
         by Unknown e r c = absurd (false≢true e)
 
     -- any other command
-    walk_again : is_end kind ≡ false → (r : ℕ) (list' out' : List ℕ) → Advanced kind job at list count out r list' out'
+    walk_on : is_end kind ≡ false → (r : ℕ) (list' out' : List ℕ) → Advanced kind job at list count out r list' out'
         → length list' ≡ max_results → Walking job begun out' list' r next (k + 1)
-    walk_again e r list' out' d n =
+    walk_on e r list' out' d n =
         subst (λ (a : ℕ). Walking job begun out' list' r a (k + 1)) there.next_is (by kind e there.passed reads_by converts_by d)
       where
         -- the count is the number of degrees
@@ -234,10 +234,20 @@ module _ {job begun out list : List ℕ} {count at k : ℕ} (w : Walking job beg
             }
         by Unknown e p q c d = absurd (true≢false p.1.0)
 
+    -- of a list that holds the degrees at its front
+    pub found_advancing : Advancing kind job at list count
+    found_advancing =
+        let p = there.passed in
+        record { names = p.1.1.1.1.0; space = p.1.1.1.1.1.0; room = ltb-false _ _ p.1.1.0; few = w.few; long = w.long }
+
+    pub walk_again : is_end kind ≡ false → (r : ℕ) (list' out' : List ℕ) → Advanced kind job at list count out r list' out'
+        → length list' ≡ max_results → (at < next) × Walking job begun out' list' r next (k + 1)
+    walk_again e r list' out' d n = (found_further.0, walk_on e r list' out' d n)
+
     -- one that makes no result, and one whose result has degree d
     pub walk_left : is_end kind ≡ false → None ≡ degree_made (command_at kind job at) ds → (out' : List ℕ)
         → out' ≡ command_converted (command_at kind job at) job at ds out → Walking job begun out' list count next (k + 1)
-    walk_left e none out' o = walk_again e count list out' ((sym (degrees_left job at list count kind none), w.few), o) w.long
+    walk_left e none out' o = walk_on e count list out' ((sym (degrees_left job at list count kind none), w.few), o) w.long
 
     pub found_room : (d : ℕ) → Some d ≡ degree_made (command_at kind job at) ds → count < max_results
     found_room d made = room_left job at list count kind d made there.passed.1.1.1.1.1.0
@@ -246,7 +256,7 @@ module _ {job begun out list : List ℕ} {count at k : ℕ} (w : Walking job beg
         → out' ≡ command_converted (command_at kind job at) job at ds out → Walking job begun out' (set list count d) (count + 1) next (k + 1)
     walk_added e d made out' o =
         let room = found_room d made in
-        walk_again e (count + 1) (set list count d) out'
+        walk_on e (count + 1) (set list count d) out'
         ((held_more list count d (omega (arith, room, w.long)) ∙ sym (degree_added job at list count kind d made), omega (arith, room)), o)
         (length-set list count d ∙ w.long)
 

@@ -1,10 +1,10 @@
 -- What inner functions ask of their callers and answer to them. The contracts of the entries do not speak of this.
-use Rattle.std.specs.Prelude.{◌≡◌, false, ◌||◌, List, ℕ, ◌+◌, ◌≤◌, ◌<◌, Option, None, Some, leb, length}
+use Rattle.std.specs.Prelude.{◌≡◌, false, ◌&&◌, ◌||◌, List, ℕ, ◌+◌, ◌≤◌, ◌<◌, Option, None, Some, leb, length}
 use Rattle.job.specs.definitions.Bytes.{byte_at}
 use Rattle.job.specs.definitions.Operations.{names_bad}
 use Rattle.job.specs.definitions.Decode.{operands_for, layout_for, maker_at, Command, edition, result, finish, unknown, command_at}
 use Rattle.job.specs.definitions.Outcomes.{JobOutcome, accepted, refused}
-use Rattle.job.specs.definitions.Reading.{bad_names}
+use Rattle.job.specs.definitions.Reading.{max_results, bad_names, makes_result}
 use Rattle.job.specs.definitions.Reader.{JobReading, well, ill}
 use Rattle.job.specs.declared.types.Operation.{Operation}
 use Rattle.job.specs.declared.types.Kind.{Kind}
@@ -34,6 +34,14 @@ pub record Converting (kind : Kind) (job : List ℕ) (at : ℕ) (ds : List ℕ) 
   pub names : bad_names (command_at kind job at) (length ds) ≡ false
   pub room : at + 1 + (layout_for kind).width ≤ length job
 
+-- the same of a list that holds `count` degrees at its front
+pub record Advancing (kind : Kind) (job : List ℕ) (at : ℕ) (list : List ℕ) (count : ℕ) : Type 0 where
+  pub names : bad_names (command_at kind job at) count ≡ false
+  pub space : (makes_result kind && leb max_results count) ≡ false
+  pub room : at + 1 + (layout_for kind).width ≤ length job
+  pub few : count ≤ max_results
+  pub long : length list ≡ max_results
+
 -- the degree of the result that a command makes
 abbrev pub degree_made : Command → List ℕ → Option ℕ
 degree_made edition ds = None
@@ -45,3 +53,8 @@ degree_made unknown ds = None
 abbrev pub reading_outcome : JobReading → JobOutcome ℕ
 reading_outcome (well cs) = accepted (length cs)
 reading_outcome (ill n k) = refused n k
+
+-- what is answered where the output is too short
+abbrev pub short_output : JobOutcome ℕ → JobOutcome ℕ
+short_output (accepted count) = refused 20 0
+short_output (refused n k) = refused n k

@@ -12,7 +12,7 @@ use Rattle.model.proofs.laws.ModelLaws.{good_is}
 use Rattle.certificate.specs.definitions.Tests.{scratch_size, placed}
 use Rattle.certificate.specs.definitions.InnerContracts.{root_reach, make_reach}
 use Rattle.certificate.proofs.laws.NumbersStages.{numbers_helper, numbers_not_contracting, numbers_large_residual, numbers_reached}
-use Rattle.certificate.proofs.laws.RootStages.{root_reached_is, root_last}
+use Rattle.certificate.proofs.laws.RootStages.{root_reached_is, root_numbers_last}
 use Rattle.certificate.proofs.laws.Stages.{standard_good, root_contraction_standard, root_residual_standard}
 use Rattle.certificate.proofs.root.numbers_of_good.Goals as goal
 use Rattle.certificate.proofs.root.numbers_of_good.Goals.{After-displacement-b}
@@ -73,7 +73,7 @@ invariant_of-result c =
     let m = c.root_contraction-m.result in
     let n = c.root_residual-n.result in
     let b = c.displacement-b.result in
-    record { last = root_last scratch_size a.f a.h.now a.w.candidate.now a.w.weight m n b (root_reached_is scratch_size a.f a.h.now a.w.candidate.now a.w.weight m n b (reached c)) }
+    record { last = root_numbers_last scratch_size a.f a.h.now a.w.candidate.now a.w.weight m n b (root_reached_is scratch_size a.f a.h.now a.w.candidate.now a.w.weight m n b (reached c)) }
 
 pub returns : goal.returns
 returns c = sym (reached c.before)

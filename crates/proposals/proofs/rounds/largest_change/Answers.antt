@@ -8,7 +8,7 @@ use mathlib.Core.List.{List}
 use Rattle.std.proofs.lemmas.Iterator.{empty_from_Zip}
 use Rattle.proposals.specs.definitions.Rounds.{change_from}
 use Rattle.proposals.proofs.laws.ValueLaws.{nought_is}
-use Rattle.proposals.proofs.laws.RoundsLaws.{change_turn, change_end}
+use Rattle.proposals.proofs.laws.RoundsLaws.{change_turn, change_none}
 use Rattle.proposals.proofs.rounds.largest_change.Goals as goal
 
 -- the iterator begins with both lists
@@ -30,4 +30,4 @@ pub returns : goal.returns
 returns c =
     let l = c.loop-x in
     let e = empty_from_Zip l.x-iterator c.next.new.self c.next.result c.in-None.is c.next.ensures.steps l.invariant.0 in
-    sym (change_end l.change l.x-iterator.a.rest.now l.x-iterator.b.rest.now e.0) ∙ l.invariant.1
+    sym (change_none l.change l.x-iterator.a.rest.now l.x-iterator.b.rest.now e.0) ∙ l.invariant.1
