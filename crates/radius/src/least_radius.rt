@@ -20,7 +20,7 @@ struct Inequality {
 }
 
 impl Inequality {
-    // Does r satisfy? Formed as (2·M·r)·r, every number is below 2^61; 2·M·r is at most 2^39 + 2^29 up to v + 1, see `least_radius`.
+    // Does r satisfy? Formed as (2·M·r)·r, every number is below 2^61; 2·M·r is at most 2^39 + 2^29 up to v + 1 (`least_radius`).
     fn satisfies(self, r: u64) -> bool
         requires { (r ≤ scale) × (2 * self.weight * r ≤ 2 ^ 39 + 2 ^ 29) }
         ensures { result ≡ radius_satisfies self.weight self.m self.b r }
