@@ -24,7 +24,7 @@ use Rattle.job.specs.definitions.Requirement.{Requirement3}
 use Rattle.job.proofs.laws.RequirementLaws.{refused_required, required_behind}
 use Rattle.job.specs.definitions.InnerContracts.{Clear}
 use Rattle.job.specs.declared.types.RefusedCommand.{RefusedCommand}
-use Rattle.job.proofs.Loop.{Ran}
+use Rattle.job.proofs.LoopStates.{Ran}
 use Rattle.job.proofs.laws.RecordLaws.{length-zero_bytes}
 
 -- an area whose first n numbers were cleared

@@ -1,53 +1,35 @@
 -- The loop over a job's commands: its invariant, a turn, and its ends.
 use mathlib.Core.Path.{◌≡◌, refl, ap, sym, ◌∙◌, subst⁻¹}
 use mathlib.Core.Logic.{inr}
-use mathlib.Core.List.{List, [], ◌++◌, map}
+use mathlib.Core.List.{List, [], ◌++◌}
 use Prim.Native.Nat.{ℕ, ◌+◌, ◌≤◌, ◌<◌}
 use native.Mathlib.Omega.{arith}
-use Rattle.std.specs.Prelude.{Result, Ok, Err, Some, None}
+use Rattle.std.specs.Prelude.{Ok, Err, Some, None}
 use lib.IntN.{ℤ}
 use lib.ListN.{length, drop}
 use Rattle.model.specs.definitions.Outcomes.{number_of}
 use Rattle.integer.specs.definitions.Lists.{zeros}
 use Rattle.model.specs.declared.types.Model.{Model}
 use Rattle.model.specs.declared.types.Refusal.{Refusal}
-use Rattle.job.specs.definitions.Reading.{max_results}
-use Rattle.job.specs.definitions.Outcomes.{accepted, refused, job_outcome_of, counted}
+use Rattle.job.specs.definitions.Outcomes.{accepted, refused}
 use Rattle.job.specs.definitions.Step.{Step, more, over, command}
 use Rattle.job.specs.definitions.Run.{job_outcome}
-use Rattle.job.specs.definitions.Work.{work_size, work_with, result_words, results_in}
-use Rattle.job.specs.definitions.Order.{Reaches, start}
+use Rattle.job.specs.definitions.Work.{work_size, work_with, result_words}
+use Rattle.job.specs.definitions.Order.{start}
 use Rattle.job.proofs.laws.OrderLaws.{reaches_bounds, stops_there, ends_there, moves_on, refused_exactly}
-use Rattle.job.specs.definitions.InnerContracts.{Holds, CodeStep, Stepped, StepsBy, RecordsBy, ClearedRoom, recorded_from, added_at}
+use Rattle.job.specs.definitions.InnerContracts.{CodeStep, Stepped, StepsBy, RecordsBy, ClearedRoom, recorded_from, added_at}
 use Rattle.job.specs.definitions.Reader.{read_from, job_reading}
-use Rattle.job.specs.definitions.Reports.{certificate_by, job_certificates, zero_bytes, room_size, room_with}
-use Rattle.job.proofs.laws.Accepted.{Reached}
+use Rattle.job.specs.definitions.Reports.{zero_bytes, room_size}
 use Rattle.job.proofs.laws.CertificateLaws.{certificates_onward}
 use Rattle.job.specs.declared.types.Report.{Report}
 use Rattle.job.specs.declared.types.Progress.{Progress}
-use Rattle.job.specs.declared.types.RefusedCommand.{RefusedCommand}
 use Rattle.job.specs.definitions.Requirement.{Requirement3, nothing}
 use Rattle.job.proofs.laws.RequirementLaws.{refused_required}
 use Rattle.job.proofs.Results.{behind}
 use Rattle.job.proofs.laws.RecordLaws.{room_empty}
 use Rattle.job.proofs.LoopRooms.{room_again, room_ended, room_refused}
 use Rattle.job.proofs.Requirement.{requirement}
-
--- the invariant: command k is reached at a position with the results that the work area holds, and their records stand in the
--- room; `begun` and `bare` are the area and the room where the loop begins
-pub record Going (report : Report) (job : List ℕ) (begun work : List ℤ) (bare room : List ℕ) (at k count : ℕ) : Type 0 where
-  pub rs : List Model
-  pub reaches : Reaches job k rs at
-  pub holds : Holds work count rs (drop work_size begun)
-  pub long : work_size ≤ length begun
-  pub same : length work ≡ length begun
-  pub few : count ≤ max_results
-  pub number : k ≤ at
-  pub position : at ≤ length job
-  pub there : Reached job k rs at
-  pub room_is : room ≡ room_with report (map (certificate_by rs) there.cs) ++ drop (room_size report) bare
-  pub roomy : room_size report ≤ length bare
-  pub same_room : length room ≡ length bare
+use Rattle.job.proofs.LoopStates.{Going, Ran}
 
 pub going_begins : (report : Report) (job : List ℕ) (w : List ℤ) (room : List ℕ) → work_size ≤ length w
     → w ≡ zeros work_size ++ drop work_size w → ClearedRoom report room → Going report job w w room room 0 0 0
@@ -66,13 +48,6 @@ going_begins report job w room long e r = record {
   roomy = r.long;
   same_room = refl;
 }
-
--- what the run answers and leaves
-pub record Ran (report : Report) (job : List ℕ) (begun : List ℤ) (bare : List ℕ) (r : Result ℕ RefusedCommand) (work : List ℤ) (room : List ℕ) : Type 0 where
-  pub answer : job_outcome_of r ≡ counted (job_outcome job)
-  pub work_is : work ≡ work_with (results_in (job_outcome job)) ++ drop work_size begun
-  pub claim : Requirement3 [] job (job_outcome_of r) work
-  pub room_is : room ≡ room_with report (job_certificates job) ++ drop (room_size report) bare
 
 module _ {report : Report} {job : List ℕ} {begun work : List ℤ} {bare room : List ℕ} {at k count : ℕ}
     (g : Going report job begun work bare room at k count) (work' : List ℤ) (room' : List ℕ)

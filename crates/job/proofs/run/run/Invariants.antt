@@ -3,7 +3,7 @@ use mathlib.Core.Path.{◌≡◌}
 use Prim.Native.Nat.{◌-◌}
 use lib.ListN.{length}
 use Rattle.job.specs.definitions.InnerContracts.{Clear}
-use Rattle.job.proofs.Loop.{Going}
+use Rattle.job.proofs.LoopStates.{Going}
 use Rattle.job.proofs.run.run.Given as goal
 
 abbrev pub invariant-loop-after : goal.invariant-loop-after
