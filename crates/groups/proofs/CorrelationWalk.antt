@@ -25,6 +25,9 @@ module _ (a b : List ℤ) where
     pub first : total.first +ℤ correlation ℤ_ring (k + i) (drop i a) b ≡ start.first +ℤ correlation ℤ_ring k a b
     pub second : total.second +ℤ correlation ℤ_ring (k + i + 1) (drop i a) b ≡ start.second +ℤ correlation ℤ_ring (k + 1) a b
 
+  pub correlation_begins : (k : ℕ) (start : TwoPlaces) → k < length b → CorrelationSoFar k start start 0
+  correlation_begins k start h = let e : k + 0 ≡ k = omega arith in record { inside = omega arith; first = rw e; second = rw e }
+
   module _ {k : ℕ} {start total : TwoPlaces} {i : ℕ} (w : CorrelationSoFar k start total i) where
     pub correlation_below : Below (2 ^ 61) start → weight a * weight b ≤ 2 ^ 56 → Below (2 ^ 62) total
     correlation_below h small = (

@@ -43,22 +43,28 @@ loading_storable m =
 
 -- ---- the results that a command names
 
+module _ {w : List ℤ} {count : ℕ} {rs : List Model} {t : List ℤ} (h : Holds w count rs t) where
+  pub held_one : (f : Model → Outcome Certificate) (m : Model) (i : ℕ) → m ≡ stored_result w i → leb count i ≡ false → f m ≡ f (result_at rs i)
+  held_one f m i e n = ap f (e ∙ result_held h i (leb-false count i n))
+
+  pub held_two : (f : Model → Model → Outcome Certificate) (m₁ m₂ : Model) (i j : ℕ) → m₁ ≡ stored_result w i → m₂ ≡ stored_result w j
+      → (leb count i || leb count j) ≡ false → f m₁ m₂ ≡ f (result_at rs i) (result_at rs j)
+  held_two f m₁ m₂ i j e₁ e₂ n =
+      let b = both_below count i j n in
+      ap₂ f (e₁ ∙ result_held h i b.0) (e₂ ∙ result_held h j b.1)
+
 -- an outcome that f gives for one of them, or for two
 pub performs_one : {m : Maker} {w : List ℤ} {o : Outcome Certificate} (f : Model → Outcome Certificate) (a : Model) (i : ℕ) → o ≡ f a
     → Storable (payload (f a)).model → a ≡ stored_result w i → ((count : ℕ) → names_bad m count ≡ false → leb count i ≡ false)
     → ((rs : List Model) → operation m rs ≡ f (result_at rs i)) → Performs m w o
-performs_one f a i e s p named g =
-    performs e s (λ count rs t h n. ap f (p ∙ result_held h i (leb-false count i (named count n))) ∙ sym (g rs))
+performs_one f a i e s p named g = performs e s (λ count rs t h n. held_one h f a i p (named count n) ∙ sym (g rs))
 
 pub performs_two : {m : Maker} {w : List ℤ} {o : Outcome Certificate} (f : Model → Model → Outcome Certificate) (a b : Model) (i j : ℕ) → o ≡ f a b
     → Storable (payload (f a b)).model → a ≡ stored_result w i → b ≡ stored_result w j
     → ((count : ℕ) → names_bad m count ≡ false → (leb count i || leb count j) ≡ false)
     → ((rs : List Model) → operation m rs ≡ f (result_at rs i) (result_at rs j)) → Performs m w o
 performs_two f a b i j e s p q named g =
-    performs e s
-    (λ count rs t h n.
-    let below = both_below count i j (named count n) in
-    ap₂ f (p ∙ result_held h i below.0) (q ∙ result_held h j below.1) ∙ sym (g rs))
+    performs e s (λ count rs t h n. held_two h f a b i j p q (named count n) ∙ sym (g rs))
 
 -- ---- an arm of a match on an operation, where it is known which it is
 

@@ -20,6 +20,14 @@ zero_bytes-append m n = replicate-append-replicate m n 0
 
 -- ---- one record
 
+-- bytes stored one after the other from a position on
+pub four_stored : (l : List ℕ) (at a b c d : ℕ) → set (set (set (set l at a) (at + 1) b) (at + 2) c) (at + 3) d ≡ sets l at (a ∷ b ∷ c ∷ d ∷ [])
+four_stored l at a b c d =
+    let e : at + 1 ≡ suc at = omega arith in
+    let f : at + 2 ≡ suc (suc at) = omega arith in
+    let g : at + 3 ≡ suc (suc (suc at)) = omega arith in
+    λ k. set (set (set (set l at a) (e k) b) (f k) c) (g k) d
+
 -- number and degree, then the fields, of four bytes each
 module _ (l : List ℕ) (at i degree : ℕ) where
   abbrev two : List ℕ
