@@ -11,7 +11,6 @@ ghost use Rattle.ferruntzo.specs.definitions.Jobs.{report_answer, room_left, exp
 use job::run::{check, check_and_report};
 use job::types::{JobOutcome, Report};
 use model::types::number_of;
-use survey::areas::clear;
 use survey::editions::convert_edition;
 
 // The count of results or the length, and the number of the refused command.
@@ -144,7 +143,7 @@ pub extern "C" fn ferruntzo_convert_edition(job: &[u8], out: &mut [u8], answer: 
         let outcome = convert_edition(job, out);
         write_answer(outcome, answer)
     } else {
-        clear(out);
+        out.fill(0);
         SHORT_AREA
     }
 }

@@ -1,13 +1,13 @@
 // Add, subtract, multiply, integrate and evaluate over lent areas. Each answers and writes what the definition gives for the
 // models that the areas hold; if an area is too short, refusal 1 and zeros.
 ghost use Rattle.std.specs.Prelude.{◌≡◌};
-ghost use Rattle.model.specs.definitions.Outcomes.{outcome_of};
+ghost use Rattle.model.specs.definitions.Outcomes.{Outcome, outcome_of};
 ghost use Rattle.model.specs.definitions.Area.{Storable};
 ghost use Rattle.model.specs.definitions.Add.{addition, subtraction};
 ghost use Rattle.model.specs.definitions.Multiply.{multiplication};
 ghost use Rattle.model.specs.definitions.Integrate.{integration};
 ghost use Rattle.model.specs.definitions.Evaluate.{bounds_of};
-ghost use Rattle.ferruntzo.specs.definitions.Operations.{operation_for, short_outcome, outcome_in, operation_answer};
+ghost use Rattle.ferruntzo.specs.definitions.Operations.{Computes, short_outcome, outcome_in, operation_answer};
 ghost use Rattle.ferruntzo.specs.definitions.Operations.{binary_answer, unary_answer};
 ghost use Rattle.ferruntzo.specs.definitions.Operations.{bounds_in, evaluation_answer, evaluate_answer};
 
@@ -18,24 +18,6 @@ use model::evaluate::evaluate;
 use model::integrate::integrate;
 use model::multiply::multiply;
 use model::types::{BoundsOutcome, Model, ModelOutcome, Refusal, Verdict, verdict_number};
-
-// An operation on two models; multiply with its kept degree.
-#[derive(Clone, Copy)]
-enum Operation {
-    Add,
-    Subtract,
-    Multiply(u32),
-}
-
-fn operate(operation: Operation, a: Model, b: Model) -> ModelOutcome
-    ensures { outcome_of result ≡ operation_for operation a b }
-{
-    match operation {
-        Operation::Add => add(a, b),
-        Operation::Subtract => subtract(a, b),
-        Operation::Multiply(kept) => multiply(a, b, kept),
-    }
-}
 
 // Stores what an operation answers, and gives the number of its verdict.
 pub(crate) fn answer_operation(answer: ModelOutcome, out: &mut [i32]) -> u32
@@ -58,13 +40,20 @@ pub(crate) fn refuse_operation(out: &mut [i32]) -> u32
     answer_operation(answer, out)
 }
 
-// An operation over lent areas.
-fn perform(operation: Operation, a: &[i32], b: &[i32], out: &mut [i32]) -> u32
-    ensures { operation_answer result out.new
-        ≡ binary_answer (operation_for operation) a.now b.now out.old }
+// An operation on two models over lent areas.
+fn perform<F: Fn(Model, Model) -> ModelOutcome>(
+    operation: F,
+    a: &[i32],
+    b: &[i32],
+    out: &mut [i32],
+) -> u32
+    requires callable { F.IsAlwaysCallable operation }
+    requires storable { (x y : Model) (r : ModelOutcome) → F.post operation x y r → Storable r.model }
+    ensures { (f : Model → Model → Outcome Model) → Computes (F.post operation) f
+        → operation_answer result out.new ≡ binary_answer f a.now b.now out.old }
 {
     if (MODEL_SIZE <= a.len()) & (MODEL_SIZE <= b.len()) & (MODEL_SIZE <= out.len()) {
-        answer_operation(operate(operation, model_in(a), model_in(b)), out)
+        answer_operation(operation(model_in(a), model_in(b)), out)
     } else {
         refuse_operation(out)
     }
@@ -76,7 +65,7 @@ pub extern "C" fn ferruntzo_add(a: &[i32], b: &[i32], out: &mut [i32]) -> u32
     ensures { operation_answer result out.new
         ≡ binary_answer addition a.now b.now out.old }
 {
-    perform(Operation::Add, a, b, out)
+    perform(add, a, b, out)
 }
 
 // a - b.
@@ -85,7 +74,7 @@ pub extern "C" fn ferruntzo_subtract(a: &[i32], b: &[i32], out: &mut [i32]) -> u
     ensures { operation_answer result out.new
         ≡ binary_answer subtraction a.now b.now out.old }
 {
-    perform(Operation::Subtract, a, b, out)
+    perform(subtract, a, b, out)
 }
 
 // a times b, to a kept degree from 0 to 32; 255 means the larger degree of the two.
@@ -94,7 +83,7 @@ pub extern "C" fn ferruntzo_multiply(a: &[i32], b: &[i32], kept: u32, out: &mut 
     ensures { operation_answer result out.new
         ≡ binary_answer (multiplication kept) a.now b.now out.old }
 {
-    perform(Operation::Multiply(kept), a, b, out)
+    perform(|x, y| multiply(x, y, kept), a, b, out)
 }
 
 // The integral of a from its lower end.

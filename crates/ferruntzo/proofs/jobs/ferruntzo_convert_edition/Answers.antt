@@ -1,4 +1,5 @@
 -- `ferruntzo_convert_edition` meets its contract.
+use Rattle.std.proofs.Common.{rules}
 use mathlib.Core.Path.{ap}
 use native.Mathlib.Omega.{arith}
 use lib.ListN.{length}
@@ -33,6 +34,6 @@ pub returns-else-answer-ge-ANSWER_SIZE : goal.returns-else-answer-ge-ANSWER_SIZE
 returns-else-answer-ge-ANSWER_SIZE c =
     let g = c.args in
     record {
-      answer_after = unconverted g.job.now g.out.now g.answer.now c.if-answer-ge-ANSWER_SIZE.false c.clear.ensures;
+      answer_after = unconverted g.job.now g.out.now g.answer.now c.if-answer-ge-ANSWER_SIZE.false (search rules);
       by_index = unconverted_so g.job.now g.out.now g.answer.now _;
     }
