@@ -24,14 +24,14 @@ pub(crate) fn candidate_in(area: &[i32]) -> Candidate
 }
 
 // Stores a model.
+#[tactic(auto, unfolding(model::specs::definitions::Area::area_out))]
 pub(crate) fn store_model(out: &mut [i32], m: Model)
     requires { Storable m }
     ensures { out.new ≡ area_out model_size (words m) out.old }
 {
-    if out.len() < MODEL_SIZE {
-        return;
+    if MODEL_SIZE <= out.len() {
+        write(&mut out[..MODEL_SIZE], m);
     }
-    write(&mut out[..MODEL_SIZE], m);
 }
 
 // Stores the bounds of an evaluation.

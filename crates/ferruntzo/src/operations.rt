@@ -30,6 +30,7 @@ pub(crate) fn answer_operation(answer: ModelOutcome, out: &mut [i32]) -> u32
 }
 
 // Refusal 1 of an operation.
+#[tactic(auto, using(model::proofs::laws::ResultLaws::zero_storable))]
 pub(crate) fn refuse_operation(out: &mut [i32]) -> u32
     ensures { operation_answer result out.new ≡ outcome_in short_outcome out.old }
 {

@@ -16,6 +16,7 @@ use model::types::{Refusal, number_of};
 use selection::select::quotient_of_two;
 
 // Refusal 1 of a selection.
+#[tactic(auto, unfolding(crate::specs::definitions::Selections::selection_in))]
 fn refuse_selection(scratch: &mut [i64], answer: &mut [u32]) -> u32
     ensures { selection_answer result scratch.new answer.new
         ≡ selection_in short_selection scratch.old answer.old }
