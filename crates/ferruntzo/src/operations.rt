@@ -1,6 +1,6 @@
 // Add, subtract, multiply, integrate and evaluate over lent areas. Each answers and writes what the definition gives for the
 // models that the areas hold; if an area is too short, refusal 1 and zeros.
-ghost use Rattle.std.specs.Prelude.{◌≡◌};
+ghost use Rattle.std.specs.Prelude.{◌≡◌, Result, IfOk};
 ghost use Rattle.model.specs.definitions.Outcomes.{Outcome, outcome_of};
 ghost use Rattle.model.specs.definitions.Area.{Storable};
 ghost use Rattle.model.specs.definitions.Add.{addition, subtraction};
@@ -17,46 +17,46 @@ use model::area::{MODEL_SIZE, model_in};
 use model::evaluate::evaluate;
 use model::integrate::integrate;
 use model::multiply::multiply;
-use model::types::{BoundsOutcome, Model, ModelOutcome, Refusal, Verdict, verdict_number};
+use model::types::{Bounds, Model, Refusal};
 
-// Stores what an operation answers, and gives the number of its verdict.
-pub(crate) fn answer_operation(answer: ModelOutcome, out: &mut [i32]) -> u32
-    requires { Storable answer.model }
+// Stores what an operation answers, and gives its number.
+#[tactic(
+    auto,
+    unfolding(crate::specs::definitions::Operations::outcome_in),
+    using(model::proofs::laws::ResultLaws::zero_storable)
+)]
+pub(crate) fn answer_operation(answer: Result<Model, Refusal>, out: &mut [i32]) -> u32
+    requires { IfOk answer Storable }
     ensures { operation_answer result out.new ≡ outcome_in (outcome_of answer) out.old }
 {
-    let verdict = answer.verdict;
-    store_model(out, answer.model);
-    verdict_number(verdict)
-}
-
-// Refusal 1 of an operation.
-#[tactic(auto, using(model::proofs::laws::ResultLaws::zero_storable))]
-pub(crate) fn refuse_operation(out: &mut [i32]) -> u32
-    ensures { operation_answer result out.new ≡ outcome_in short_outcome out.old }
-{
-    let answer = ModelOutcome {
-        verdict: Verdict::Refused(Refusal::ShortArea),
-        model: Model::zero(),
-    };
-    answer_operation(answer, out)
+    match answer {
+        Ok(model) => {
+            store_model(out, model);
+            0
+        }
+        Err(refusal) => {
+            store_model(out, Model::zero());
+            u32::from(refusal)
+        }
+    }
 }
 
 // An operation on two models over lent areas.
-fn perform<F: Fn(Model, Model) -> ModelOutcome>(
+fn perform<F: Fn(Model, Model) -> Result<Model, Refusal>>(
     operation: F,
     a: &[i32],
     b: &[i32],
     out: &mut [i32],
 ) -> u32
     requires callable { F.IsAlwaysCallable operation }
-    requires storable { (x y : Model) (r : ModelOutcome) → F.post operation x y r → Storable r.model }
+    requires storable { (x y : Model) (r : Result Model Refusal) → F.post operation x y r → IfOk r Storable }
     ensures { (f : Model → Model → Outcome Model) → Computes (F.post operation) f
         → operation_answer result out.new ≡ binary_answer f a.now b.now out.old }
 {
     if (MODEL_SIZE <= a.len()) & (MODEL_SIZE <= b.len()) & (MODEL_SIZE <= out.len()) {
         answer_operation(operation(model_in(a), model_in(b)), out)
     } else {
-        refuse_operation(out)
+        answer_operation(Err(Refusal::ShortArea), out)
     }
 }
 
@@ -95,19 +95,25 @@ pub extern "C" fn ferruntzo_integrate(a: &[i32], out: &mut [i32]) -> u32
     if (MODEL_SIZE <= a.len()) & (MODEL_SIZE <= out.len()) {
         answer_operation(integrate(model_in(a)), out)
     } else {
-        refuse_operation(out)
+        answer_operation(Err(Refusal::ShortArea), out)
     }
 }
 
-// Stores what an evaluation answers, and gives the number of its verdict.
-fn answer_evaluation(answer: BoundsOutcome, bounds: &mut [i64]) -> u32
+// Stores what an evaluation answers, and gives its number.
+#[tactic(auto, unfolding(crate::specs::definitions::Operations::bounds_in))]
+fn answer_evaluation(answer: Result<Bounds, Refusal>, bounds: &mut [i64]) -> u32
     ensures { evaluation_answer result bounds.new ≡ bounds_in (bounds_of answer) bounds.old }
 {
-    let verdict = answer.verdict;
-    let low = answer.low;
-    let high = answer.high;
-    store_bounds(bounds, low, high);
-    verdict_number(verdict)
+    match answer {
+        Ok(found) => {
+            store_bounds(bounds, found.low, found.high);
+            0
+        }
+        Err(refusal) => {
+            store_bounds(bounds, 0, 0);
+            u32::from(refusal)
+        }
+    }
 }
 
 // Bounds of the values that a allows at p/S.
@@ -118,11 +124,6 @@ pub extern "C" fn ferruntzo_evaluate(a: &[i32], p: i32, bounds: &mut [i64]) -> u
     if (MODEL_SIZE <= a.len()) & (BOUNDS_SIZE <= bounds.len()) {
         answer_evaluation(evaluate(model_in(a), p), bounds)
     } else {
-        let answer = BoundsOutcome {
-            verdict: Verdict::Refused(Refusal::ShortArea),
-            low: 0,
-            high: 0,
-        };
-        answer_evaluation(answer, bounds)
+        answer_evaluation(Err(Refusal::ShortArea), bounds)
     }
 }

@@ -1,13 +1,13 @@
 -- What an exported operation answers and leaves in its areas. Every function takes areas of every length: one that is too short
 -- for its numbers is refusal 1, before all else. What an area holds afterwards depends on its own length alone.
-use Rattle.std.specs.Prelude.{◌≡◌, cond, ◌&&◌, List, [], ◌∷◌, ℕ, ℤ}
+use Rattle.std.specs.Prelude.{◌≡◌, Result, cond, ◌&&◌, List, [], ◌∷◌, ℕ, ℤ}
 use Rattle.model.specs.definitions.Area.{model_size, words, area_model, fits, area_out}
 use Rattle.model.specs.definitions.Evaluate.{zero_bounds, evaluation}
 use Rattle.model.specs.declared.types.Bounds.{Bounds}
 use Rattle.model.specs.definitions.Models.{zero_model}
 use Rattle.model.specs.definitions.Outcomes.{Outcome, refused, number, payload, outcome_of}
 use Rattle.model.specs.declared.types.Model.{Model}
-use Rattle.model.specs.declared.types.ModelOutcome.{ModelOutcome}
+use Rattle.model.specs.declared.types.Refusal.{Refusal}
 use Rattle.ferruntzo.specs.definitions.Areas.{bounds_size}
 
 -- ---- refusal 1, whichever area is too short
@@ -46,8 +46,8 @@ abbrev pub unary_answer : (Model → Outcome Model) → List ℤ → List ℤ �
 unary_answer f a out = outcome_in (cond (fits model_size a && fits model_size out) (f (area_model a)) short_outcome) out
 
 -- what a call can return by `post` is what f gives
-abbrev pub Computes : (Model → Model → ModelOutcome → Type 0) → (Model → Model → Outcome Model) → Type 0
-Computes post f = (a b : Model) (r : ModelOutcome) → post a b r → outcome_of r ≡ f a b
+abbrev pub Computes : (Model → Model → Result Model Refusal → Type 0) → (Model → Model → Outcome Model) → Type 0
+Computes post f = (a b : Model) (r : Result Model Refusal) → post a b r → outcome_of r ≡ f a b
 
 -- ---- evaluate
 
