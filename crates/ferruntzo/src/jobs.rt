@@ -9,32 +9,28 @@ ghost use Rattle.ferruntzo.specs.definitions.Jobs.{job_answer, check_answer, edi
 ghost use Rattle.ferruntzo.specs.definitions.Jobs.{report_answer, room_left, exported_report_places};
 
 use job::run::{check, check_and_report};
-use job::types::{JobOutcome, Report};
-use model::types::number_of;
+use job::types::{RefusedCommand, Report};
+use model::area::store;
+use model::types::Refusal;
 use survey::editions::convert_edition;
 
 // The count of results or the length, and the number of the refused command.
 const ANSWER_SIZE: usize = 2;
 
-// Document 01's number of an area that is too short.
-const SHORT_AREA: u32 = 1;
-
 // Writes both numbers, and answers the number of the refusal.
-fn write_answer(outcome: JobOutcome, answer: &mut [u32]) -> u32
+fn write_answer(outcome: Result<usize, RefusedCommand>, answer: &mut [u32]) -> u32
     requires { Answerable (job_outcome_of outcome) answer.old }
     ensures value { result ≡ refusal_number (job_outcome_of outcome) }
     ensures answer_after { answer.new ≡ answer_numbers (job_outcome_of outcome) ++ drop answer_size answer.old }
 {
     match outcome {
-        JobOutcome::Accepted(count) => {
-            answer[0] = count as u32;
-            answer[1] = 0;
+        Ok(count) => {
+            store(answer, [count as u32, 0]);
             0
         }
-        JobOutcome::Refused(refusal, command) => {
-            answer[0] = 0;
-            answer[1] = command as u32;
-            number_of(refusal)
+        Err(refused) => {
+            store(answer, [0, refused.command as u32]);
+            u32::from(refused.refusal)
         }
     }
 }
@@ -56,7 +52,7 @@ pub extern "C" fn ferruntzo_check(
         let outcome = check(job, work, scratch);
         write_answer(outcome, answer)
     } else {
-        SHORT_AREA
+        u32::from(Refusal::ShortArea)
     }
 }
 
@@ -83,7 +79,7 @@ fn report_job(
         let outcome = check_and_report(job, work, scratch, report, room);
         write_answer(outcome, answer)
     } else {
-        SHORT_AREA
+        u32::from(Refusal::ShortArea)
     }
 }
 
@@ -144,6 +140,6 @@ pub extern "C" fn ferruntzo_convert_edition(job: &[u8], out: &mut [u8], answer: 
         write_answer(outcome, answer)
     } else {
         out.fill(0);
-        SHORT_AREA
+        u32::from(Refusal::ShortArea)
     }
 }

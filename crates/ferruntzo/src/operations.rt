@@ -11,9 +11,9 @@ ghost use Rattle.ferruntzo.specs.definitions.Operations.{Computes, short_outcome
 ghost use Rattle.ferruntzo.specs.definitions.Operations.{binary_answer, unary_answer};
 ghost use Rattle.ferruntzo.specs.definitions.Operations.{bounds_in, evaluation_answer, evaluate_answer};
 
-use crate::areas::{BOUNDS_SIZE, store_bounds, store_model};
+use crate::areas::{BOUNDS_SIZE, store_model};
 use model::add::{add, subtract};
-use model::area::{MODEL_SIZE, model_in};
+use model::area::{MODEL_SIZE, model_in, store};
 use model::evaluate::evaluate;
 use model::integrate::integrate;
 use model::multiply::multiply;
@@ -88,6 +88,10 @@ pub extern "C" fn ferruntzo_multiply(a: &[i32], b: &[i32], kept: u32, out: &mut 
 }
 
 // The integral of a from its lower end.
+#[tactic(
+    auto,
+    using(crate::proofs::Answering::outcome_storable, model::proofs::laws::ResultLaws::integration_storable)
+)]
 #[unsafe(no_mangle)]
 pub extern "C" fn ferruntzo_integrate(a: &[i32], out: &mut [i32]) -> u32
     ensures { operation_answer result out.new ≡ unary_answer integration a.now out.old }
@@ -106,11 +110,11 @@ fn answer_evaluation(answer: Result<Bounds, Refusal>, bounds: &mut [i64]) -> u32
 {
     match answer {
         Ok(found) => {
-            store_bounds(bounds, found.low, found.high);
+            store(bounds, [found.low, found.high]);
             0
         }
         Err(refusal) => {
-            store_bounds(bounds, 0, 0);
+            store(bounds, [0, 0]);
             u32::from(refusal)
         }
     }

@@ -8,11 +8,11 @@ ghost use Rattle.selection.specs.definitions.Select.{make_selected, part_numbers
 ghost use Rattle.selection.specs.definitions.Promise.{part_model, Tightest};
 ghost use Rattle.ferruntzo.specs.definitions.Selections.{selection_answer, short_selection, selection_in, quotient_of_two_answer};
 
-use crate::areas::{SELECTION_SIZE, store_selected};
+use crate::areas::SELECTION_SIZE;
 use certificate::scratch::clear_scratch;
 use certificate::types::SCRATCH_SIZE;
-use model::area::{MODEL_SIZE, model_in};
-use model::types::{Refusal, number_of};
+use model::area::{MODEL_SIZE, model_in, store};
+use model::types::Refusal;
 use selection::select::quotient_of_two;
 
 // Refusal 1 of a selection.
@@ -22,8 +22,8 @@ fn refuse_selection(scratch: &mut [i64], answer: &mut [u32]) -> u32
         ≡ selection_in short_selection scratch.old answer.old }
 {
     clear_scratch(scratch);
-    store_selected(answer, 0, 0);
-    number_of(Refusal::ShortArea)
+    store(answer, [0; SELECTION_SIZE]);
+    u32::from(Refusal::ShortArea)
 }
 
 // Which of two proposals for f/g is accepted with the smaller radius? Both have one lifetime, as quotient_of_two asks. The last
@@ -68,7 +68,7 @@ pub extern "C" fn ferruntzo_quotient_of_two<'a>(
             &mut chosen,
             &mut radius,
         );
-        store_selected(answer, chosen, radius);
+        store(answer, [chosen, radius]);
         number
     } else {
         refuse_selection(scratch, answer)
