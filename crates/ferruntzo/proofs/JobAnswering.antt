@@ -9,6 +9,7 @@ use native.Mathlib.Omega.{arith}
 use borrow.Author.Tests.{le-leb, lt-leb, ne_eqb}
 use lib.IntN.{ℤ}
 use lib.ListN.{length, drop}
+use Rattle.model.specs.definitions.Area.{area_out}
 use Rattle.model.specs.definitions.Outcomes.{number_of, here}
 use Rattle.model.proofs.laws.OutcomeLaws.{number_of_positive}
 use Rattle.job.specs.definitions.Outcomes.{JobOutcome, job_outcome_of, refusal_number, refused_command, result_count}
@@ -19,24 +20,22 @@ use Rattle.job.proofs.laws.RequirementLaws.{refused_required, required_behind}
 use Rattle.job.specs.declared.types.RefusedCommand.{RefusedCommand}
 use Rattle.ferruntzo.specs.definitions.Jobs.{answer_size, answer_numbers, Answerable, answer_in}
 
-module _ (r : Result ℕ RefusedCommand) (answer : List ℕ) where
-  -- its numbers fit
-  pub answerable : {o : JobOutcome ℕ} → job_outcome_of r ≡ o → Small o → answer_size ≤ length answer → Answerable (job_outcome_of r) answer
-  answerable same small long =
-      record {
-        long = long;
-        count_fits = omega (arith, ap result_count same, small.results);
-        command-fits = omega (arith, ap refused_command same, small.number);
-      }
+-- its numbers fit
+pub answerable : (r : Result ℕ RefusedCommand) {o : JobOutcome ℕ} → job_outcome_of r ≡ o → Small o → Answerable (job_outcome_of r)
+answerable r same small =
+    record { count_fits = omega (arith, ap result_count same, small.results); command-fits = omega (arith, ap refused_command same, small.number) }
 
-  -- the numbers of an answer, in an area that has room for them
-  abbrev pub answer_over : List ℕ
-  answer_over = answer_numbers (job_outcome_of r) ++ drop answer_size answer
+-- the area of an answer
+abbrev pub answer_over : Result ℕ RefusedCommand → List ℕ → List ℕ
+answer_over r answer = area_out answer_size (answer_numbers (job_outcome_of r)) answer
 
--- what they mean is what was answered
-answer_means : (r : Result ℕ RefusedCommand) (answer : List ℕ) → answer_in (refusal_number (job_outcome_of r)) (answer_over r answer) ≡ job_outcome_of r
-answer_means (Ok count) answer = refl
-answer_means (Err r) answer = rw (ne_eqb (number_of r.refusal) 0 (omega (arith, number_of_positive r.refusal)))
+-- what its numbers mean is what was answered
+answer_means : (r : Result ℕ RefusedCommand) (answer : List ℕ) → answer_size ≤ length answer
+    → answer_in (refusal_number (job_outcome_of r)) (answer_over r answer) ≡ job_outcome_of r
+unfolding area_out
+answer_means (Ok count) answer long = rw (le-leb answer_size (length answer) long)
+answer_means (Err r) answer long =
+    rw (le-leb answer_size (length answer) long, ne_eqb (number_of r.refusal) 0 (omega (arith, number_of_positive r.refusal)))
 
 -- requirement 3, with the area of the answer before the other places
 module _ (places : List (Bool × ℕ)) (job answer : List ℕ) (w : List ℤ) where
@@ -45,7 +44,7 @@ module _ (places : List (Bool × ℕ)) (job answer : List ℕ) (w : List ℤ) wh
       → Requirement3 (area_place answer_size (length answer) ∷ places) job (answer_in n m) w
   required r long number_is answer_is claim =
       subst (λ (x : JobOutcome ℕ). Requirement3 (area_place answer_size (length answer) ∷ places) job x w)
-      (sym ((λ k. answer_in (number_is k) (answer_is k)) ∙ answer_means r answer))
+      (sym ((λ k. answer_in (number_is k) (answer_is k)) ∙ answer_means r answer long))
       (required_behind (_ ∷ []) (ap not (le-leb answer_size (length answer) long), tt) claim)
 
   -- it is too short

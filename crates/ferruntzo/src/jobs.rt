@@ -1,5 +1,6 @@
 // Jobs over lent areas: their check, with and without a report, and their conversion to the other edition.
-ghost use Rattle.std.specs.Prelude.{◌≡◌, ◌++◌, ℕ, drop, take};
+ghost use Rattle.std.specs.Prelude.{◌≡◌, ℕ, take};
+ghost use Rattle.model.specs.definitions.Area.{area_out};
 ghost use Rattle.job.specs.definitions.Outcomes.{accepted, job_outcome_of, refusal_number};
 ghost use Rattle.job.specs.definitions.Requirement.{Requirement3};
 ghost use Rattle.job.specs.declared.types.Report.TheVariants.{Workshop, Service};
@@ -19,9 +20,9 @@ const ANSWER_SIZE: usize = 2;
 
 // Writes both numbers, and answers the number of the refusal.
 fn write_answer(outcome: Result<usize, RefusedCommand>, answer: &mut [u32]) -> u32
-    requires { Answerable (job_outcome_of outcome) answer.old }
+    requires { Answerable (job_outcome_of outcome) }
     ensures value { result ≡ refusal_number (job_outcome_of outcome) }
-    ensures answer_after { answer.new ≡ answer_numbers (job_outcome_of outcome) ++ drop answer_size answer.old }
+    ensures answer_after { answer.new ≡ area_out answer_size (answer_numbers (job_outcome_of outcome)) answer.old }
 {
     match outcome {
         Ok(count) => {

@@ -8,7 +8,7 @@ pub write_answer-requires : goal.write_answer-requires
 write_answer-requires c =
     let g = c.args in
     let o = c.check-outcome in
-    answerable o.result g.answer.now o.ensures.result_value (answer_small g.job.now g.work.now g.scratch.now) c.if-answer-ge-ANSWER_SIZE.true
+    answerable o.result o.ensures.result_value (answer_small g.job.now g.work.now g.scratch.now)
 
 pub returns-then-answer-ge-ANSWER_SIZE-clause-requirement3 : goal.returns-then-answer-ge-ANSWER_SIZE-clause-requirement3
 returns-then-answer-ge-ANSWER_SIZE-clause-requirement3 c =
@@ -20,4 +20,5 @@ returns-then-answer-ge-ANSWER_SIZE-clause-requirement3 c =
 
 pub returns-else-answer-ge-ANSWER_SIZE-clause-requirement3 : goal.returns-else-answer-ge-ANSWER_SIZE-clause-requirement3
 returns-else-answer-ge-ANSWER_SIZE-clause-requirement3 c =
-    let g = c.args in unrequired (area_places g.work.now g.scratch.now) g.job.now g.answer.now g.work.now c.if-answer-ge-ANSWER_SIZE.false
+    let g = c.args in
+    rw c.from.ensures (unrequired (area_places g.work.now g.scratch.now) g.job.now g.answer.now g.work.now c.if-answer-ge-ANSWER_SIZE.false)

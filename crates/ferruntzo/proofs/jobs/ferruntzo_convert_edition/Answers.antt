@@ -12,7 +12,6 @@ write_answer-requires c =
     let b = conversion_small g.job.now (length g.out.now) in
     let same = c.convert_edition-outcome.ensures.result_value in
     record {
-      long = c.if-answer-ge-ANSWER_SIZE.true;
       count_fits = omega (arith, ap result_count same, b.0);
       command-fits = omega (arith, ap refused_command same, b.1);
     }

@@ -9,7 +9,7 @@ write_answer-requires c =
     let g = c.args in
     let o = c.check_and_report-outcome in
     let small = report_small g.job.now g.report g.work.now g.scratch.now g.room.now in
-    answerable o.result g.answer.now o.ensures.result_value small c.if-answer-ge-ANSWER_SIZE.true
+    answerable o.result o.ensures.result_value small
 
 pub returns-then-answer-ge-ANSWER_SIZE-clause-requirement3 : goal.returns-then-answer-ge-ANSWER_SIZE-clause-requirement3
 returns-then-answer-ge-ANSWER_SIZE-clause-requirement3 c =
@@ -23,4 +23,4 @@ pub returns-else-answer-ge-ANSWER_SIZE-clause-requirement3 : goal.returns-else-a
 returns-else-answer-ge-ANSWER_SIZE-clause-requirement3 c =
     let g = c.args in
     let places = report_places g.report g.work.now g.scratch.now g.room.now in
-    unrequired places g.job.now g.answer.now g.work.now c.if-answer-ge-ANSWER_SIZE.false
+    rw c.from.ensures (unrequired places g.job.now g.answer.now g.work.now c.if-answer-ge-ANSWER_SIZE.false)
