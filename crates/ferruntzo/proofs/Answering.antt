@@ -1,38 +1,26 @@
--- What the lengths of areas tell, what operations and tests answer over them, and what is promised of the model in its area.
+-- What operations and tests answer can be stored, and what is promised of the model in its area.
 use mathlib.Core.Path.{◌≡◌, sym, ap, subst, ◌∙◌}
-use mathlib.Core.Bool.{Bool, true, ◌&&◌}
 use mathlib.Core.List.{List}
 use Prim.Native.Nat.{ℕ, ◌≤◌}
 use native.Mathlib.Omega.{arith}
-use borrow.Author.Tests.{leb-true}
 use Rattle.std.specs.Prelude.{Result, Ok, Err, IfOk}
 use Rattle.std.proofs.Common.{rules}
 use lib.IntN.{ℤ}
 use lib.ListN.{length}
 use Rattle.model.specs.definitions.Models.{coefficient_count, zero_model}
-use Rattle.model.specs.definitions.Area.{model_size, candidate_size, words, area_model, Storable, fits, area_out}
+use Rattle.model.specs.definitions.Area.{model_size, area_model, Storable}
 use Rattle.model.specs.definitions.Outcomes.{Outcome, payload, outcome_of}
-use Rattle.model.proofs.laws.AreaLaws.{fit_last, model_stored}
+use Rattle.model.proofs.laws.AreaLaws.{model_stored}
+pub use Rattle.model.proofs.laws.ResultLaws.{zero_storable}
 use Rattle.model.proofs.laws.OutcomeLaws.{held_judged, number_of_positive}
 use Rattle.model.specs.declared.types.Model.{Model}
 use Rattle.model.specs.declared.types.Refusal.{Refusal}
-use Rattle.certificate.specs.definitions.Tests.{scratch_size, scratch_after, Certificate, test_of}
+use Rattle.certificate.specs.definitions.Tests.{Certificate, test_of}
 use Rattle.certificate.specs.declared.types.Certificate.{Certificate as CodeCertificate}
-use Rattle.ferruntzo.specs.definitions.Areas.{numbers_size}
 use Rattle.ferruntzo.specs.definitions.Operations.{OperationAnswer, operation_answer, short_outcome, outcome_in}
-use Rattle.ferruntzo.specs.definitions.Certificates.{TestAnswer, test_answer, short_test, test_in, test_fits}
-
--- ---- areas that have their numbers
-
-pub two_fit : (m n : ℕ) (a b : List ℤ) → (fits m a && fits n b) ≡ true → (m ≤ length a) × (n ≤ length b)
-two_fit m n a b h = let p = fit_last (fits m a) n b h in (leb-true m (length a) p.0, p.1)
+use Rattle.ferruntzo.specs.definitions.Certificates.{TestAnswer, test_answer, short_test, test_in}
 
 -- ---- the model of an answer
-
--- an answer is what f gives for what an area holds, where the code's outcome is f of what it read
-pub answered : {A : Type 0} (f : A → Outcome Model) {o : Outcome Model} {read : A} {held : A} {answer : OperationAnswer} (out : List ℤ)
-    → answer ≡ outcome_in o out → o ≡ f read → read ≡ held → answer ≡ outcome_in (f held) out
-answered f out a o r = a ∙ ap (λ x. outcome_in x out) (o ∙ ap f r)
 
 pub outcome_storable : (r : Result Model Refusal) {o : Outcome Model} → outcome_of r ≡ o → Storable (payload o) → IfOk r Storable
 outcome_storable r e h = held_judged Storable zero_model r e h
@@ -54,8 +42,8 @@ operation_in_area P (Ok m) all promise out room e zero =
 operation_in_area P (Err r) all promise out room e zero =
     absurd (omega (arith, zero, ap (λ (x : OperationAnswer). x.number) e, number_of_positive r))
 
-pub test_in_area : (P : Model → Type 0) (t : Result CodeCertificate Refusal) → IfOk t (λ c. length c.model.coefficients ≡ coefficient_count)
-    → IfOk t (λ c. P c.model) → (x out : List ℤ) (numbers : List ℕ) → model_size ≤ length out
+pub test_in_area : (P : Model → Type 0) (t : Result CodeCertificate Refusal)
+    → IfOk t (λ c. length c.model.coefficients ≡ coefficient_count) → IfOk t (λ c. P c.model) → (x out : List ℤ) (numbers : List ℕ) → model_size ≤ length out
     → {n : ℕ} {s o : List ℤ} {k : List ℕ} → test_answer n s o k ≡ test_in (test_of t) x out numbers → n ≡ 0 → P (area_model o)
 unfolding test_in
 test_in_area P (Ok c) all promise x out numbers room e zero =
@@ -68,7 +56,7 @@ pub short_operation : {A : Type 0} (out : List ℤ) {n : ℕ} {o : List ℤ} →
 unfolding outcome_in
 short_operation out e zero = absurd (omega (arith, zero, ap (λ (x : OperationAnswer). x.number) e))
 
-pub short_test_lem : {A : Type 0} (x out : List ℤ) (numbers : List ℕ) {n : ℕ} {s o : List ℤ} {k : List ℕ} → test_answer n s o k ≡ test_in short_test x out numbers
-    → n ≡ 0 → A
+pub short_test_lem : {A : Type 0} (x out : List ℤ) (numbers : List ℕ) {n : ℕ} {s o : List ℤ} {k : List ℕ}
+    → test_answer n s o k ≡ test_in short_test x out numbers → n ≡ 0 → A
 unfolding test_in
 short_test_lem x out numbers e zero = absurd (omega (arith, zero, ap (λ (a : TestAnswer). a.number) e))

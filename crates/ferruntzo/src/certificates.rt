@@ -14,16 +14,8 @@ use model::area::{CANDIDATE_SIZE, MODEL_SIZE, model_in, store};
 use model::types::{Model, Refusal};
 
 // Stores what a test answers, and gives its number; s is the scratch of the test.
-#[tactic(
-    auto,
-    unfolding(crate::specs::definitions::Certificates::test_in),
-    using(model::proofs::laws::ResultLaws::zero_storable)
-)]
-fn answer_test(
-    test: Result<Certificate, Refusal>,
-    out: &mut [i32],
-    numbers: &mut [u64],
-) -> u32
+#[tactic(auto, unfolding(crate::specs::definitions::Certificates::test_in), using(crate::proofs::Answering::zero_storable))]
+fn answer_test(test: Result<Certificate, Refusal>, out: &mut [i32], numbers: &mut [u64]) -> u32
     requires { IfOk test (λ c. Storable c.model) }
     ensures { (s : List ℤ) → test_answer result (scratch_after s) out.new numbers.new
         ≡ test_in (test_of test) s out.old numbers.old }

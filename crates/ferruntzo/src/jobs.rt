@@ -37,10 +37,7 @@ fn write_answer(outcome: Result<usize, RefusedCommand>, answer: &mut [u32]) -> u
 }
 
 // Checks a job. The last clause is requirement 3.
-#[tactic(
-    auto,
-    unfolding(crate::specs::definitions::Jobs::check_answer, model::specs::definitions::Area::area_out)
-)]
+#[tactic(auto, unfolding(crate::specs::definitions::Jobs::check_answer, model::specs::definitions::Area::area_out))]
 #[unsafe(no_mangle)]
 pub extern "C" fn ferruntzo_check(
     job: &[u8],
@@ -62,14 +59,7 @@ pub extern "C" fn ferruntzo_check(
 }
 
 // Checks a job and writes a report. The last clause is requirement 3.
-#[tactic(
-    auto,
-    unfolding(
-        crate::specs::definitions::Jobs::report_answer,
-        crate::specs::definitions::Jobs::room_left,
-        model::specs::definitions::Area::area_out
-    )
-)]
+#[tactic(auto, unfolding(crate::specs::definitions::Jobs::report_answer, crate::specs::definitions::Jobs::room_left))]
 fn report_job(
     job: &[u8],
     work: &mut [i32],
@@ -141,10 +131,7 @@ pub extern "C" fn ferruntzo_check_service(
 }
 
 // Converts a job to the other edition. The last clause is what the converted job has to do with its source.
-#[tactic(
-    auto,
-    unfolding(crate::specs::definitions::Jobs::convert_answer, model::specs::definitions::Area::area_out)
-)]
+#[tactic(auto, unfolding(crate::specs::definitions::Jobs::convert_answer, model::specs::definitions::Area::area_out))]
 #[unsafe(no_mangle)]
 pub extern "C" fn ferruntzo_convert_edition(job: &[u8], out: &mut [u8], answer: &mut [u32]) -> u32
     ensures answer_after { edition_answer result out.new answer.new

@@ -7,7 +7,7 @@ ghost use Rattle.model.specs.definitions.Add.{addition, subtraction};
 ghost use Rattle.model.specs.definitions.Multiply.{multiplication};
 ghost use Rattle.model.specs.definitions.Integrate.{integration};
 ghost use Rattle.model.specs.definitions.Evaluate.{bounds_of};
-ghost use Rattle.ferruntzo.specs.definitions.Operations.{Computes, short_outcome, outcome_in, operation_answer};
+ghost use Rattle.ferruntzo.specs.definitions.Operations.{Computes, outcome_in, operation_answer};
 ghost use Rattle.ferruntzo.specs.definitions.Operations.{binary_answer, unary_answer};
 ghost use Rattle.ferruntzo.specs.definitions.Operations.{bounds_in, evaluation_answer, evaluate_answer};
 
@@ -20,11 +20,7 @@ use model::multiply::multiply;
 use model::types::{Bounds, Model, Refusal};
 
 // Stores what an operation answers, and gives its number.
-#[tactic(
-    auto,
-    unfolding(crate::specs::definitions::Operations::outcome_in),
-    using(model::proofs::laws::ResultLaws::zero_storable)
-)]
+#[tactic(auto, unfolding(crate::specs::definitions::Operations::outcome_in), using(crate::proofs::Answering::zero_storable))]
 pub(crate) fn answer_operation(answer: Result<Model, Refusal>, out: &mut [i32]) -> u32
     requires { IfOk answer Storable }
     ensures { operation_answer result out.new ≡ outcome_in (outcome_of answer) out.old }
@@ -88,10 +84,7 @@ pub extern "C" fn ferruntzo_multiply(a: &[i32], b: &[i32], kept: u32, out: &mut 
 }
 
 // The integral of a from its lower end.
-#[tactic(
-    auto,
-    using(crate::proofs::Answering::outcome_storable, model::proofs::laws::ResultLaws::integration_storable)
-)]
+#[tactic(auto, using(crate::proofs::Answering::outcome_storable, model::proofs::laws::ResultLaws::integration_storable))]
 #[unsafe(no_mangle)]
 pub extern "C" fn ferruntzo_integrate(a: &[i32], out: &mut [i32]) -> u32
     ensures { operation_answer result out.new ≡ unary_answer integration a.now out.old }

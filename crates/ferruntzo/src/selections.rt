@@ -28,10 +28,7 @@ fn refuse_selection(scratch: &mut [i64], answer: &mut [u32]) -> u32
 
 // Which of two proposals for f/g is accepted with the smaller radius? Both have one lifetime, as quotient_of_two asks. The last
 // two clauses are what is promised of the chosen one.
-#[tactic(
-    auto,
-    unfolding(crate::specs::definitions::Selections::selection_in, model::specs::definitions::Area::area_out)
-)]
+#[tactic(auto, unfolding(crate::specs::definitions::Selections::selection_in, model::specs::definitions::Area::area_out))]
 #[unsafe(no_mangle)]
 pub extern "C" fn ferruntzo_quotient_of_two<'a>(
     f: &[i32],

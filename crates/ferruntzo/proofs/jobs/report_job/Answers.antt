@@ -1,6 +1,9 @@
 -- `jobs::report_job` meets its contract.
+use Rattle.std.proofs.Common.{rules}
+use Rattle.model.specs.definitions.Area.{area_out}
 use Rattle.job.proofs.laws.AnswerBounds.{report_small}
 use Rattle.job.specs.definitions.Reports.{report_places}
+use Rattle.ferruntzo.specs.definitions.Jobs.{report_answer}
 use Rattle.ferruntzo.proofs.JobAnswering.{answerable, required, unrequired}
 use Rattle.ferruntzo.proofs.jobs.report_job.Goals as goal
 
@@ -18,6 +21,10 @@ returns-then-answer-ge-ANSWER_SIZE-clause-requirement3 c =
     let w = c.write_answer.ensures in
     let places = report_places g.report g.work.now g.scratch.now g.room.now in
     required places g.job.now g.answer.now o.new.work o.result c.if-answer-ge-ANSWER_SIZE.true w.value w.answer_after o.ensures.requirement3
+
+pub returns-else-answer-ge-ANSWER_SIZE-clause-answer_after : goal.returns-else-answer-ge-ANSWER_SIZE-clause-answer_after
+unfolding report_answer area_out
+returns-else-answer-ge-ANSWER_SIZE-clause-answer_after c = search rules
 
 pub returns-else-answer-ge-ANSWER_SIZE-clause-requirement3 : goal.returns-else-answer-ge-ANSWER_SIZE-clause-requirement3
 returns-else-answer-ge-ANSWER_SIZE-clause-requirement3 c =
