@@ -23,6 +23,7 @@ struct PointSums {
 }
 
 // A point of an interval taken to one from -1 to 1, and whether that is exact.
+// Kept: the point counts whether it is exact or not, so that a None would lose it.
 #[derive(Clone, Copy)]
 struct MappedPoint {
     point: i64,

@@ -7,6 +7,7 @@ ghost use Rattle.model.specs.definitions.Outcomes.{number_of};
 
 use crate::types::{COEFFICIENTS, Candidate, Model, Refusal};
 
+// Kept: `measure` and `measure_candidate` promise the weight of a bad model too; `checked_weight` has the Result.
 #[derive(Clone, Copy)]
 pub struct Measured {
     pub good: bool,

@@ -17,6 +17,7 @@ use integer::rounding::up_unsigned;
 const UNIT: i64 = 2 * Model::SCALE;
 
 // A kept degree that means the larger degree of the two factors.
+// Kept: a number and no enum, as `multiply` takes every number, and refuses one behind the models and their intervals.
 const LARGER_DEGREE: u32 = 255;
 
 // Neither 0 to 32 nor 255.

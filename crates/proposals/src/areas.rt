@@ -70,7 +70,7 @@ fn candidate_numbers(c: Candidate) -> [i32; CANDIDATE_SIZE]
     numbers
 }
 
-// Whether the rounds settled.
+// Whether the rounds settled. Kept: the number that C is given.
 fn ending_number(ending: Ending) -> u32
     ensures { result ≡ ending_number ending }
 {

@@ -13,7 +13,7 @@ pub struct Round {
     pub change: f64,
 }
 
-// How the rounds end, each with the last change.
+// How the rounds end, each with the last change. Kept: 01 names this form.
 #[derive(Clone, Copy)]
 pub enum Ending {
     Settled(f64),

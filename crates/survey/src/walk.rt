@@ -67,7 +67,7 @@ impl Place<'_> {
     }
 }
 
-// 1 to 2, and 2 to 1.
+// 1 to 2, and 2 to 1. Kept: bytes and no enum, since the definition speaks of every byte.
 fn other_edition(e: u8) -> u8
     ensures { result ≡ other_edition e }
 {
