@@ -11,7 +11,7 @@ ghost use Rattle.series.specs.definitions.InnerContracts.{Addable, Expandable};
 use crate::table::expansion_table;
 use crate::types::Series;
 use integer::rounding::up_unsigned;
-use model::measure::measure_candidate;
+use model::measure::checked_candidate;
 use model::round::round;
 use model::types::{COEFFICIENTS, Candidate, Interval, Model, Refusal};
 
@@ -23,10 +23,8 @@ fn add_multiple(sums: &mut [i64], p: i64, row: &[i64])
     requires { Addable sums.old p row.now }
     ensures { sums.new ≡ add_lists ℤ_ring sums.old (scale_list ℤ_ring p row.now) }
 {
-    let mut j = 1 - row.len() % 2;
-    while j < row.len() {
+    for j in (1 - row.len() % 2..row.len()).step_by(2) {
         sums[j] = sums[j] + p * row[j];
-        j += 2;
     }
 }
 
@@ -35,9 +33,9 @@ fn add_expanded(sums: &mut [i64], terms: &[i32], table: &[i64])
     requires { Expandable sums.old terms.now table.now }
     ensures { sums.new ≡ add_lists ℤ_ring sums.old (expanded_from 0 terms.now) }
 {
-    for k in 0..terms.len() {
+    for (k, p) in terms.iter().enumerate() {
         let start = COEFFICIENTS * k;
-        add_multiple(sums, terms[k] as i64, &table[start..start + k + 1]);
+        add_multiple(sums, *p as i64, &table[start..start + k + 1]);
     }
 }
 
@@ -48,9 +46,8 @@ fn convert_good(s: Series) -> Result<Model, Refusal>
 {
     let table = expansion_table();
     let mut sums = [0i64; COEFFICIENTS];
-    let all = s.coefficients;
     let count = s.degree as usize + 1;
-    add_expanded(&mut sums, &all[..count], &table);
+    add_expanded(&mut sums, &s.coefficients[..count], &table);
     let rounded = round(&sums[..count], count, UNIT);
     let radius = up_unsigned(rounded.loss, UNIT as u64);
     let interval = Interval::standard();
@@ -69,12 +66,12 @@ pub fn from_series(s: Series) -> Result<Model, Refusal>
     ensures series_allowed { IfOk result (λ m. SeriesAllowed s m) }
 {
     let coefficients = s.coefficients;
-    let parts = Candidate {
+    let candidate = Candidate {
         degree: s.degree,
         coefficients,
     };
-    if !measure_candidate(parts).good {
-        return Err(Refusal::BadSeries);
+    match checked_candidate(candidate) {
+        Ok(_) => convert_good(s),
+        Err(_) => Err(Refusal::BadSeries),
     }
-    convert_good(s)
 }

@@ -9,5 +9,5 @@ use Rattle.proposals.proofs.product.multiply.Given as goal
 
 abbrev pub invariant-loop-i : goal.invariant-loop-i
 invariant-loop-i l =
-    (l.back ≡ reverse l.b) × (length l.c ≡ 33)
-    × ((add_terms_by (add binary64) (mul binary64) (l.c, 0) l.i (drop l.i l.x-items) l.b).0 ≡ (add_terms_by (add binary64) (mul binary64) (replicate 33 nought, 0) 0 l.x-items l.b).0)
+    (l.back ≡ reverse l.fn.b) × (length l.c ≡ 33)
+    × ((add_terms_by (add binary64) (mul binary64) (l.c, 0) l.i (drop l.i l.fn.a) l.fn.b).0 ≡ (add_terms_by (add binary64) (mul binary64) (replicate 33 nought, 0) 0 l.fn.a l.fn.b).0)

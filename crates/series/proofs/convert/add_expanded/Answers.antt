@@ -45,9 +45,7 @@ lent k e h =
     rw (n, e.table_is) (row_in_table k (omega (arith, e.few)))
 
 pub slice_bounds-add_multiple-end : goal.slice_bounds-add_multiple-end
-slice_bounds-add_multiple-end c =
-    let long : length c.args.table.now ≡ 33 * 33 = ap length c.requires.table_is ∙ length_table in
-    omega (arith, long, c.requires.few)
+slice_bounds-add_multiple-end c = omega (arith, ap length c.requires.table_is ∙ length_table, c.requires.few)
 
 pub add_multiple-requires : goal.add_multiple-requires
 add_multiple-requires c =
@@ -55,9 +53,9 @@ add_multiple-requires c =
     let ps = c.args.terms.now in
     let p = get_or ps k (pos 0) in
     let b : k ≤ max_degree = omega (arith, c.requires.few) in
-    let fits : SFits w32 p = search rules in
+    let f : SFits w32 p = search rules in
     rw (lent k c.requires (omega arith))
-    (simp (to_z-of_z fits, to_z-of_z (fits_widens fits)) (record {
+    (simp (to_z-of_z f, to_z-of_z (fits_widens f)) (record {
       room = omega (arith, length_row k, c.loop-k.invariant, c.requires);
       light =
           omega (arith, c.loop-k.invariant, c.requires, weight-scale p (expansion_row k), multiple_weight k p b, weight_step ps k (omega arith));
@@ -66,13 +64,13 @@ add_multiple-requires c =
 
 pub loop-k-preserved : goal.loop-k-preserved
 loop-k-preserved c =
-    let k = c.loop-k.k in
-    let fits : SFits w32 (get_or c.args.terms.now k (pos 0)) = search rules in
-    let e = rw (lent k c.requires (omega arith)) at (simp (to_z-of_z fits, to_z-of_z (fits_widens fits)) at c.add_multiple.ensures) in
+    let f : SFits w32 (get_or c.args.terms.now c.loop-k.k (pos 0)) = search rules in
+    let e = rw (lent c.loop-k.k c.requires (omega arith)) at (simp (to_z-of_z f, to_z-of_z (fits_widens f)) at c.add_multiple.ensures) in
     rw e (walk c.requires c.loop-k.invariant (omega arith))
 
 pub returns : goal.returns
 returns c =
-    sym (add-nil ℤ_ring c.loop-k.sums)
-    ∙ ap (add_lists ℤ_ring c.loop-k.sums) (sym (expanded_end c.args.terms.now c.loop-k.k (omega arith)))
-    ∙ c.loop-k.invariant.rest
+    let l = c.loop-k in
+    sym (add-nil ℤ_ring l.sums)
+    ∙ ap (add_lists ℤ_ring l.sums) (sym (expanded_end c.args.terms.now l.k (omega arith)))
+    ∙ l.invariant.rest

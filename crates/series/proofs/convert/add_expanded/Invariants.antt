@@ -1,7 +1,7 @@
 -- `convert::add_expanded` meets its contract: after k turns the first k terms are expanded.
 use mathlib.Core.Path.{◌≡◌}
 use mathlib.Core.List.{List}
-use Prim.Native.Nat.{ℕ, ◌+◌, ◌-◌, ◌*◌, ◌≤◌}
+use Prim.Native.Nat.{ℕ, ◌+◌, ◌*◌, ◌≤◌}
 use lib.IntN.{ℤ}
 use lib.ListN.{length, drop}
 use Rattle.ring.specs.definitions.Integer.{ℤ_ring}
