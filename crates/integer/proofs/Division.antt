@@ -1,4 +1,4 @@
--- What floor_and_rest and up share: the truncated quotient and remainder of n by d ≥ 1, and the correction of each.
+-- What floor, modulo and up share: the truncated quotient and remainder of n by d ≥ 1, and the correction of each.
 use mathlib.Core.Path.{◌≡◌, ◌∙◌, ap}
 use Prim.Native.Nat.{ℕ, ◌+◌, ◌≤◌, ◌<◌}
 use native.Mathlib.Omega.{arith}
@@ -10,7 +10,7 @@ use mir.Val.{SFits, to_z, of_z}
 use mir.Facts.{to_z-of_z}
 use Rattle.ring.specs.laws.Parts.{◌⁺, ◌⁻, abs, apart, sum, difference}
 use Rattle.ring.specs.laws.Difference.{all3, differences}
-use Rattle.integer.proofs.laws.Machine.{fits, within, is_positive, positive_is, Truncated, truncated}
+use Rattle.integer.proofs.laws.Machine.{fits, within, is_positive, positive_is, positive_bits, Truncated, truncated}
 use Rattle.integer.specs.definitions.Rounding.{floor, up}
 use Rattle.integer.proofs.laws.RoundingLaws.{floor_left, up_left}
 
@@ -84,6 +84,10 @@ module _ (o : Operands) where
   r_fits : SFits w64 r
   r_fits = fits w64 r (omega (arith, t, within w64 n fits_n)) (omega (arith, t, within w64 n fits_n))
 
+  -- what the machine's / and % ask
+  pub asks : (0 < of_z w64 d) × SFits w64 (quot_z (to_z w64 (of_z w64 n)) (to_z w64 (of_z w64 d)))
+  asks = simp (to_z-of_z fits_n, to_z-of_z fits_d) (positive_bits w64 d (is_positive d o.positive), q_fits)
+
   -- what they give, read back
   pub q_is : to_z w64 (of_z w64 (quot_z (to_z w64 (of_z w64 n)) (to_z w64 (of_z w64 d)))) ≡ q
   q_is = simp (to_z-of_z fits_n, to_z-of_z fits_d, to_z-of_z q_fits)
@@ -111,7 +115,7 @@ module _ (o : Operands) where
   pub divisor : d ≡ pos (nat_abs d)
   divisor = positive_is d (is_positive d o.positive)
 
-  -- what is left where the remainder is negative
+  -- what modulo gives where the remainder is negative
   pub r_up_fits : 0 < r ⁻ → SFits w64 (r +ℤ d)
   r_up_fits p =
       fits w64 (r +ℤ d)

@@ -1,12 +1,16 @@
-ghost use Rattle.std.specs.Prelude.{◌≡◌, ◌<◌, pos, nat_abs, ◌-ℤ◌, ◌*ℤ◌, ◌≤ℤ◌, ◌<ℤ◌};
+ghost use Rattle.std.specs.Prelude.{◌≡◌, ◌<◌, pos, nat_abs, ◌-ℤ◌, ◌*ℤ◌, ◌<ℤ◌};
 ghost use Rattle.integer.specs.definitions.Rounding.{floor as floor_of, up as up_of, upℕ, near as near_of};
 
 // n / d rounded down, for every n.
+// Kept: slower by div_euclid, and near is slower where one function gives both numbers: of a constant d, a power of two, the
+// compiler then makes no shift.
 pub fn floor(n: i64, d: i64) -> i64
     requires { pos 0 <ℤ d }
     ensures { result ≡ floor_of n (nat_abs d) }
 {
-    n.div_euclid(d)
+    let q = n / d;
+    let r = n % d;
+    if r < 0 { q - 1 } else { q }
 }
 
 // n / d rounded up, for every n.
@@ -20,17 +24,13 @@ pub fn up(n: i64, d: i64) -> i64
     if 0 < r { q + 1 } else { q }
 }
 
-// n / d rounded down, and what that leaves of n.
-// Kept: div_euclid and rem_euclid divide once each where d is no constant, and branch on the sign of n.
-fn floor_and_rest(n: i64, d: i64) -> (i64, i64)
+// What n / d rounded down leaves of n: at least 0, less than d.
+fn modulo(n: i64, d: i64) -> i64
     requires { pos 0 <ℤ d }
-    ensures floor { result.0 ≡ floor_of n (nat_abs d) }
-    ensures rest { result.1 ≡ n -ℤ floor_of n (nat_abs d) *ℤ d }
-    ensures bounds { (pos 0 ≤ℤ result.1) × (result.1 <ℤ d) }
+    ensures { result ≡ n -ℤ floor_of n (nat_abs d) *ℤ d }
 {
-    let q = n / d;
     let r = n % d;
-    if r < 0 { (q - 1, r + d) } else { (q, r) }
+    if r < 0 { r + d } else { r }
 }
 
 // The nearest whole number to n / d, a tie going to the even one, for every n. What is left above c·d is compared with what
@@ -39,7 +39,8 @@ pub fn near(n: i64, d: i64) -> i64
     requires { pos 0 <ℤ d }
     ensures { result ≡ near_of n (nat_abs d) }
 {
-    let (c, rest) = floor_and_rest(n, d);
+    let rest = modulo(n, d);
+    let c = floor(n, d);
     let odd = c & 1;
     if d - rest < rest + odd { c + 1 } else { c }
 }

@@ -1,25 +1,37 @@
--- `rounding::floor` meets its contract: of a positive divisor, div_euclid is floor.
-use Rattle.std.proofs.Common.{rules}
-use mathlib.Core.Path.{◌≡◌, refl, ◌∙◌}
+-- `rounding::floor` meets its contract: the truncated quotient, less one where the remainder is negative.
+use Prim.Native.Nat.{◌<◌}
 use native.Mathlib.Omega.{arith}
-use lib.IntN.{ℤ, pos, negsuc, nat_abs}
-use lib.Signed.{◌<ℤ◌}
-use mir.Syntax.{w64}
-use mir.Val.{SFits}
+use lib.IntN.{pos, nat_abs}
 use mir.Facts.{to_z-of_z}
-use Rattle.std.specs.Int.{int_div_euclid}
-use Rattle.integer.proofs.laws.Machine.{is_positive}
-use Rattle.integer.specs.definitions.Rounding.{floor}
+use Rattle.ring.specs.laws.Parts.{◌⁻, apart, lt_yes, lt_no}
+use Rattle.integer.proofs.Division.{Operands, q, r, t, asks, q_is, r_is, q_down_fits, floor_down, floor_at}
 use Rattle.integer.proofs.rounding.floor.Goals as goal
 
-euclid : (n d : ℤ) → pos 0 <ℤ d → int_div_euclid n d ≡ floor n (nat_abs d)
-unfolding floor
-euclid (pos a) (pos b) h = refl
-euclid (negsuc a) (pos b) h = refl
-euclid (pos a) (negsuc b) h = absurd (omega (arith, is_positive (negsuc b) h))
-euclid (negsuc a) (negsuc b) h = absurd (omega (arith, is_positive (negsuc b) h))
+abbrev operands : goal.Start → Operands
+operands s = record { n = s.args.n; d = s.args.d; fits_n = s.ranges.n; fits_d = s.ranges.d; positive = s.requires }
 
-pub returns : goal.returns
-returns c =
-    let fits-q : SFits w64 c.div_euclid.result = search rules in
-    simp (to_z-of_z fits-q) ((simp (to_z-of_z c.ranges.n, to_z-of_z c.ranges.d) at c.div_euclid.ensures) ∙ euclid c.args.n c.args.d c.requires)
+module _ (c : goal.Then-r-lt0) where
+  abbrev o : Operands
+  o = operands c.before
+
+  negative : 0 < r o ⁻
+  negative = omega (arith, lt_yes (r o) (pos 0) (rw (r_is o) at c.if-r-lt0.true))
+
+pub returns-then-r-lt0 : goal.returns-then-r-lt0
+returns-then-r-lt0 c =
+    let o = o c in
+    rw (q_is o, to_z-of_z (q_down_fits o (negative c))) (floor_down o.n (nat_abs o.d) (q o) (r o) (t o) (negative c))
+
+pub returns-else-r-lt0 : goal.returns-else-r-lt0
+returns-else-r-lt0 c =
+    let o = operands c.before in
+    rw (q_is o) (floor_at o.n (nat_abs o.d) (q o) (r o) (t o) (omega (arith, apart (r o), lt_no (r o) (pos 0) (rw (r_is o) at c.if-r-lt0.false))))
+
+pub nonzero_div-q : goal.nonzero_div-q
+nonzero_div-q s = asks (operands s)
+
+pub nonzero_rem-r : goal.nonzero_rem-r
+nonzero_rem-r s = asks (operands s)
+
+pub overflow_sub-result : goal.overflow_sub-result
+overflow_sub-result c = rw (q_is (o c)) (q_down_fits (o c) (negative c))
