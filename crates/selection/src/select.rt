@@ -52,7 +52,7 @@ pub fn quotient_of_two<'a>(
 {
     let a = test_proposal(f, g, first, scratch);
     let b = test_proposal(f, g, second, scratch);
-    // Kept: lent numbers beside the part, no Result: S-14 names the form, and `IsPart` promises an empty part of the first on a refusal.
+    // Kept: lent numbers and no Result: S-14 names the form, and `IsPart` promises an empty part of the first on a refusal.
     match select(a, b) {
         Ok(Chosen::First(e)) => {
             *number = 0;
