@@ -1,5 +1,9 @@
 -- `areas::answer_quotient` meets its contract.
-use mathlib.Core.Path.{sym, ap, ◌∙◌}
+use native.Mathlib.Omega.{arith}
+use Rattle.std.specs.Prelude.{Result, IfOk}
+use Rattle.std.specs.Result.{result_unwrap_or}
+use Rattle.model.specs.declared.types.Refusal.{Refusal}
+use mathlib.Core.Path.{◌≡◌, sym, ap, ◌∙◌}
 use mathlib.Core.List.{[], ◌∷◌}
 use Rattle.model.specs.definitions.Area.{candidate_size, area_out}
 use Rattle.model.proofs.laws.OutcomeLaws.{number-judged}
@@ -8,11 +12,16 @@ use Rattle.proposals.specs.definitions.Quotient.{Quotient, refused_quotient}
 use Rattle.proposals.proofs.Answering.{of_quotient, stored, stored_holds, zero_quotient}
 use Rattle.proposals.proofs.areas.answer_quotient.Goals as goal
 
+-- what is stored has degrees that 32-bit numbers hold
+module _ {q d : Quotient} (r : Result Quotient Refusal) where
+  degrees : q ≡ result_unwrap_or r d → d ≡ refused_quotient → IfOk r of_quotient → of_quotient q
+  degrees e f h = stored_holds refused_quotient of_quotient r e f h zero_quotient
+
 pub candidate_numbers-requires : goal.candidate_numbers-requires
-candidate_numbers-requires c = (stored_holds refused_quotient of_quotient c.args.made c.unwrap_or-values.ensures c.zero.ensures c.requires zero_quotient).0
+candidate_numbers-requires c = omega (arith, degrees c.args.made c.unwrap_or-values.ensures c.zero.ensures c.requires)
 
 pub candidate_numbers-requires-2 : goal.candidate_numbers-requires-2
-candidate_numbers-requires-2 c = (stored_holds refused_quotient of_quotient c.args.made c.unwrap_or-values.ensures c.zero.ensures c.requires zero_quotient).1
+candidate_numbers-requires-2 c = omega (arith, degrees c.args.made c.unwrap_or-values.ensures c.zero.ensures c.requires)
 
 pub returns : goal.returns
 unfolding quotient_in
