@@ -8,7 +8,7 @@ ghost use Rattle.ferruntzo.specs.definitions.Conversions.{series_size, area_seri
 use crate::areas::candidate_in;
 use crate::operations::answer_operation;
 use model::area::{CANDIDATE_SIZE, MODEL_SIZE};
-use model::types::Refusal;
+use model::types::{Candidate, Refusal};
 use series::convert::from_series;
 use series::types::Series;
 
@@ -20,10 +20,12 @@ fn series_in(area: &[i32]) -> Series
     requires { series_size ≤ length area.now }
     ensures { result ≡ area_series area.now }
 {
-    let parts = candidate_in(area);
-    let coefficients = parts.coefficients;
+    let Candidate {
+        degree,
+        coefficients,
+    } = candidate_in(area);
     Series {
-        degree: parts.degree,
+        degree,
         coefficients,
     }
 }

@@ -56,6 +56,7 @@ pub extern "C" fn ferruntzo_quotient_of_two<'a>(
         & (SCRATCH_SIZE <= scratch.len())
         & (SELECTION_SIZE <= answer.len())
     {
+        // Kept: lent numbers, as `quotient_of_two` takes them: document 02, S-14, names its form.
         let mut number: u32 = 0;
         let mut chosen: u32 = 0;
         let mut radius: u32 = 0;
