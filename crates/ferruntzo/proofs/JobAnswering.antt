@@ -8,17 +8,19 @@ use Prim.Native.Nat.{ℕ, ◌≤◌, ◌<◌}
 use native.Mathlib.Omega.{arith}
 use borrow.Author.Tests.{le-leb, lt-leb, ne_eqb}
 use lib.IntN.{ℤ}
-use lib.ListN.{length}
+use lib.ListN.{length, take, replicate}
 use Rattle.model.specs.definitions.Area.{area_out}
 use Rattle.model.specs.definitions.Outcomes.{number_of, here}
 use Rattle.model.proofs.laws.OutcomeLaws.{number_of_positive}
-use Rattle.job.specs.definitions.Outcomes.{JobOutcome, job_outcome_of, refusal_number, refused_command, result_count}
+use Rattle.job.specs.definitions.Outcomes.{JobOutcome, accepted, job_outcome_of, refusal_number, refused_command, result_count}
 use Rattle.job.specs.definitions.Work.{area_place}
 use Rattle.job.specs.definitions.Requirement.{Requirement3}
 use Rattle.job.proofs.laws.AnswerBounds.{Small}
 use Rattle.job.proofs.laws.RequirementLaws.{refused_required, required_behind}
 use Rattle.job.specs.declared.types.RefusedCommand.{RefusedCommand}
 use Rattle.ferruntzo.specs.definitions.Jobs.{answer_size, answer_numbers, Answerable, answer_in}
+use Rattle.ferruntzo.specs.definitions.Jobs.{job_answer, answered_by, edition_answer, convert_answer}
+use Rattle.survey.specs.definitions.Editions.{ConvertedJob, edition_conversion, output_after}
 
 -- its numbers fit
 pub answerable : (r : Result ℕ RefusedCommand) {o : JobOutcome ℕ} → job_outcome_of r ≡ o → Small o → Answerable (job_outcome_of r)
@@ -50,3 +52,40 @@ module _ (places : List (Bool × ℕ)) (job answer : List ℕ) (w : List ℤ) wh
   -- it is too short
   pub unrequired : length answer < answer_size → Requirement3 (area_place answer_size (length answer) ∷ places) job (answer_in 1 answer) w
   unrequired short = refused_required (inl (here (ap not (lt-leb answer_size (length answer) short)) refl, refl)) 1 _ w
+
+-- ---- the whole answers, of which the code's search needs none
+
+-- of a check whose definitions give the outcome o
+module _ (work scratch : List ℤ) (answer : List ℕ) (o : JobOutcome ℕ) (work'' scratch'' : List ℤ) where
+  pub answered : (r : Result ℕ RefusedCommand) {n : ℕ} {m : List ℕ} {w s : List ℤ} → answer_size ≤ length answer
+      → n ≡ refusal_number (job_outcome_of r) → m ≡ answer_over r answer → job_outcome_of r ≡ o → w ≡ work'' → s ≡ scratch''
+      → job_answer n w s m ≡ answered_by o work'' work scratch'' scratch answer
+  answered r long number_is answer_is same ew es =
+      let f = number_is ∙ ap refusal_number same in
+      let g = answer_is ∙ ap (λ (x : JobOutcome ℕ). area_out answer_size (answer_numbers x) answer) same in
+      rw (le-leb answer_size (length answer) long) (λ k. job_answer (f k) (ew k) (es k) (g k))
+
+  pub unanswered : length answer < answer_size → job_answer 1 work scratch answer ≡ answered_by o work'' work scratch'' scratch answer
+  unfolding area_out
+  unanswered short = rw (lt-leb answer_size (length answer) short)
+
+-- of a conversion
+module _ (job out answer : List ℕ) where
+  module _ (r : Result ℕ RefusedCommand) {n : ℕ} {m : List ℕ} (long : answer_size ≤ length answer)
+      (number_is : n ≡ refusal_number (job_outcome_of r)) (answer_is : m ≡ answer_over r answer) where
+    pub converts : {left : List ℕ} → job_outcome_of r ≡ edition_conversion job (length out) → left ≡ output_after job out
+        → edition_answer n left m ≡ convert_answer job out answer
+    unfolding convert_answer
+    converts same el =
+        let f = number_is ∙ ap refusal_number same in
+        let g = answer_is ∙ ap (λ (x : JobOutcome ℕ). area_out answer_size (answer_numbers x) answer) same in
+        rw (le-leb answer_size (length answer) long) (λ k. edition_answer (f k) (el k) (g k))
+
+    pub converts_so : {left : List ℕ} → ((count : ℕ) → job_outcome_of r ≡ accepted count → ConvertedJob job (take count left))
+        → (count : ℕ) → answer_in n m ≡ accepted count → ConvertedJob job (take count left)
+    converts_so claim count e = claim count (sym ((λ k. answer_in (number_is k) (answer_is k)) ∙ answer_means r answer long) ∙ e)
+
+  pub unconverted : length answer < answer_size → {left : List ℕ} → left ≡ replicate (length out) 0
+      → edition_answer 1 left answer ≡ convert_answer job out answer
+  unfolding convert_answer area_out
+  unconverted short e = rw (lt-leb answer_size (length answer) short) (λ k. edition_answer 1 (e k) answer)

@@ -58,7 +58,7 @@ pub extern "C" fn ferruntzo_check(
     }
 }
 
-// Checks a job and writes a report. The last clause is requirement 3.
+// Checks a job and writes a report. The last clause is requirement 3. Kept: the areas as C lends them.
 #[tactic(auto, unfolding(crate::specs::definitions::Jobs::report_answer, crate::specs::definitions::Jobs::room_left))]
 fn report_job(
     job: &[u8],

@@ -1,7 +1,7 @@
 ghost use Rattle.std.specs.Prelude.{◌≡◌, ◌<◌, pos, nat_abs, ◌-ℤ◌, ◌*ℤ◌, ◌<ℤ◌};
 ghost use Rattle.integer.specs.definitions.Rounding.{floor as floor_of, up as up_of, upℕ, near as near_of};
 
-// n / d rounded down, for every n.
+// n / d rounded down, for every n. Kept: 0 < d in each clause, as a type for it would be made and opened at each call.
 // Kept: slower by div_euclid, and near is slower where one function gives both numbers: of a constant d, a power of two, the
 // compiler then makes no shift.
 pub fn floor(n: i64, d: i64) -> i64

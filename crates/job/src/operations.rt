@@ -23,6 +23,7 @@ fn named(job: &[u8], i: usize, work: &[i32]) -> Model
 }
 
 // The results that the two bytes after a command name.
+// Kept: job, position and work area by themselves, here and below: a struct of them writes each clause longer, and saves no call.
 #[derive(Clone, Copy)]
 struct Operands {
     first: Model,
@@ -79,7 +80,7 @@ fn load_on(job: &[u8], at: usize) -> Result<Certificate, Refusal>
     load_block(job, at, interval)
 }
 
-// Kept: add and subtract stand apart, since one function for both takes a closure with what it requires and ensures.
+// Kept: add and subtract are three lines each; one function of a closure needs two clauses on the closure besides.
 fn add(job: &[u8], at: usize, work: &[i32]) -> Result<Certificate, Refusal>
     requires { Operable Operation.Add job.now at work.now }
     ensures { Performs (maker_at Operation.Add job.now at) work.now (test_of result) }
@@ -97,7 +98,7 @@ fn subtract(job: &[u8], at: usize, work: &[i32]) -> Result<Certificate, Refusal>
 }
 
 // What the library takes for a byte in an edition: in edition 1 0xFF means 32, in edition 2 what 255 means in the library.
-// Kept: the edition is its byte and no enum, since the definition speaks of every byte.
+// Kept: the edition is its byte and no enum, as no clause here says that it is 1 or 2 (`edition_known` does).
 fn kept_byte(edition: u8, d: u8) -> u32
     ensures { result ≡ kept_byte edition d }
 {

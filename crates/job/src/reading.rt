@@ -27,7 +27,7 @@ fn is_bad_degree(d: u8) -> bool
     is_bad_kept(u32::from(d))
 }
 
-// Neither edition 1 nor 2. Kept: bytes and no enum, since the definition speaks of every byte.
+// Neither edition 1 nor 2. Kept: this is the test of the byte itself.
 fn is_bad_edition(e: u8) -> bool
     ensures { result ≡ (not (eqb e 1) && not (eqb e 2)) }
 {

@@ -8,6 +8,7 @@ ghost use Rattle.job.specs.definitions.InnerContracts.{Recordable, written_at};
 use crate::types::{MAX_RESULTS, Report};
 use certificate::types::Certificate;
 
+// Kept: bytes of the caller's at fixed places, with no heap.
 const WORKSHOP_SIZE: usize = 6;
 
 const SERVICE_SIZE: usize = 18;

@@ -23,7 +23,7 @@ const SHORT_AREA: RefusedCommand = RefusedCommand {
     command: 0,
 };
 
-// A job over cleared areas.
+// A job over cleared areas. Kept: each area is lent by itself, as in step.rt.
 fn run(
     job: &[u8],
     work: &mut [i32],

@@ -1,4 +1,4 @@
-// The work area: result i in its own 37 numbers from 37 i on.
+// The work area: result i in its own 37 numbers from 37 i on. Kept: numbers of the caller's at fixed places, with no heap.
 ghost use Rattle.std.specs.Prelude.{◌≡◌, ◌++◌, ◌≤◌, ◌<◌, length, drop};
 ghost use Rattle.integer.specs.definitions.Lists.{zeros};
 ghost use Rattle.job.specs.definitions.Reading.{max_results};

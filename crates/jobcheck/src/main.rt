@@ -18,6 +18,7 @@ mod input;
 const LIMIT: usize = 65536;
 
 fn main(rt: HostRuntime) -> io::Result<()> {
+    // Kept: a buffer of fixed size, as the program takes no heap.
     let mut buffer = [0u8; LIMIT + 1];
     match input::read_input(&mut rt.stdin(), &mut buffer) {
         Ok(length) => answer(&rt, &buffer[..length]),

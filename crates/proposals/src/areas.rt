@@ -6,7 +6,7 @@ ghost use Rattle.model.specs.definitions.Models.{max_degree};
 ghost use Rattle.model.specs.definitions.Outcomes.{verdict_number};
 ghost use Rattle.proposals.specs.definitions.Areas.{value_count, round_size, quotient_size, outcome_size};
 ghost use Rattle.proposals.specs.definitions.Areas.{round_numbers, quotient_numbers, candidate_numbers};
-ghost use Rattle.proposals.specs.definitions.Areas.{ending_number, reciprocal_in, reciprocal_answer, make_reciprocal_answer};
+ghost use Rattle.proposals.specs.definitions.Areas.{reciprocal_in, reciprocal_answer, make_reciprocal_answer};
 ghost use Rattle.proposals.specs.definitions.Areas.{quotient_in, quotient_answer, make_quotient_answer};
 ghost use Rattle.proposals.specs.definitions.Areas.{units_in, units_answer, to_units_answer, area_values};
 ghost use Rattle.proposals.specs.definitions.Reciprocal.{reciprocal_of};
@@ -15,7 +15,7 @@ ghost use Rattle.proposals.specs.definitions.Units.{in_units_of};
 
 use crate::quotient::make_quotient;
 use crate::reciprocal::make_reciprocal;
-use crate::types::{Ending, Quotient, QuotientRecord, Reciprocal, Round, zero_candidate};
+use crate::types::{Quotient, QuotientRecord, Reciprocal, Round, zero_candidate};
 use crate::units::to_units;
 use model::area::{CANDIDATE_SIZE, MODEL_SIZE, model_in, store};
 use model::types::{COEFFICIENTS, Candidate, Refusal};
@@ -70,16 +70,6 @@ fn candidate_numbers(c: Candidate) -> [i32; CANDIDATE_SIZE]
     numbers
 }
 
-// Whether the rounds settled. Kept: the number that C is given.
-fn ending_number(ending: Ending) -> u32
-    ensures { result ≡ ending_number ending }
-{
-    match ending {
-        Ending::Settled(_) => 1,
-        Ending::GivenUp(_) => 0,
-    }
-}
-
 // The number of a refusal, or 0.
 fn number<A: Copy>(made: &Result<A, Refusal>) -> u32
     ensures { result ≡ verdict_number made.now }
@@ -104,7 +94,7 @@ fn answer_reciprocal(
     let values = made.unwrap_or(Reciprocal::zero());
     store(recorded, round_numbers(values.round));
     store(w, candidate_numbers(values.w));
-    store(outcome, [ending_number(values.ending); OUTCOME_SIZE]);
+    store(outcome, [u32::from(values.ending); OUTCOME_SIZE]);
     number(&made)
 }
 
@@ -145,7 +135,7 @@ fn answer_quotient(
     store(recorded, quotient_numbers(values.recorded));
     store(h, candidate_numbers(values.h));
     store(w, candidate_numbers(values.w));
-    store(outcome, [ending_number(values.ending); OUTCOME_SIZE]);
+    store(outcome, [u32::from(values.ending); OUTCOME_SIZE]);
     number(&made)
 }
 

@@ -21,6 +21,7 @@ fn add_multiple(c: &mut [f64], x: f64, b: &[f64])
 }
 
 // The term of x at place i: at i+j, at i-j, and at j-i. `back` is b reversed.
+// Kept apart from the products of whole numbers: f64 rounds, and the order of its sums is promised to the last bit.
 fn add_term(c: &mut [f64], x: f64, i: usize, b: &[f64], back: &[f64])
     requires { (i < length b.now) × (i < length c.old) × (back.now ≡ reverse b.now) }
     ensures { c.new ≡ (add_term_by (add binary64) (mul binary64) (c.old, 0) x i 0 b.now).0 }

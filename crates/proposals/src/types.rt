@@ -1,5 +1,6 @@
 // What a round keeps, how the rounds end, and what the makers make.
 ghost use Rattle.std.specs.Prelude.{◌≡◌};
+ghost use Rattle.proposals.specs.definitions.Areas.{ending_number};
 ghost use Rattle.proposals.specs.definitions.Reciprocal.{zero_round, refused_reciprocal};
 ghost use Rattle.proposals.specs.definitions.Quotient.{refused_quotient};
 ghost use Rattle.proposals.specs.definitions.Units.{zero_candidate as zero_candidate_of};
@@ -18,6 +19,18 @@ pub struct Round {
 pub enum Ending {
     Settled(f64),
     GivenUp(f64),
+}
+
+// Whether the rounds settled, for C.
+impl From<Ending> for u32 {
+    ghost from_gives = { λ ending n. n ≡ ending_number ending };
+
+    fn from(ending: Ending) -> u32 {
+        match ending {
+            Ending::Settled(_) => 1,
+            Ending::GivenUp(_) => 0,
+        }
+    }
 }
 
 // Rounds that were found finite: how they ended, and the last one.

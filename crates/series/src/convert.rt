@@ -29,6 +29,7 @@ fn add_multiple(sums: &mut [i64], p: i64, row: &[i64])
 }
 
 // The terms p_k·x^k expanded by the table, added to the sums. Row k ends at place k.
+// Kept: the rows lie in one list, as the definition `expansion_table` has them.
 fn add_expanded(sums: &mut [i64], terms: &[i32], table: &[i64])
     requires { Expandable sums.old terms.now table.now }
     ensures { sums.new ≡ add_lists ℤ_ring sums.old (expanded_from 0 terms.now) }

@@ -18,7 +18,7 @@ pub(crate) fn block_degree(b: u8) -> u8
 }
 
 // The kept degree that a byte stands for in an edition, between factors of two degrees.
-// Kept: the edition is its byte and no enum, since the definition speaks of every byte.
+// Kept: the edition is its byte and no enum, as no clause here says that it is 1 or 2 (`edition_known` does).
 pub(crate) fn stands_for(edition: u8, d: u8, n: u8, m: u8) -> u8
     ensures { result ≡ kept_in edition d n m }
 {

@@ -67,7 +67,7 @@ impl Place<'_> {
     }
 }
 
-// 1 to 2, and 2 to 1. Kept: bytes and no enum, since the definition speaks of every byte.
+// 1 to 2, and 2 to 1. Kept: bytes and no enum, as no clause here says that a job's edition is 1 or 2 (`edition_known` does).
 fn other_edition(e: u8) -> u8
     ensures { result ≡ other_edition e }
 {
@@ -80,6 +80,7 @@ pub(crate) fn walk(job: &[u8], out: &mut [u8]) -> Result<usize, RefusedCommand>
     ensures out_after { ReadsWell job.now
         → out.new ≡ convert_from (length job.now + 1) job.now [] 0 out.old }
 {
+    // Kept: an array and its count, as the library has no heap; what is lent is the part in use.
     let mut list = [0u8; MAX_RESULTS];
     let mut count = 0;
     let mut at = 0;

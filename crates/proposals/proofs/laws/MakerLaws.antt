@@ -76,8 +76,8 @@ module _ {A : Type 0} (k : Candidate → Outcome A) (z : A) (o : Outcome Candida
   pub units_go_on : (c : Candidate) → accepted c ≡ o → k c ≡ then_units k z o
   units_go_on c e = ap (then_units k z) e
 
-  pub units_stop : (r : Refusal) → refused (number_of r) zero_candidate ≡ o → refused (number_of r) z ≡ then_units k z o
-  units_stop r e = ap (then_units k z) e
+  pub units_stop : (c : Candidate) (r : Refusal) → refused (number_of r) c ≡ o → refused (number_of r) z ≡ then_units k z o
+  units_stop c r e = ap (then_units k z) e
 
 -- a list that is finite
 finite_units : {A : Type 0} (k : Candidate → Outcome A) (z : A) (v : List Float) → all_finite v ≡ true

@@ -32,5 +32,5 @@ returns c =
     let recorded = c.store.ensures ∙ ap (λ n. area_out quotient_size n a.recorded.now) c.quotient_numbers.ensures ∙ ap (λ (x : Quotient). area_out quotient_size (quotient_numbers x.recorded) a.recorded.now) p in
     let first = c.store-2.ensures ∙ ap (λ n. area_out candidate_size n a.h.now) c.candidate_numbers.ensures ∙ ap (λ (x : Quotient). area_out candidate_size (candidate_numbers x.h) a.h.now) p in
     let second = c.store-3.ensures ∙ ap (λ n. area_out candidate_size n a.w.now) c.candidate_numbers-2.ensures ∙ ap (λ (x : Quotient). area_out candidate_size (candidate_numbers x.w) a.w.now) p in
-    let ending = c.store-4.ensures ∙ ap (λ n. area_out outcome_size (n ∷ []) a.outcome.now) c.ending_number.ensures ∙ ap (λ (x : Quotient). area_out outcome_size (ending_number x.ending ∷ []) a.outcome.now) p in
+    let ending = c.store-4.ensures ∙ ap (λ n. area_out outcome_size (n ∷ []) a.outcome.now) c.from.ensures ∙ ap (λ (x : Quotient). area_out outcome_size (ending_number x.ending ∷ []) a.outcome.now) p in
     λ k. quotient_answer (number k) (recorded k) (first k) (second k) (ending k)

@@ -19,5 +19,5 @@ returns c =
     let number = c.number.ensures ∙ sym (number-judged refused_reciprocal a.made) in
     let recorded = c.store.ensures ∙ ap (λ n. area_out round_size n a.recorded.now) c.round_numbers.ensures ∙ ap (λ (x : Reciprocal). area_out round_size (round_numbers x.round) a.recorded.now) p in
     let list = c.store-2.ensures ∙ ap (λ n. area_out candidate_size n a.w.now) c.candidate_numbers.ensures ∙ ap (λ (x : Reciprocal). area_out candidate_size (candidate_numbers x.w) a.w.now) p in
-    let ending = c.store-3.ensures ∙ ap (λ n. area_out outcome_size (n ∷ []) a.outcome.now) c.ending_number.ensures ∙ ap (λ (x : Reciprocal). area_out outcome_size (ending_number x.ending ∷ []) a.outcome.now) p in
+    let ending = c.store-3.ensures ∙ ap (λ n. area_out outcome_size (n ∷ []) a.outcome.now) c.from.ensures ∙ ap (λ (x : Reciprocal). area_out outcome_size (ending_number x.ending ∷ []) a.outcome.now) p in
     λ k. reciprocal_answer (number k) (recorded k) (list k) (ending k)

@@ -14,7 +14,7 @@ use Rattle.model.proofs.laws.IntervalLaws.{differ, alike}
 use Rattle.proposals.specs.declared.types.FiniteRounds.{FiniteRounds}
 use Rattle.proposals.specs.definitions.Rounds.{made_of, found_finite}
 use Rattle.proposals.specs.definitions.Product.{product}
-use Rattle.proposals.specs.definitions.Units.{in_units}
+use Rattle.proposals.specs.definitions.Units.{zero_candidate, in_units}
 use Rattle.proposals.specs.definitions.Reciprocal.{values_of, reciprocal_rounds}
 use Rattle.proposals.specs.definitions.Quotient.{Quotient, quotient_record, make_quotient, refused_quotient, quotient_proposal}
 use Rattle.proposals.proofs.laws.MakerLaws.{quotient_of_bad, quotient_by_bad, quotient_different, quotient_not_finite, quotient_in_units, found, not_found, then_units, units_stop, units_go_on}
@@ -74,7 +74,7 @@ returns-in_err-h-clause-result_value c =
     let q = c.multiply-quotient.result in
     let e = c.in_err-h in
     let up = c.from_residual-in_err-h in
-    passed_up refused_quotient up.result e.field-0.0 up.ensures ∙ units_stop (one r q) refused_quotient (in_units q) e.field-0.0 e.ensures
+    passed_up refused_quotient up.result e.field-0.0 up.ensures ∙ units_stop (one r q) refused_quotient (in_units q) zero_candidate e.field-0.0 e.ensures
     ∙ to_do f g r q c.in_ok-checked_weight.ensures.ok.0 c.in_ok-checked_weight-2.ensures.ok.0 (alike f.interval g.interval c.ne.ensures c.if-ne.false) c.in_ok-ending.ensures
     (c.multiply-quotient.ensures ∙ ap (λ l. product l r.round.coefficients) c.values_of.ensures)
 
@@ -86,7 +86,7 @@ returns-in_err-w-clause-result_value c =
     let q = c.multiply-quotient.result in
     let e = c.in_err-w in
     let up = c.from_residual-in_err-w in
-    passed_up refused_quotient up.result e.field-0.0 up.ensures ∙ units_stop (both r q c.in_ok-h.h) refused_quotient (in_units r.round.coefficients) e.field-0.0 e.ensures
+    passed_up refused_quotient up.result e.field-0.0 up.ensures ∙ units_stop (both r q c.in_ok-h.h) refused_quotient (in_units r.round.coefficients) zero_candidate e.field-0.0 e.ensures
     ∙ units_go_on (one r q) refused_quotient (in_units q) c.in_ok-h.h c.in_ok-h.ensures
     ∙ to_do f g r q c.in_ok-checked_weight.ensures.ok.0 c.in_ok-checked_weight-2.ensures.ok.0 (alike f.interval g.interval c.ne.ensures c.if-ne.false) c.in_ok-ending.ensures
     (c.multiply-quotient.ensures ∙ ap (λ l. product l r.round.coefficients) c.values_of.ensures)

@@ -6,7 +6,7 @@ use Rattle.model.specs.declared.types.Candidate.{Candidate}
 use Rattle.model.proofs.Refusing.{passed_up}
 use Rattle.proposals.specs.declared.types.FiniteRounds.{FiniteRounds}
 use Rattle.proposals.specs.definitions.Rounds.{made_of}
-use Rattle.proposals.specs.definitions.Units.{in_units}
+use Rattle.proposals.specs.definitions.Units.{zero_candidate, in_units}
 use Rattle.proposals.specs.definitions.Reciprocal.{Reciprocal, make_reciprocal, values_of, reciprocal_rounds, refused_reciprocal}
 use Rattle.proposals.proofs.laws.MakerLaws.{reciprocal_of_bad, reciprocal_not_finite, reciprocal_in_units, found, not_found, units_stop, units_go_on}
 use Rattle.proposals.proofs.laws.ExactQuotient.{with_exact_reciprocal}
@@ -43,7 +43,7 @@ returns-in_err-w c =
     let e = c.in_err-w in
     let it = with_exact_reciprocal g
     (passed_up refused_reciprocal c.from_residual-in_err-w.result e.field-0.0 c.from_residual-in_err-w.ensures
-    ∙ units_stop (kept r) refused_reciprocal (in_units r.round.coefficients) e.field-0.0 e.ensures
+    ∙ units_stop (kept r) refused_reciprocal (in_units r.round.coefficients) zero_candidate e.field-0.0 e.ensures
     ∙ reciprocal_in_units g (made_of true r.ending r.round) c.in_ok-checked_weight.ensures.ok.0 (found (reciprocal_rounds (values_of g)) r c.in_ok-ending.ensures) refl) in
     record { result_value = it.0; exact_reciprocal = it.1 }
 
