@@ -3,6 +3,7 @@ ghost use Rattle.std.specs.Prelude.{◌≡◌, ℕ, length, take};
 ghost use Rattle.job.specs.definitions.Outcomes.{accepted, job_outcome_of};
 ghost use Rattle.survey.specs.definitions.Editions.{ConvertedJob, edition_conversion, output_after};
 
+use crate::areas::copy;
 use crate::walk::walk;
 use job::types::RefusedCommand;
 use model::types::Refusal;
@@ -27,7 +28,7 @@ pub fn convert_edition(job: &[u8], out: &mut [u8]) -> Result<usize, RefusedComma
         read?;
         return Err(SHORT_OUTPUT);
     }
-    out[..len].copy_from_slice(job);
+    copy(job, &mut out[..len]);
     if let Err(refused) = walk(job, &mut out[..len]) {
         out.fill(0);
         return Err(refused);

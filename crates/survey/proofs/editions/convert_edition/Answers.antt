@@ -47,11 +47,11 @@ returns-in-Err c =
     let len = length job in
     let w = c.walk in
     let roomy : len ≤ length out = omega arith in
-    let copied : c.copy_from_slice.new.self ≡ job = c.copy_from_slice.ensures.after in
-    let lent = c.copy_from_slice.new.self ++ drop len out in
-    let first : take len lent ≡ job = take_at c.copy_from_slice.new.self (drop len out) len (ap length copied) ∙ copied in
+    let copied : c.copy.new.to ≡ job = c.copy.ensures in
+    let lent = c.copy.new.to ++ drop len out in
+    let first : take len lent ≡ job = take_at c.copy.new.to (drop len out) len (ap length copied) ∙ copied in
     let k : length w.new.out ≡ len = w.auto.out ∙ ap length first in
-    let l = lent_length len c.copy_from_slice.new.self out (ap length copied) roomy in
+    let l = lent_length len c.copy.new.to out (ap length copied) roomy in
     let n = lent_length len w.new.out lent k (omega (arith, l, roomy)) ∙ l in
     let i = refused_ill (job_reading job) c.in-Err.ensures.result_value in
     let e : ◌≡◌ {A = JobOutcome ℕ} (refused (number_of c.in-Err.refused.refusal) c.in-Err.refused.command) (edition_conversion job (length out)) =
@@ -67,14 +67,14 @@ returns c =
     let out = c.args.out.now in
     let w = c.walk in
     let roomy : length job ≤ length out = omega arith in
-    let copied : c.copy_from_slice.new.self ≡ job = c.copy_from_slice.ensures.after in
-    let first : take (length job) (c.copy_from_slice.new.self ++ drop (length job) out) ≡ job =
-    take_at c.copy_from_slice.new.self (drop (length job) out) (length job) (ap length copied) ∙ copied in
+    let copied : c.copy.new.to ≡ job = c.copy.ensures in
+    let first : take (length job) (c.copy.new.to ++ drop (length job) out) ≡ job =
+    take_at c.copy.new.to (drop (length job) out) (length job) (ap length copied) ∙ copied in
     let r = read_well (job_reading job) c.in_default.ensures.result_value in
     let e : ◌≡◌ {A = JobOutcome ℕ} (accepted (length job)) (edition_conversion job (length out)) =
     sym (conversion_well job (length out) r.1 roomy) in
-    let f : w.new.out ++ drop (length job) (c.copy_from_slice.new.self ++ drop (length job) out) ≡ output_after job out =
-    lent_twice (length job) c.copy_from_slice.new.self out (ap length copied) w.new.out
+    let f : w.new.out ++ drop (length job) (c.copy.new.to ++ drop (length job) out) ≡ output_after job out =
+    lent_twice (length job) c.copy.new.to out (ap length copied) w.new.out
     ∙ ap (λ (l : List ℕ). l ++ drop (length job) out)
     (w.ensures.out_after r ∙ ap (convert_from (length job + 1) job [] 0) first ∙ is-converted job)
     ∙ sym (output_well job out r.1 roomy) in
