@@ -38,6 +38,7 @@ fn test_good(
 }
 
 // The test over a part of the scratch of any length from 1.
+// Kept: its parameters by themselves, and the part's length a clause: a struct writes each clause longer, and saves no call.
 fn test_in(
     part: &mut [i64],
     f: Model,

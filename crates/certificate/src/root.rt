@@ -54,7 +54,7 @@ fn numbers_of_good(
     })
 }
 
-// The places through N, over a part of the scratch of any length from 1.
+// The places through N, over a part of the scratch of any length from 1. Kept: its parameters, as in quotient.rt.
 fn numbers_in(
     part: &mut [i64],
     f: Model,

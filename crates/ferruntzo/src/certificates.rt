@@ -14,6 +14,7 @@ use model::area::{CANDIDATE_SIZE, MODEL_SIZE, model_in, store};
 use model::types::{Model, Refusal};
 
 // Stores what a test answers, and gives its number; s is the scratch of the test.
+// Kept, as `answer_operation`, and the areas as C lends them.
 #[tactic(auto, unfolding(crate::specs::definitions::Certificates::test_in), using(crate::proofs::Answering::zero_storable))]
 fn answer_test(test: Result<Certificate, Refusal>, out: &mut [i32], numbers: &mut [u64]) -> u32
     requires { IfOk test (λ c. Storable c.model) }

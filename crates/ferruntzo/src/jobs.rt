@@ -18,7 +18,7 @@ use survey::editions::convert_edition;
 // The count of results or the length, and the number of the refused command.
 const ANSWER_SIZE: usize = 2;
 
-// Writes both numbers, and answers the number of the refusal.
+// Writes both numbers, and answers the number of the refusal. Kept, as `answer_operation`.
 fn write_answer(outcome: Result<usize, RefusedCommand>, answer: &mut [u32]) -> u32
     requires { Answerable (job_outcome_of outcome) }
     ensures value { result ≡ refusal_number (job_outcome_of outcome) }

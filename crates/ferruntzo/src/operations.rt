@@ -19,7 +19,7 @@ use model::integrate::integrate;
 use model::multiply::multiply;
 use model::types::{Bounds, Model, Refusal};
 
-// Stores what an operation answers, and gives its number.
+// Stores what an operation answers, and gives its number. Kept apart from the other answers: each stores areas of its own types.
 #[tactic(auto, unfolding(crate::specs::definitions::Operations::outcome_in), using(crate::proofs::Answering::zero_storable))]
 pub(crate) fn answer_operation(answer: Result<Model, Refusal>, out: &mut [i32]) -> u32
     requires { IfOk answer Storable }
@@ -96,7 +96,7 @@ pub extern "C" fn ferruntzo_integrate(a: &[i32], out: &mut [i32]) -> u32
     }
 }
 
-// Stores what an evaluation answers, and gives its number.
+// Stores what an evaluation answers, and gives its number. Kept, as `answer_operation`.
 #[tactic(auto, unfolding(crate::specs::definitions::Operations::bounds_in))]
 fn answer_evaluation(answer: Result<Bounds, Refusal>, bounds: &mut [i64]) -> u32
     ensures { evaluation_answer result bounds.new ≡ bounds_in (bounds_of answer) bounds.old }

@@ -57,7 +57,7 @@ impl<'a> Factors<'a> {
         total
     }
 
-    // Σ a_i·b_j over i+j = k and over i+j = k+1.
+    // Σ a_i·b_j over i+j = k and over i+j = k+1. Kept: the bound on k in each clause, as k is another at each call.
     pub(crate) fn convolutions(self, k: usize) -> TwoPlaces
         requires { (0 < length self.b.now) × (k + 1 < 2 ^ 64) }
         ensures { Holds result (convolution ℤ_ring (k + 1) self.entry.a.now self.entry.b.now)

@@ -118,6 +118,7 @@ fn multiply(job: &[u8], at: usize, work: &[i32]) -> Result<Certificate, Refusal>
     untested(model::multiply::multiply(o.first, o.second, kept))
 }
 
+// Kept: that the scratch is clear, in each clause, as its length is no part of it.
 fn quotient(
     job: &[u8],
     at: usize,

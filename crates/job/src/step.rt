@@ -29,7 +29,7 @@ fn add_result(work: &mut [i32], count: usize, made: &Certificate, report: Report
 }
 
 // A command that was read, whose byte stands where the commands before it led.
-// Kept: each area is lent by itself, since a struct of them asks a clause of every function for each `&mut` in it.
+// Kept: each area by itself, its size a clause: a struct of them asks a clause of every function for each `&mut` in it.
 fn perform(
     read: ReadCommand,
     job: &[u8],

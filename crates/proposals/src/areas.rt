@@ -81,6 +81,7 @@ fn number<A: Copy>(made: &Result<A, Refusal>) -> u32
 }
 
 // Stores what the maker of reciprocals answers, and gives the number of its verdict.
+// Kept: the areas as C lends them, here and below.
 fn answer_reciprocal(
     made: Result<Reciprocal, Refusal>,
     recorded: &mut [f64],
