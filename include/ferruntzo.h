@@ -339,7 +339,7 @@ uint32_t ferruntzo_evaluate(const int32_t *a, size_t a_len,
    coefficients become zero.  Accepted: out has the ends -S and S, and at every x from
    -1 to 1 it allows the exact value of the series.  The radius covers this
    rounding only; docs/FORMAT.md says how the model becomes a load of a job.
-   About 11.5 kB of stack.
+   About 12 kB of stack.
    Sizes: series 34, out 37.  Refused: out is zero, if it has its 37 numbers.
    Refusals: 1 (series or out), 14, 3 (rounding can take a weight near 2^28 above it). */
 uint32_t ferruntzo_from_series(const int32_t *series, size_t series_len,
@@ -464,7 +464,7 @@ uint32_t ferruntzo_quotient_of_two(const int32_t *f, size_t f_len,
    and invalid operations are how 15 arises: with exceptions enabled (feenableexcept) a
    call may trap, and exception flags may be set after a call.
    An area of doubles that is written may hold any bits before, signalling NaNs too.
-   About 6 kB of stack.  There is no maker for roots; 15 and 16 never come of a job. */
+   About 7.3 kB of stack.  There is no maker for roots; 15 and 16 never come of a job. */
 
 /* w for 1/g.  Sizes: g 37, record 34, w 34, outcome 1.
    Refusals: 1 (any area), 2 or 18 (g), 15 (g_0 is zero, or a value is not finite in

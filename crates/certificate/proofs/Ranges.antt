@@ -6,21 +6,17 @@ use Prim.Native.Nat.{ℕ, suc, ◌*◌, ◌^◌, ◌≤◌, ◌<◌}
 use native.Mathlib.Omega.{arith}
 use native.Mathlib.Nat.{mul-le-mul}
 use lib.IntN.{ℤ, pos}
-use lib.ListN.{length, length-take}
+use lib.ListN.{length}
 use Rattle.ring.specs.definitions.Integer.{ℤ_ring}
 use Rattle.chebyshev.specs.definitions.Coefficients.{weight, subtract_lists}
 use Rattle.chebyshev.specs.definitions.Product.{product}
-use Rattle.model.specs.definitions.Models.{scale, coefficient_count, product_size, max_weight, terms, good}
+use Rattle.model.specs.definitions.Models.{scale, product_size, max_weight, terms, good}
 use Rattle.model.proofs.laws.ModelLaws.{good_is}
 use Rattle.model.specs.definitions.Multiply.{product_list}
 use Rattle.model.proofs.laws.GoodLaws.{length-terms, weight-terms, weight-product_list}
 use Rattle.model.specs.declared.types.Model.{Model}
 use Rattle.certificate.specs.definitions.InnerContracts.{residual_list, ProductTerms, Subtrahend, Ready}
 use Rattle.certificate.proofs.laws.ResidualLaws.{weight_residual, weight_residual_take, weight-constant}
-
--- every model of the code has 33 coefficients
-terms_some : (m : Model) → length m.coefficients ≡ coefficient_count → 0 < length (terms m)
-terms_some m l = omega (arith, length-take (suc m.degree) m.coefficients)
 
 residual_range : {part : List ℤ} {a b : Model} → Ready part a b → (f : List ℤ) → weight f ≤ max_weight
     → weight (residual_list (product_list a b) f) ≤ 2 ^ 58
@@ -33,12 +29,12 @@ constant n h = record { short = omega arith; weight-fits = omega arith }
 
 -- x and y are the terms of a and b
 module _ {part : List ℤ} {a b : Model} (r : Ready part a b) {x y : List ℤ} (ex : x ≡ terms a) (ey : y ≡ terms b) where
-  pub factors : length a.coefficients ≡ coefficient_count → length b.coefficients ≡ coefficient_count → ProductTerms x y
-  factors la lb =
+  pub factors : 0 < length x → 0 < length y → ProductTerms x y
+  factors sx sy =
       let ha = r.first_good in
       let hb = r.second_good in record {
-        first_some = omega (arith, ap length ex, terms_some a la);
-        second_some = omega (arith, ap length ey, terms_some b lb);
+        first_some = sx;
+        second_some = sy;
         whole = omega (arith, ap length ex, ap length ey, length-terms a ha, length-terms b hb);
         weights = rw (ex, ey) (mul-le-mul (weight-terms a ha) (weight-terms b hb));
       }

@@ -6,4 +6,5 @@ pub mod InnerContracts
 pub mod TwoSums
 pub mod Groups
 pub mod RootBounds
+pub mod RootEnd
 pub mod Promise

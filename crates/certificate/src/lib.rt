@@ -5,5 +5,6 @@ mod numbers;
 pub mod quotient;
 mod residual;
 pub mod root;
+mod root_end;
 pub mod scratch;
 pub mod types;

@@ -2,43 +2,26 @@
 // 1; a group is weighed before the next one is formed.
 ghost use Rattle.std.specs.Prelude.{◌≡◌, ◌+◌, ◌*◌, ◌≤◌, ◌<◌, ◌^◌, length};
 ghost use Rattle.ring.specs.definitions.Integer.{ℤ_ring};
-ghost use Rattle.chebyshev.specs.definitions.Coefficients.{weight as weight_of};
+ghost use Rattle.chebyshev.specs.definitions.Coefficients.{weight};
 ghost use Rattle.chebyshev.specs.definitions.Product.{product};
 ghost use Rattle.model.specs.definitions.Models.{scale, product_size};
 ghost use Rattle.certificate.specs.definitions.Groups.{group};
 ghost use Rattle.certificate.specs.definitions.InnerContracts.{residual_list, group_residual, ProductTerms, Subtrahend};
 
 use groups::form::form;
-use integer::absolute::magnitude;
-use integer::lengths::{max, min};
+use model::measure::weigh;
 use model::types::Model;
 
 // 2S, one unit of a coefficient in units of C.
 const UNIT: i64 = 2 * Model::SCALE;
 
-// Σ |c_k|
-fn weight(part: &[i64]) -> u64
-    requires { weight_of part.now < 2 ^ 64 }
-    ensures { result ≡ weight_of part.now }
-{
-    let mut sum: u64 = 0;
-    let mut k = 0;
-    while k < part.len() {
-        sum += magnitude(part[k]);
-        k += 1;
-    }
-    sum
-}
-
 // c_k - 2S f_k at the places of f, which is no longer than the part.
 fn subtract(part: &mut [i64], f: &[i32])
-    requires { (length f.now ≤ length part.old) × (weight_of part.old + 2 * scale * weight_of f.now < 2 ^ 63) }
+    requires { (length f.now ≤ length part.old) × (weight part.old + 2 * scale * weight f.now < 2 ^ 63) }
     ensures { part.new ≡ residual_list part.old f.now }
 {
-    let mut k = 0;
-    while k < f.len() {
-        part[k] = part[k] - UNIT * (f[k] as i64);
-        k += 1;
+    for (k, x) in f.iter().enumerate() {
+        part[k] -= UNIT * i64::from(*x);
     }
 }
 
@@ -47,13 +30,10 @@ fn window(f: &[i32], start: usize, count: usize) -> &[i32]
     ensures { result.now ≡ group count start f.now }
 {
     if start < f.len() {
-        if count < f.len() - start {
-            &f[start..start + count]
-        } else {
-            &f[start..]
-        }
+        let rest = &f[start..];
+        &rest[..count.min(rest.len())]
     } else {
-        &f[..0]
+        &[]
     }
 }
 
@@ -65,19 +45,20 @@ fn group_residual(part: &mut [i64], start: usize, a: &[i32], b: &[i32], f: &[i32
 {
     form(part, start, a, b);
     subtract(part, window(f, start, part.len()));
-    weight(part)
+    weigh(part)
 }
 
 // The weight of C(a, b) - 2S f, group by group up to where C and f have ended.
 pub(crate) fn residual(part: &mut [i64], a: &[i32], b: &[i32], f: &[i32]) -> u64
     requires { (0 < length part.old) × ProductTerms a.now b.now × Subtrahend f.now }
-    ensures { result ≡ weight_of (residual_list (product ℤ_ring product_size a.now b.now) f.now) }
+    ensures { result ≡ weight (residual_list (product ℤ_ring product_size a.now b.now) f.now) }
 {
-    let end = max(a.len() + b.len() - 1, f.len());
+    let end = (a.len() + b.len() - 1).max(f.len());
     let mut sum: u64 = 0;
+    // Kept: with (0..end).step_by(part.len()) a test takes 7 percent more instructions.
     let mut start = 0;
     while start < end {
-        let n = min(part.len(), end - start);
+        let n = part.len().min(end - start);
         sum += group_residual(&mut part[..n], start, a, b, f);
         start += n;
     }

@@ -1,31 +1,25 @@
 // The root tests: is h a square root of f, with w as a helper?
-ghost use Rattle.std.specs.Prelude.{◌≡◌, ◌<◌, length};
-ghost use Rattle.chebyshev.specs.definitions.Coefficients.{weight as weight_of, coefficient_sum};
-ghost use Rattle.model.specs.definitions.Models.{coefficient_count, candidate_model};
-ghost use Rattle.model.specs.declared.types.Verdict.TheVariants.{Accepted};
+ghost use Rattle.std.specs.Prelude.{◌≡◌, ◌<◌, length, IfOk};
+ghost use Rattle.chebyshev.specs.definitions.Coefficients.{coefficient_sum};
 ghost use Rattle.certificate.specs.definitions.Tests.{scratch_size, scratch_after, test_of};
 ghost use Rattle.certificate.specs.definitions.Root.{root_test};
 ghost use Rattle.certificate.specs.definitions.Promise.{RootAllowed};
-ghost use Rattle.certificate.specs.definitions.InnerContracts.{RootReady, RootLast, reach_of, root_reach, root_end};
+ghost use Rattle.certificate.specs.definitions.InnerContracts.{RootReady, reach_of, root_reach};
 
-use crate::numbers::{SCALE, displacement, root_contraction, root_radius, root_residual};
+use crate::numbers::{SCALE, Weighed, displacement, root_contraction, root_residual};
+use crate::root_end::RootNumbers;
 use crate::scratch::clear_scratch;
-use crate::types::{RootNumbers, RootRule, SCRATCH_SIZE, TestOutcome};
-use model::measure::{fault_of, is_good, measure_candidate};
-use model::types::{COEFFICIENTS, Candidate, Interval, Model, Refusal};
-use radius::least_radius::least_radius;
-use radius::types::FoundRadius;
+use crate::types::{Certificate, RootRule, SCRATCH_SIZE};
+use model::measure::{checked_candidate, checked_weight};
+use model::types::{COEFFICIENTS, Candidate, Model, Refusal};
 
 // Σ w_k
 fn total(coefficients: &[i32; COEFFICIENTS]) -> i64
-    requires { length coefficients.now ≡ coefficient_count }
     ensures { result ≡ coefficient_sum coefficients.now }
 {
     let mut sum: i64 = 0;
-    let mut k = 0;
-    while k < COEFFICIENTS {
-        sum = sum + (coefficients[k] as i64);
-        k += 1;
+    for x in coefficients {
+        sum += i64::from(*x);
     }
     sum
 }
@@ -34,123 +28,67 @@ fn total(coefficients: &[i32; COEFFICIENTS]) -> i64
 fn numbers_of_good(
     part: &mut [i64],
     f: Model,
-    h: Candidate,
-    w: Candidate,
-    weight: u64,
-) -> RootNumbers
-    requires { RootReady part.old f h w × (weight ≡ weight_of w.coefficients) }
-    ensures { reach_of result ≡ root_reach scratch_size f h w }
+    h: &Candidate,
+    w: Weighed,
+) -> Result<RootNumbers, Refusal>
+    requires { RootReady part.old f h.now w.candidate.now }
+    ensures { reach_of result ≡ root_reach scratch_size f h.now w.entry.candidate.now }
 {
-    if total(&w.coefficients) <= 0 {
-        return RootNumbers::Refused(Refusal::HelperNotPositive);
+    if total(&w.candidate.coefficients) <= 0 {
+        return Err(Refusal::HelperNotPositive);
     }
-    let m = root_contraction(part, h, w);
-    if m < SCALE {
-        let n = root_residual(part, f, h);
-        if n <= Model::MAX_RADIUS {
-            let b = displacement(weight, n);
-            RootNumbers::Reached {
-                weight,
-                contraction: m,
-                residual: n,
-                displacement: b,
-            }
-        } else {
-            RootNumbers::Refused(Refusal::LargeResidual)
-        }
-    } else {
-        RootNumbers::Refused(Refusal::NotContracting)
+    let m = root_contraction(part, h, w.candidate);
+    if SCALE <= m {
+        return Err(Refusal::NotContracting);
     }
+    let n = root_residual(part, f, h);
+    if Model::MAX_RADIUS < n {
+        return Err(Refusal::LargeResidual);
+    }
+    let b = displacement(w.weight, n);
+    Ok(RootNumbers {
+        weight: w.weight,
+        contraction: m,
+        residual: n,
+        displacement: b,
+    })
 }
 
-// The places through N, over a part of the scratch of any length from 1.
-fn numbers_in(part: &mut [i64], f: Model, h: Candidate, w: Candidate) -> RootNumbers
+// The places through N, over a part of the scratch of any length from 1. Kept: its parameters, as in quotient.rt.
+fn numbers_in(
+    part: &mut [i64],
+    f: Model,
+    h: Candidate,
+    w: Candidate,
+) -> Result<RootNumbers, Refusal>
     requires { 0 < length part.old }
     ensures { reach_of result ≡ root_reach scratch_size f h w }
 {
-    if !is_good(f) {
-        return RootNumbers::Refused(fault_of(f));
-    }
-    if !measure_candidate(h).good {
-        return RootNumbers::Refused(Refusal::BadModel);
-    }
-    let of_w = measure_candidate(w);
-    if !of_w.good {
-        return RootNumbers::Refused(Refusal::BadModel);
-    }
-    numbers_of_good(part, f, h, w, of_w.weight)
+    checked_weight(f)?;
+    checked_candidate(h)?;
+    let weighed_w = Weighed {
+        candidate: &w,
+        weight: checked_candidate(w)?,
+    };
+    numbers_of_good(part, f, &h, weighed_w)
 }
 
 // The places through N, and b.
-pub(crate) fn root_numbers(f: Model, h: Candidate, w: Candidate, scratch: &mut [i64]) -> RootNumbers
+fn root_numbers(
+    f: Model,
+    h: Candidate,
+    w: Candidate,
+    scratch: &mut [i64],
+) -> Result<RootNumbers, Refusal>
     ensures result_value { reach_of result ≡ root_reach (length scratch.old) f h w }
     ensures scratch_after { scratch.new ≡ scratch_after scratch.old }
 {
     if scratch.len() < SCRATCH_SIZE {
-        return RootNumbers::Refused(Refusal::ShortArea);
+        return Err(Refusal::ShortArea);
     }
     let numbers = numbers_in(&mut scratch[..SCRATCH_SIZE], f, h, w);
     clear_scratch(scratch);
     numbers
-}
-
-// Command 0x21's discriminant and radius, never too large. 8·b·M may pass 64 bits, so b is compared with (S-m)² / (8·M).
-fn by_discriminant(
-    h: Candidate,
-    interval: Interval,
-    weight: u64,
-    m: u64,
-    n: u64,
-    b: u64,
-) -> TestOutcome
-    requires { RootLast (candidate_model interval h) weight m b }
-    ensures { test_of result ≡ root_end RootRule.ByDiscriminant (candidate_model interval h) weight m n b }
-{
-    let gap = SCALE - m;
-    if b <= gap * gap / (8 * weight) {
-        let radius = root_radius(b, m);
-        TestOutcome::accepted(h, interval, radius as u32, m, n, b)
-    } else {
-        TestOutcome::refused(Refusal::NegativeDiscriminant)
-    }
-}
-
-// Command 0x22's least radius. It is at most S, so the result is never too large.
-fn by_least_radius(
-    h: Candidate,
-    interval: Interval,
-    weight: u64,
-    m: u64,
-    n: u64,
-    b: u64,
-) -> TestOutcome
-    requires { RootLast (candidate_model interval h) weight m b }
-    ensures { test_of result ≡ root_end RootRule.ByLeastRadius (candidate_model interval h) weight m n b }
-{
-    let least = least_radius(weight, m, b);
-    match least {
-        FoundRadius::Found(radius) => TestOutcome::accepted(h, interval, radius as u32, m, n, b),
-        FoundRadius::Missing => TestOutcome::refused(Refusal::NoRadius),
-    }
-}
-
-// The places behind N and b.
-fn root_result(
-    rule: RootRule,
-    h: Candidate,
-    interval: Interval,
-    weight: u64,
-    m: u64,
-    n: u64,
-    b: u64,
-) -> TestOutcome
-    requires { RootLast (candidate_model interval h) weight m b }
-    ensures { test_of result ≡ root_end rule (candidate_model interval h) weight m n b }
-{
-    match rule {
-        RootRule::ByDiscriminant => by_discriminant(h, interval, weight, m, n, b),
-        RootRule::ByLeastRadius => by_least_radius(h, interval, weight, m, n, b),
-    }
 }
 
 // The last clause is what is promised of an accepted root, by either rule.
@@ -160,19 +98,19 @@ pub fn root(
     h: Candidate,
     w: Candidate,
     scratch: &mut [i64],
-) -> TestOutcome
+) -> Result<Certificate, Refusal>
     ensures result_value { test_of result ≡ root_test rule (length scratch.old) f h w }
     ensures scratch_after { scratch.new ≡ scratch_after scratch.old }
-    ensures root_allowed { result.verdict ≡ Accepted → RootAllowed f result.model }
+    ensures root_allowed { IfOk result (λ c. RootAllowed f c.model) }
 {
-    let numbers = root_numbers(f, h, w, scratch);
-    match numbers {
-        RootNumbers::Refused(refusal) => TestOutcome::refused(refusal),
-        RootNumbers::Reached {
-            weight,
-            contraction: m,
-            residual: n,
-            displacement: b,
-        } => root_result(rule, h, f.interval, weight, m, n, b),
-    }
+    let numbers = root_numbers(f, h, w, scratch)?;
+    let radius = numbers.radius(rule)?;
+    Ok(Certificate::new(
+        h,
+        f.interval,
+        radius,
+        numbers.contraction,
+        numbers.residual,
+        numbers.displacement,
+    ))
 }

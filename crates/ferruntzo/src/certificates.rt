@@ -1,28 +1,38 @@
 // The quotient test and the root tests over lent areas; if an area is too short, refusal 1 and zeros.
-ghost use Rattle.std.specs.Prelude.{◌≡◌, List, ℤ};
+ghost use Rattle.std.specs.Prelude.{◌≡◌, List, ℤ, IfOk};
 ghost use Rattle.model.specs.definitions.Area.{area_model, Storable};
 ghost use Rattle.certificate.specs.definitions.Tests.{scratch_after, test_of};
 ghost use Rattle.certificate.specs.definitions.Promise.{QuotientAllowed, RootAllowed};
 ghost use Rattle.ferruntzo.specs.definitions.Certificates.{short_test, test_in, test_answer, quotient_answer, root_answer};
 
-use crate::areas::{NUMBERS_SIZE, candidate_in, store_model, store_numbers};
+use crate::areas::{NUMBERS_SIZE, candidate_in, store_model};
 use certificate::quotient::quotient;
 use certificate::root::root;
 use certificate::scratch::clear_scratch;
-use certificate::types::{RootRule, SCRATCH_SIZE, TestOutcome};
-use model::area::{CANDIDATE_SIZE, MODEL_SIZE, model_in};
-use model::types::{Model, Refusal, Verdict, verdict_number};
+use certificate::types::{Certificate, RootRule, SCRATCH_SIZE};
+use model::area::{CANDIDATE_SIZE, MODEL_SIZE, model_in, store};
+use model::types::{Model, Refusal};
 
-// Stores what a test answers, and gives the number of its verdict; s is the scratch of the test.
-fn answer_test(test: TestOutcome, out: &mut [i32], numbers: &mut [u64]) -> u32
-    requires { Storable test.model }
+// Stores what a test answers, and gives its number; s is the scratch of the test.
+// Kept, as `answer_operation`, and the areas as C lends them.
+#[tactic(auto, unfolding(crate::specs::definitions::Certificates::test_in), using(crate::proofs::Answering::zero_storable))]
+fn answer_test(test: Result<Certificate, Refusal>, out: &mut [i32], numbers: &mut [u64]) -> u32
+    requires { IfOk test (λ c. Storable c.model) }
     ensures { (s : List ℤ) → test_answer result (scratch_after s) out.new numbers.new
         ≡ test_in (test_of test) s out.old numbers.old }
 {
-    let verdict = test.verdict;
-    store_model(out, test.model);
-    store_numbers(numbers, test.contraction, test.residual, test.displacement);
-    verdict_number(verdict)
+    match test {
+        Ok(c) => {
+            store_model(out, c.model);
+            store(numbers, [c.contraction, c.residual, c.displacement]);
+            0
+        }
+        Err(refusal) => {
+            store_model(out, Model::zero());
+            store(numbers, [0; NUMBERS_SIZE]);
+            u32::from(refusal)
+        }
+    }
 }
 
 // Refusal 1 of a test.
@@ -31,14 +41,7 @@ fn refuse_test(scratch: &mut [i64], out: &mut [i32], numbers: &mut [u64]) -> u32
         ≡ test_in short_test scratch.old out.old numbers.old }
 {
     clear_scratch(scratch);
-    let test = TestOutcome {
-        verdict: Verdict::Refused(Refusal::ShortArea),
-        model: Model::zero(),
-        contraction: 0,
-        residual: 0,
-        displacement: 0,
-    };
-    answer_test(test, out, numbers)
+    answer_test(Err(Refusal::ShortArea), out, numbers)
 }
 
 // Is h a quotient f/g, with w as a helper? The last clause is what is promised of the result, here and below.

@@ -6,8 +6,9 @@ ghost use Rattle.ferruntzo.specs.definitions.Operations.{operation_answer};
 ghost use Rattle.ferruntzo.specs.definitions.Conversions.{series_size, area_series, series_answer};
 
 use crate::areas::candidate_in;
-use crate::operations::{answer_operation, refuse_operation};
+use crate::operations::answer_operation;
 use model::area::{CANDIDATE_SIZE, MODEL_SIZE};
+use model::types::{Candidate, Refusal};
 use series::convert::from_series;
 use series::types::Series;
 
@@ -19,10 +20,12 @@ fn series_in(area: &[i32]) -> Series
     requires { series_size ≤ length area.now }
     ensures { result ≡ area_series area.now }
 {
-    let parts = candidate_in(area);
-    let coefficients = parts.coefficients;
+    let Candidate {
+        degree,
+        coefficients,
+    } = candidate_in(area);
     Series {
-        degree: parts.degree,
+        degree,
         coefficients,
     }
 }
@@ -36,6 +39,6 @@ pub extern "C" fn ferruntzo_from_series(series: &[i32], out: &mut [i32]) -> u32
     if (SERIES_SIZE <= series.len()) & (MODEL_SIZE <= out.len()) {
         answer_operation(from_series(series_in(series)), out)
     } else {
-        refuse_operation(out)
+        answer_operation(Err(Refusal::ShortArea), out)
     }
 }

@@ -1,5 +1,6 @@
 // Jobs over lent areas: their check, with and without a report, and their conversion to the other edition.
-ghost use Rattle.std.specs.Prelude.{◌≡◌, ◌++◌, ℕ, drop, take};
+ghost use Rattle.std.specs.Prelude.{◌≡◌, ℕ, take};
+ghost use Rattle.model.specs.definitions.Area.{area_out};
 ghost use Rattle.job.specs.definitions.Outcomes.{accepted, job_outcome_of, refusal_number};
 ghost use Rattle.job.specs.definitions.Requirement.{Requirement3};
 ghost use Rattle.job.specs.declared.types.Report.TheVariants.{Workshop, Service};
@@ -9,38 +10,34 @@ ghost use Rattle.ferruntzo.specs.definitions.Jobs.{job_answer, check_answer, edi
 ghost use Rattle.ferruntzo.specs.definitions.Jobs.{report_answer, room_left, exported_report_places};
 
 use job::run::{check, check_and_report};
-use job::types::{JobOutcome, Report};
-use model::types::number_of;
-use survey::areas::clear;
+use job::types::{RefusedCommand, Report};
+use model::area::store;
+use model::types::Refusal;
 use survey::editions::convert_edition;
 
 // The count of results or the length, and the number of the refused command.
 const ANSWER_SIZE: usize = 2;
 
-// Document 01's number of an area that is too short.
-const SHORT_AREA: u32 = 1;
-
-// Writes both numbers, and answers the number of the refusal.
-fn write_answer(outcome: JobOutcome, answer: &mut [u32]) -> u32
-    requires { Answerable (job_outcome_of outcome) answer.old }
+// Writes both numbers, and answers the number of the refusal. Kept, as `answer_operation`.
+fn write_answer(outcome: Result<usize, RefusedCommand>, answer: &mut [u32]) -> u32
+    requires { Answerable (job_outcome_of outcome) }
     ensures value { result ≡ refusal_number (job_outcome_of outcome) }
-    ensures answer_after { answer.new ≡ answer_numbers (job_outcome_of outcome) ++ drop answer_size answer.old }
+    ensures answer_after { answer.new ≡ area_out answer_size (answer_numbers (job_outcome_of outcome)) answer.old }
 {
     match outcome {
-        JobOutcome::Accepted(count) => {
-            answer[0] = count as u32;
-            answer[1] = 0;
+        Ok(count) => {
+            store(answer, [count as u32, 0]);
             0
         }
-        JobOutcome::Refused(refusal, command) => {
-            answer[0] = 0;
-            answer[1] = command as u32;
-            number_of(refusal)
+        Err(refused) => {
+            store(answer, [0, refused.command as u32]);
+            u32::from(refused.refusal)
         }
     }
 }
 
 // Checks a job. The last clause is requirement 3.
+#[tactic(auto, unfolding(crate::specs::definitions::Jobs::check_answer, model::specs::definitions::Area::area_out))]
 #[unsafe(no_mangle)]
 pub extern "C" fn ferruntzo_check(
     job: &[u8],
@@ -57,11 +54,12 @@ pub extern "C" fn ferruntzo_check(
         let outcome = check(job, work, scratch);
         write_answer(outcome, answer)
     } else {
-        SHORT_AREA
+        u32::from(Refusal::ShortArea)
     }
 }
 
-// Checks a job and writes a report. The last clause is requirement 3.
+// Checks a job and writes a report. The last clause is requirement 3. Kept: the areas as C lends them.
+#[tactic(auto, unfolding(crate::specs::definitions::Jobs::report_answer, crate::specs::definitions::Jobs::room_left))]
 fn report_job(
     job: &[u8],
     work: &mut [i32],
@@ -84,7 +82,7 @@ fn report_job(
         let outcome = check_and_report(job, work, scratch, report, room);
         write_answer(outcome, answer)
     } else {
-        SHORT_AREA
+        u32::from(Refusal::ShortArea)
     }
 }
 
@@ -133,6 +131,7 @@ pub extern "C" fn ferruntzo_check_service(
 }
 
 // Converts a job to the other edition. The last clause is what the converted job has to do with its source.
+#[tactic(auto, unfolding(crate::specs::definitions::Jobs::convert_answer, model::specs::definitions::Area::area_out))]
 #[unsafe(no_mangle)]
 pub extern "C" fn ferruntzo_convert_edition(job: &[u8], out: &mut [u8], answer: &mut [u32]) -> u32
     ensures answer_after { edition_answer result out.new answer.new
@@ -144,7 +143,7 @@ pub extern "C" fn ferruntzo_convert_edition(job: &[u8], out: &mut [u8], answer: 
         let outcome = convert_edition(job, out);
         write_answer(outcome, answer)
     } else {
-        clear(out);
-        SHORT_AREA
+        out.fill(0);
+        u32::from(Refusal::ShortArea)
     }
 }

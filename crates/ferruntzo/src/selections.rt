@@ -8,25 +8,27 @@ ghost use Rattle.selection.specs.definitions.Select.{make_selected, part_numbers
 ghost use Rattle.selection.specs.definitions.Promise.{part_model, Tightest};
 ghost use Rattle.ferruntzo.specs.definitions.Selections.{selection_answer, short_selection, selection_in, quotient_of_two_answer};
 
-use crate::areas::{SELECTION_SIZE, store_selected};
+use crate::areas::SELECTION_SIZE;
 use certificate::scratch::clear_scratch;
 use certificate::types::SCRATCH_SIZE;
-use model::area::{MODEL_SIZE, model_in};
-use model::types::{Refusal, number_of};
+use model::area::{MODEL_SIZE, model_in, store};
+use model::types::Refusal;
 use selection::select::quotient_of_two;
 
 // Refusal 1 of a selection.
+#[tactic(auto, unfolding(crate::specs::definitions::Selections::selection_in))]
 fn refuse_selection(scratch: &mut [i64], answer: &mut [u32]) -> u32
     ensures { selection_answer result scratch.new answer.new
         ≡ selection_in short_selection scratch.old answer.old }
 {
     clear_scratch(scratch);
-    store_selected(answer, 0, 0);
-    number_of(Refusal::ShortArea)
+    store(answer, [0; SELECTION_SIZE]);
+    u32::from(Refusal::ShortArea)
 }
 
 // Which of two proposals for f/g is accepted with the smaller radius? Both have one lifetime, as quotient_of_two asks. The last
 // two clauses are what is promised of the chosen one.
+#[tactic(auto, unfolding(crate::specs::definitions::Selections::selection_in, model::specs::definitions::Area::area_out))]
 #[unsafe(no_mangle)]
 pub extern "C" fn ferruntzo_quotient_of_two<'a>(
     f: &[i32],
@@ -54,6 +56,7 @@ pub extern "C" fn ferruntzo_quotient_of_two<'a>(
         & (SCRATCH_SIZE <= scratch.len())
         & (SELECTION_SIZE <= answer.len())
     {
+        // Kept: lent numbers, as `quotient_of_two` takes them: document 02, S-14, names its form.
         let mut number: u32 = 0;
         let mut chosen: u32 = 0;
         let mut radius: u32 = 0;
@@ -67,7 +70,7 @@ pub extern "C" fn ferruntzo_quotient_of_two<'a>(
             &mut chosen,
             &mut radius,
         );
-        store_selected(answer, chosen, radius);
+        store(answer, [chosen, radius]);
         number
     } else {
         refuse_selection(scratch, answer)

@@ -5,17 +5,21 @@ ghost use Rattle.chebyshev.specs.definitions.Coefficients.{weight};
 ghost use Rattle.chebyshev.specs.definitions.TwoSums.{two_sums, places_from};
 ghost use Rattle.groups.specs.definitions.InnerContracts.{Holds};
 
-use crate::pairs::{TwoPlaces, add_correlations, convolutions};
+use crate::pairs::{Factors, TwoPlaces};
 
 // C_k and C_(k+1). At place 0 the pairs with i-j = 0 and with j-i = 0 are the same and count once.
-fn two_places(a: &[i32], b: &[i32], k: usize) -> TwoPlaces
-    requires { (0 < length b.now) × (k + 1 < 2 ^ 64) × (weight a.now * weight b.now ≤ 2 ^ 56) }
-    ensures { Holds result (two_sums ℤ_ring k a.now b.now)
-        (two_sums ℤ_ring (k + 1) a.now b.now) }
+fn two_places(factors: Factors, k: usize) -> TwoPlaces
+    requires { (0 < length factors.b.now) × (k + 1 < 2 ^ 64) }
+    ensures { Holds result (two_sums ℤ_ring k factors.entry.a.now factors.entry.b.now)
+        (two_sums ℤ_ring (k + 1) factors.entry.a.now factors.entry.b.now) }
 {
-    let x = convolutions(a, b, k);
-    let y = add_correlations(x, b, a, k);
-    let z = add_correlations(y, a, b, k);
+    let x = factors.convolutions(k);
+    let swapped = Factors {
+        a: factors.b,
+        b: factors.a,
+    };
+    let y = swapped.add_correlations(x, k);
+    let z = factors.add_correlations(y, k);
     if k == 0 {
         return TwoPlaces {
             first: y.first,
@@ -30,15 +34,15 @@ pub fn form(part: &mut [i64], start: usize, a: &[i32], b: &[i32])
     requires { (0 < length b.now) × (weight a.now * weight b.now ≤ 2 ^ 56) × (start + length part.old < 2 ^ 64) }
     ensures { part.new ≡ places_from ℤ_ring (length part.old) start a.now b.now }
 {
+    let factors = Factors { a, b };
+    // Kept: with (0..part.len()).step_by(2) a product takes 15 to 25 percent more instructions.
     let mut t = 0;
     while t < part.len() {
-        let two = two_places(a, b, start + t);
-        let first = two.first;
-        part[t] = first;
+        let two = two_places(factors, start + t);
+        part[t] = two.first;
         t += 1;
         if t < part.len() {
-            let second = two.second;
-            part[t] = second;
+            part[t] = two.second;
             t += 1;
         }
     }

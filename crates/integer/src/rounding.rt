@@ -1,7 +1,9 @@
 ghost use Rattle.std.specs.Prelude.{◌≡◌, ◌<◌, pos, nat_abs, ◌-ℤ◌, ◌*ℤ◌, ◌<ℤ◌};
 ghost use Rattle.integer.specs.definitions.Rounding.{floor as floor_of, up as up_of, upℕ, near as near_of};
 
-// n / d rounded down, for every n.
+// n / d rounded down, for every n. Kept: 0 < d in each clause, as a type for it would be made and opened at each call.
+// Kept: slower by div_euclid, and near is slower where one function gives both numbers: of a constant d, a power of two, the
+// compiler then makes no shift.
 pub fn floor(n: i64, d: i64) -> i64
     requires { pos 0 <ℤ d }
     ensures { result ≡ floor_of n (nat_abs d) }
@@ -12,6 +14,7 @@ pub fn floor(n: i64, d: i64) -> i64
 }
 
 // n / d rounded up, for every n.
+// Kept: std has div_ceil of unsigned numbers alone.
 pub fn up(n: i64, d: i64) -> i64
     requires { pos 0 <ℤ d }
     ensures { result ≡ up_of n (nat_abs d) }
@@ -47,6 +50,5 @@ pub fn up_unsigned(n: u64, d: u64) -> u64
     requires { 0 < d }
     ensures { result ≡ upℕ n d }
 {
-    let q = n / d;
-    if 0 < n % d { q + 1 } else { q }
+    n.div_ceil(d)
 }

@@ -3,14 +3,9 @@ use mathlib.Core.Path.{◌≡◌, refl, ap, ◌∙◌}
 use mathlib.Core.List.{List}
 use Prim.Native.Nat.{ℕ, zero, suc, ◌+◌, ◌*◌, ◌<◌}
 use native.Mathlib.Omega.{arith}
-use lib.IntN.{ℤ, negsuc, pos, ◌-ℤ◌}
+use lib.IntN.{ℤ}
 use lib.ListN.{length, get_or}
 use Rattle.job.specs.definitions.Bytes.{unsigned_at, signed, signeds_at}
-
--- −1 − x
-pub minus_one_minus : (x : ℕ) → negsuc 0 -ℤ pos x ≡ negsuc x
-minus_one_minus zero = refl
-minus_one_minus (suc x) = ap negsuc (omega arith)
 
 pub length-signeds_at : (s : List ℕ) (i n : ℕ) → length (signeds_at s i n) ≡ n
 unfolding signeds_at

@@ -3,8 +3,9 @@ use mathlib.Core.Path.{◌≡◌, refl, ap, sym, ◌∙◌}
 use mathlib.Core.Bool.{true, false}
 use mathlib.Core.Logic.{inl}
 use mathlib.Core.List.{List, ◌++◌}
-use Prim.Native.Nat.{ℕ, ◌≤◌, ◌<◌}
-use borrow.Author.Tests.{le-leb, lt-leb}
+use Prim.Native.Nat.{ℕ, ◌≤◌}
+use Rattle.std.specs.Prelude.{Result, Err}
+use Rattle.std.proofs.Common.{rules}
 use lib.IntN.{ℤ}
 use lib.ListN.{length, drop}
 use lib.Seq.{drop_at}
@@ -22,9 +23,8 @@ use Rattle.job.proofs.laws.ReportLaws.{report_fit, report_short}
 use Rattle.job.specs.definitions.Requirement.{Requirement3}
 use Rattle.job.proofs.laws.RequirementLaws.{refused_required, required_behind}
 use Rattle.job.specs.definitions.InnerContracts.{Clear}
-use Rattle.job.specs.declared.types.JobOutcome.{JobOutcome as CodeOutcome}
-use Rattle.job.specs.declared.types.JobOutcome.TheVariants.{Refused}
-use Rattle.job.proofs.Loop.{Ran}
+use Rattle.job.specs.declared.types.RefusedCommand.{RefusedCommand}
+use Rattle.job.proofs.LoopStates.{Ran}
 use Rattle.job.proofs.laws.RecordLaws.{length-zero_bytes}
 
 -- an area whose first n numbers were cleared
@@ -47,47 +47,47 @@ module _ (n : ℕ) (room room' : List ℕ) (e : room' ≡ zero_bytes n ++ drop n
   room_cleared_is = e ∙ ap (λ (l : List ℕ). zero_bytes n ++ l) (sym room_cleared_behind)
 
 module _ (report : Report) (job : List ℕ) (w s : List ℤ) (room : List ℕ) where
-  abbrev pub Leaves : CodeOutcome → List ℤ → List ℤ → List ℕ → Type 0
+  -- the check answers r and leaves these areas
+  abbrev pub Leaves : Result ℕ RefusedCommand → List ℤ → List ℤ → List ℕ → Type 0
   Leaves r w' s' room' =
-      (job_outcome_of r ≡ counted (report_outcome report job w s room))
-      × ((w' ≡ report_work report job w s room)
-      × ((s' ≡ report_scratch report w s room)
-      × ((room' ≡ room_after report job w s room) × Requirement3 (report_places report w s room) job (job_outcome_of r) w')))
+      record {
+        result_value : job_outcome_of r ≡ counted (report_outcome report job w s room);
+        work_after : w' ≡ report_work report job w s room;
+        scratch_after : s' ≡ report_scratch report w s room;
+        room_after : room' ≡ room_after report job w s room;
+        requirement3 : Requirement3 (report_places report w s room) job (job_outcome_of r) w';
+      }
 
-  untouched : report_fits report w s room ≡ false → Leaves (Refused ShortArea 0) w s room
+  pub untouched : report_fits report w s room ≡ false → Leaves (Err (record { refusal = ShortArea; command = 0 })) w s room
   unfolding report_outcome report_work report_scratch room_after
   untouched e =
       let claim = refused_required {job = job} (inl (report_short report w s room e, refl)) 1 0 w in
-      simp e (refl, (refl, (refl, (refl, claim))))
+      simp e (record { result_value = refl; work_after = refl; scratch_after = refl; room_after = refl; requirement3 = claim })
 
-  pub short_work : length w < work_size → Leaves (Refused ShortArea 0) w s room
-  short_work h = untouched (simp (lt-leb _ _ h))
+  module _ (fit : report_fits report w s room ≡ true) where
+    pub long_work : work_size ≤ length w
+    long_work = search rules
 
-  pub short_scratch : work_size ≤ length w → length s < scratch_size → Leaves (Refused ShortArea 0) w s room
-  short_scratch g h = untouched (simp (le-leb _ _ g, lt-leb _ _ h))
+    pub long_scratch : scratch_size ≤ length s
+    long_scratch = search rules
 
-  pub short_room : work_size ≤ length w → scratch_size ≤ length s → length room < room_size report → Leaves (Refused ShortArea 0) w s room
-  short_room f g h = untouched (simp (le-leb _ _ f, le-leb _ _ g, lt-leb _ _ h))
+    pub long_room : room_size report ≤ length room
+    long_room = search rules
 
-  pub ran_leaves : work_size ≤ length w → scratch_size ≤ length s → room_size report ≤ length room
-      → (w₁ w₂ s₁ : List ℤ) (room₁ room₂ : List ℕ) (r : CodeOutcome)
-      → w₁ ≡ zeros work_size ++ drop work_size w → room₁ ≡ zero_bytes (room_size report) ++ drop (room_size report) room
-      → Ran report job w₁ room₁ r w₂ room₂ → s₁ ≡ scratch_after s → Leaves r w₂ s₁ room₂
-  unfolding report_outcome report_work report_scratch room_after
-  ran_leaves f g h w₁ w₂ s₁ room₁ room₂ r e er ran es =
-      let fit : report_fits report w s room ≡ true = simp (le-leb _ _ f, le-leb _ _ g, le-leb _ _ h) in
-      let claim = required_behind (report_places report w s room) (report_fit report w s room fit) ran.claim in
-      simp fit (
-        ran.answer,
-        (
-          ran.work_is ∙ ap (λ (l : List ℤ). work_with (results_in (job_outcome job)) ++ l) (cleared_behind work_size w w₁ e),
-          (
-            es ∙ scratch_cleared s g,
-            (
+    pub ran_leaves : (w₁ w₂ s₁ : List ℤ) (room₁ room₂ : List ℕ) (r : Result ℕ RefusedCommand)
+        → w₁ ≡ zeros work_size ++ drop work_size w → room₁ ≡ zero_bytes (room_size report) ++ drop (room_size report) room
+        → Ran report job w₁ room₁ r w₂ room₂ → s₁ ≡ scratch_after s → Leaves r w₂ s₁ room₂
+    unfolding report_outcome report_work report_scratch room_after
+    ran_leaves w₁ w₂ s₁ room₁ room₂ r e er ran es =
+        let claim = required_behind (report_places report w s room) (report_fit report w s room fit) ran.claim in
+        simp fit (
+        record {
+          result_value = ran.answer;
+          work_after = ran.work_is ∙ ap (λ (l : List ℤ). work_with (results_in (job_outcome job)) ++ l) (cleared_behind work_size w w₁ e);
+          scratch_after = es ∙ scratch_cleared s long_scratch;
+          room_after =
               ran.room_is
-                  ∙ ap (λ (l : List ℕ). room_with report (job_certificates job) ++ l) (room_cleared_behind (room_size report) room room₁ er),
-              claim,
-            ),
-          ),
-        ),
-      )
+              ∙ ap (λ (l : List ℕ). room_with report (job_certificates job) ++ l) (room_cleared_behind (room_size report) room room₁ er);
+          requirement3 = claim;
+        }
+        )

@@ -3,6 +3,7 @@ pub mod ByteLaws
 pub mod Results
 pub mod Rooms
 pub mod LoopRooms
+pub mod LoopStates
 pub mod Loop
 pub mod OperationLaws
 pub mod StepLaws

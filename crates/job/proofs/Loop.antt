@@ -1,53 +1,35 @@
 -- The loop over a job's commands: its invariant, a turn, and its ends.
 use mathlib.Core.Path.{◌≡◌, refl, ap, sym, ◌∙◌, subst⁻¹}
 use mathlib.Core.Logic.{inr}
-use mathlib.Core.List.{List, [], ◌++◌, map}
+use mathlib.Core.List.{List, [], ◌++◌}
 use Prim.Native.Nat.{ℕ, ◌+◌, ◌≤◌, ◌<◌}
 use native.Mathlib.Omega.{arith}
+use Rattle.std.specs.Prelude.{Ok, Err, Some, None}
 use lib.IntN.{ℤ}
 use lib.ListN.{length, drop}
 use Rattle.model.specs.definitions.Outcomes.{number_of}
 use Rattle.integer.specs.definitions.Lists.{zeros}
 use Rattle.model.specs.declared.types.Model.{Model}
 use Rattle.model.specs.declared.types.Refusal.{Refusal}
-use Rattle.job.specs.definitions.Reading.{max_results}
-use Rattle.job.specs.definitions.Outcomes.{accepted, refused, job_outcome_of, counted}
+use Rattle.job.specs.definitions.Outcomes.{accepted, refused}
 use Rattle.job.specs.definitions.Step.{Step, more, over, command}
 use Rattle.job.specs.definitions.Run.{job_outcome}
-use Rattle.job.specs.definitions.Work.{work_size, work_with, result_words, results_in}
-use Rattle.job.specs.definitions.Order.{Reaches, start}
+use Rattle.job.specs.definitions.Work.{work_size, work_with, result_words}
+use Rattle.job.specs.definitions.Order.{start}
 use Rattle.job.proofs.laws.OrderLaws.{reaches_bounds, stops_there, ends_there, moves_on, refused_exactly}
-use Rattle.job.specs.definitions.InnerContracts.{Holds, Stepped, ClearedRoom, recorded_from, added_at}
+use Rattle.job.specs.definitions.InnerContracts.{CodeStep, Stepped, StepsBy, RecordsBy, ClearedRoom, recorded_from, added_at}
 use Rattle.job.specs.definitions.Reader.{read_from, job_reading}
-use Rattle.job.specs.definitions.Reports.{certificate_by, job_certificates, zero_bytes, room_size, room_with}
-use Rattle.job.proofs.laws.Accepted.{Reached}
+use Rattle.job.specs.definitions.Reports.{zero_bytes, room_size}
 use Rattle.job.proofs.laws.CertificateLaws.{certificates_onward}
 use Rattle.job.specs.declared.types.Report.{Report}
-use Rattle.job.specs.declared.types.Step.TheVariants.{More, Over, Refused as Stopped}
-use Rattle.job.specs.declared.types.JobOutcome.{JobOutcome as CodeOutcome}
-use Rattle.job.specs.declared.types.JobOutcome.TheVariants.{Accepted, Refused}
+use Rattle.job.specs.declared.types.Progress.{Progress}
 use Rattle.job.specs.definitions.Requirement.{Requirement3, nothing}
 use Rattle.job.proofs.laws.RequirementLaws.{refused_required}
 use Rattle.job.proofs.Results.{behind}
 use Rattle.job.proofs.laws.RecordLaws.{room_empty}
 use Rattle.job.proofs.LoopRooms.{room_again, room_ended, room_refused}
 use Rattle.job.proofs.Requirement.{requirement}
-
--- the invariant: command k is reached at a position with the results that the work area holds, and their records stand in the
--- room; `begun` and `bare` are the area and the room where the loop begins
-pub record Going (report : Report) (job : List ℕ) (begun work : List ℤ) (bare room : List ℕ) (at k count : ℕ) : Type 0 where
-  pub rs : List Model
-  pub reaches : Reaches job k rs at
-  pub holds : Holds work count rs (drop work_size begun)
-  pub long : work_size ≤ length begun
-  pub same : length work ≡ length begun
-  pub few : count ≤ max_results
-  pub number : k ≤ at
-  pub position : at ≤ length job
-  pub there : Reached job k rs at
-  pub room_is : room ≡ room_with report (map (certificate_by rs) there.cs) ++ drop (room_size report) bare
-  pub roomy : room_size report ≤ length bare
-  pub same_room : length room ≡ length bare
+use Rattle.job.proofs.LoopStates.{Going, Ran}
 
 pub going_begins : (report : Report) (job : List ℕ) (w : List ℤ) (room : List ℕ) → work_size ≤ length w
     → w ≡ zeros work_size ++ drop work_size w → ClearedRoom report room → Going report job w w room room 0 0 0
@@ -67,31 +49,31 @@ going_begins report job w room long e r = record {
   same_room = refl;
 }
 
--- what the run answers and leaves
-pub record Ran (report : Report) (job : List ℕ) (begun : List ℤ) (bare : List ℕ) (r : CodeOutcome) (work : List ℤ) (room : List ℕ) : Type 0 where
-  pub answer : job_outcome_of r ≡ counted (job_outcome job)
-  pub work_is : work ≡ work_with (results_in (job_outcome job)) ++ drop work_size begun
-  pub claim : Requirement3 [] job (job_outcome_of r) work
-  pub room_is : room ≡ room_with report (job_certificates job) ++ drop (room_size report) bare
-
 module _ {report : Report} {job : List ℕ} {begun work : List ℤ} {bare room : List ℕ} {at k count : ℕ}
     (g : Going report job begun work bare room at k count) (work' : List ℤ) (room' : List ℕ)
-    (wrote : room' ≡ recorded_from report room count (added_at job k g.rs at)) where
+    (records : RecordsBy report room room' work count (λ rs. added_at job k rs at)) where
   abbrev t : List ℤ
   t = drop work_size begun
 
   abbrev u : List ℕ
   u = drop (room_size report) bare
 
-  pub going_again : (s : Step (List Model)) (a c : ℕ) → command job k g.rs at ≡ s → Stepped (More c a) work' g.rs t s
-      → length work' ≡ length work → length room' ≡ length room → (at < a) × Going report job begun work' bare room' a (k + 1) c
-  going_again (more rs' next) a c e d l lr =
-      let ea : a ≡ next = cc d.answer in
-      let ec : c ≡ length rs' = cc d.answer in
+  -- the code answers r
+  abbrev Does : CodeStep → Type 0
+  Does r = StepsBy r work work' count (λ rs. command job k rs at)
+
+  wrote : room' ≡ recorded_from report room count (added_at job k g.rs at)
+  wrote = records g.rs t g.holds
+
+  again_by : (s : Step (List Model)) (p : Progress) → command job k g.rs at ≡ s → Stepped (Ok (Some p)) work' g.rs t s
+      → length work' ≡ length work → length room' ≡ length room → (at < p.next) × Going report job begun work' bare room' p.next (k + 1) p.results
+  again_by (more rs' next) p e d l lr =
+      let ea : p.next ≡ next = cc d.answer in
+      let ec : p.results ≡ length rs' = cc d.answer in
       let m = moves_on g.reaches e in
       let n = certificates_onward g.reaches g.there e in
       let b = reaches_bounds m.1 in
-      subst⁻¹ (λ (x : ℕ). (at < x) × Going report job begun work' bare room' x (k + 1) c) ea (
+      subst⁻¹ (λ (x : ℕ). (at < x) × Going report job begun work' bare room' x (k + 1) p.results) ea (
         m.0,
         record {
           rs = rs';
@@ -108,12 +90,12 @@ module _ {report : Report} {job : List ℕ} {begun work : List ℤ} {bare room :
           same_room = lr ∙ g.same_room;
         },
       )
-  going_again over a c e d l lr = let z : ◌≡◌ {A = ℕ} 0 1 = cc d.answer in absurd (omega arith)
-  going_again (Step.refused n) a c e d l lr = let z : ◌≡◌ {A = ℕ} 0 1 = cc d.answer in absurd (omega arith)
+  again_by over p e d l lr = let z : ◌≡◌ {A = ℕ} 0 1 = cc d.answer in absurd (omega arith)
+  again_by (Step.refused n) p e d l lr = let z : ◌≡◌ {A = ℕ} 0 1 = cc d.answer in absurd (omega arith)
 
-  pub going_ends : (s : Step (List Model)) → command job k g.rs at ≡ s → Stepped Over work' g.rs t s
-      → Ran report job begun bare (Accepted count) work' room'
-  going_ends over e d =
+  ends_by : (s : Step (List Model)) → command job k g.rs at ≡ s → Stepped (Ok None) work' g.rs t s
+      → Ran report job begun bare (Ok count) work' room'
+  ends_by over e d =
       let o : job_outcome job ≡ accepted g.rs = ends_there g.reaches e in
       record {
         answer = rw o (ap accepted g.holds.count_is);
@@ -121,15 +103,14 @@ module _ {report : Report} {job : List ℕ} {begun work : List ℤ} {bare room :
         claim = subst⁻¹ (λ (n : ℕ). Requirement3 [] job (accepted n) work') g.holds.count_is (requirement job g.rs o work' t d.holds);
         room_is = room_ended report u g.there g.holds.count_is g.room_is wrote g.reaches e;
       }
-  going_ends (more rs' next) e d = let z : ◌≡◌ {A = ℕ} 0 1 = cc d.answer in absurd (omega arith)
-  going_ends (Step.refused n) e d = let z : ◌≡◌ {A = ℕ} 0 1 = cc d.answer in absurd (omega arith)
+  ends_by (more rs' next) e d = let z : ◌≡◌ {A = ℕ} 0 1 = cc d.answer in absurd (omega arith)
+  ends_by (Step.refused n) e d = let z : ◌≡◌ {A = ℕ} 0 1 = cc d.answer in absurd (omega arith)
 
-  -- after a refusal the area and the room are cleared
-  pub going_stops : (s : Step (List Model)) (v : Refusal) (work'' : List ℤ) (room'' : List ℕ) → command job k g.rs at ≡ s
-      → Stepped (Stopped v) work' g.rs t s → work'' ≡ zeros work_size ++ drop work_size work'
-      → room'' ≡ zero_bytes (room_size report) ++ drop (room_size report) room' → Ran report job begun bare (Refused v k) work'' room''
+  stops_by : (s : Step (List Model)) (v : Refusal) (work'' : List ℤ) (room'' : List ℕ) → command job k g.rs at ≡ s
+      → Stepped (Err v) work' g.rs t s → work'' ≡ zeros work_size ++ drop work_size work'
+      → room'' ≡ zero_bytes (room_size report) ++ drop (room_size report) room' → Ran report job begun bare (Err (record { refusal = v; command = k })) work'' room''
   unfolding work_with result_words
-  going_stops (Step.refused n) v work'' room'' e d c cr =
+  stops_by (Step.refused n) v work'' room'' e d c cr =
       let b = reaches_bounds g.reaches in
       let o : job_outcome job ≡ refused n k = stops_there g.reaches e in
       let en : number_of v ≡ n = cc d.answer in
@@ -139,5 +120,18 @@ module _ {report : Report} {job : List ℕ} {begun work : List ℤ} {bare room :
         claim = refused_required (inr (tt, (refused_exactly job n k).0 o)) (number_of v) k work'';
         room_is = room_refused report u g.there g.holds.count_is g.room_is wrote b.results e o cr;
       }
-  going_stops over v work'' room'' e d c cr = let z : ◌≡◌ {A = ℕ} 0 1 = cc d.answer in absurd (omega arith)
-  going_stops (more rs' next) v work'' room'' e d c cr = let z : ◌≡◌ {A = ℕ} 0 1 = cc d.answer in absurd (omega arith)
+  stops_by over v work'' room'' e d c cr = let z : ◌≡◌ {A = ℕ} 0 1 = cc d.answer in absurd (omega arith)
+  stops_by (more rs' next) v work'' room'' e d c cr = let z : ◌≡◌ {A = ℕ} 0 1 = cc d.answer in absurd (omega arith)
+
+  pub going_again : {p : Progress} → Does (Ok (Some p)) → length work' ≡ length work → length room' ≡ length room
+      → (at < p.next) × Going report job begun work' bare room' p.next (k + 1) p.results
+  going_again {p} d = again_by (command job k g.rs at) p refl (d g.rs t g.holds)
+
+  pub going_ends : Does (Ok None) → Ran report job begun bare (Ok count) work' room'
+  going_ends d = ends_by (command job k g.rs at) refl (d g.rs t g.holds)
+
+  -- after a refusal the area and the room are cleared
+  pub going_stops : {v : Refusal} {work'' : List ℤ} {room'' : List ℕ} → Does (Err v) → work'' ≡ zeros work_size ++ drop work_size work'
+      → room'' ≡ zero_bytes (room_size report) ++ drop (room_size report) room'
+      → Ran report job begun bare (Err (record { refusal = v; command = k })) work'' room''
+  going_stops {v} {work''} {room''} d = stops_by (command job k g.rs at) v work'' room'' refl (d g.rs t g.holds)

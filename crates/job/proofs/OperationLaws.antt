@@ -1,5 +1,5 @@
 -- The operations of commands on the results that a work area holds.
-use mathlib.Core.Path.{◌≡◌, refl, ap, ap₂, subst, subst⁻¹, ◌∙◌}
+use mathlib.Core.Path.{◌≡◌, ap, ap₂, sym, subst⁻¹, ◌∙◌}
 use mathlib.Core.Bool.{false, ◌||◌}
 use mathlib.Core.List.{List}
 use Prim.Native.Nat.{ℕ}
@@ -7,22 +7,18 @@ use borrow.Author.Tests.{leb-false, not-false}
 use lib.Dec.{leb}
 use lib.IntN.{ℤ}
 use Rattle.model.specs.definitions.Models.{good, zero_model}
-use Rattle.model.specs.definitions.Outcomes.{Outcome, accepted, refused, payload, judged}
+use Rattle.model.specs.definitions.Outcomes.{Outcome, accepted, refused, payload}
 use Rattle.model.specs.definitions.Load.{loading_places, loading}
 use Rattle.model.proofs.laws.ModelLaws.{good_is}
 use Rattle.model.specs.definitions.Area.{Storable}
 use Rattle.model.proofs.laws.ResultLaws.{outcome-payload, zero_storable}
-use Rattle.model.proofs.laws.OutcomeLaws.{payload-judged}
-use Rattle.certificate.specs.definitions.Tests.{Certificate, test_of}
-use Rattle.certificate.specs.declared.types.TestOutcome.{TestOutcome}
+use Rattle.certificate.specs.definitions.Tests.{Certificate}
 use Rattle.model.specs.declared.types.Model.{Model}
-use Rattle.model.specs.declared.types.Verdict.{Verdict}
-use Rattle.model.specs.declared.types.Verdict.TheVariants.{Accepted, Refused}
-use Rattle.job.specs.definitions.Operations.{Maker, untested, result_at, names_bad, operation}
+use Rattle.job.specs.definitions.Operations.{Maker, result_at, names_bad, operation}
 use Rattle.job.proofs.laws.CommandLaws.{both_below}
 use Rattle.job.specs.definitions.Work.{stored_result}
 use Rattle.job.specs.definitions.Decode.{maker_at}
-use Rattle.job.specs.definitions.InnerContracts.{Holds, untested_outcome, Performs, Operable}
+use Rattle.job.specs.definitions.InnerContracts.{Holds, untested_outcome, Performs}
 use Rattle.job.specs.declared.types.Operation.{Operation}
 use Rattle.job.proofs.Results.{result_held}
 
@@ -35,24 +31,9 @@ performs e s g = record {
   gives = λ count rs t h n. e ∙ g count rs t h n;
 }
 
--- the model beside a verdict
-pub model_storable : (r : TestOutcome) → Storable (payload (test_of r)).model → Storable r.model
-model_storable r h = subst (λ (c : Certificate). Storable c.model) (payload-judged r.verdict _) h
-
--- where no test runs
-pub untested-judged : (v : Verdict) (m : Model) → judged v (untested m) ≡ untested_outcome (judged v m)
-untested-judged Accepted m = refl
-untested-judged (Refused r) m = refl
-
-untested_storable : (o : Outcome Model) → Storable (payload o) → Storable (payload (untested_outcome o)).model
+pub untested_storable : (o : Outcome Model) → Storable (payload o) → Storable (payload (untested_outcome o)).model
 untested_storable (accepted m) h = h
 untested_storable (refused n m) h = h
-
--- an outcome of an operation without a test
-pub performs_untested : {m : Maker} {w : List ℤ} {r : Outcome Certificate} (o : Outcome Model) → r ≡ untested_outcome o → Storable (payload o)
-    → ((count : ℕ) (rs : List Model) (t : List ℤ) → Holds w count rs t → names_bad m count ≡ false → untested_outcome o ≡ operation m rs)
-    → Performs m w r
-performs_untested o e s g = performs e (untested_storable o s) g
 
 pub loading_storable : (m : Model) → Storable (payload (loading m))
 unfolding loading
@@ -72,11 +53,21 @@ module _ {w : List ℤ} {count : ℕ} {rs : List Model} {t : List ℤ} (h : Hold
       let b = both_below count i j n in
       ap₂ f (e₁ ∙ result_held h i b.0) (e₂ ∙ result_held h j b.1)
 
+-- an outcome that f gives for one of them, or for two
+pub performs_one : {m : Maker} {w : List ℤ} {o : Outcome Certificate} (f : Model → Outcome Certificate) (a : Model) (i : ℕ) → o ≡ f a
+    → Storable (payload (f a)).model → a ≡ stored_result w i → ((count : ℕ) → names_bad m count ≡ false → leb count i ≡ false)
+    → ((rs : List Model) → operation m rs ≡ f (result_at rs i)) → Performs m w o
+performs_one f a i e s p named g = performs e s (λ count rs t h n. held_one h f a i p (named count n) ∙ sym (g rs))
+
+pub performs_two : {m : Maker} {w : List ℤ} {o : Outcome Certificate} (f : Model → Model → Outcome Certificate) (a b : Model) (i j : ℕ) → o ≡ f a b
+    → Storable (payload (f a b)).model → a ≡ stored_result w i → b ≡ stored_result w j
+    → ((count : ℕ) → names_bad m count ≡ false → (leb count i || leb count j) ≡ false)
+    → ((rs : List Model) → operation m rs ≡ f (result_at rs i) (result_at rs j)) → Performs m w o
+performs_two f a b i j e s p q named g =
+    performs e s (λ count rs t h n. held_two h f a b i j p q (named count n) ∙ sym (g rs))
+
 -- ---- an arm of a match on an operation, where it is known which it is
 
 module _ {op o : Operation} (e : op ≡ o) (job : List ℕ) (at : ℕ) (w : List ℤ) where
-  pub operable_told : Operable op job at w → Operable o job at w
-  operable_told h = rw e at h
-
   pub performs_told : (r : Outcome Certificate) → Performs (maker_at o job at) w r → Performs (maker_at op job at) w r
   performs_told r h = rw e h

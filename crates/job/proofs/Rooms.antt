@@ -1,42 +1,22 @@
--- The room of report records: clearing it, writing one record, and the records that it holds.
+-- The room of report records: writing one record, and the records that it holds.
 use mathlib.Core.Path.{◌≡◌, ap, ap₂, sym, ◌∙◌}
 use mathlib.Core.List.{List, [], ◌∷◌, ◌++◌, append_assoc, append-nil}
 use Prim.Native.Nat.{ℕ, suc, ◌+◌, ◌*◌, ◌-◌, ◌≤◌, ◌<◌}
 use native.Mathlib.Omega.{arith}
 use native.Mathlib.Nat.{mul-le-mul_left}
-use lib.ListN.{length, get_or, set, take, drop, length-append, get_or-replicate, replicate-append-replicate}
+use lib.ListN.{length, set, take, drop, length-append, replicate-append-replicate}
 use lib.Seq.{sets, sets-eq, take_at, drop_at, drop-drop}
-use Rattle.integer.proofs.laws.Filling.{Filling, begins, turn, ends}
 use Rattle.certificate.specs.definitions.Tests.{Certificate}
 use Rattle.job.specs.definitions.Reading.{max_results}
 use Rattle.job.specs.definitions.Reports.{little_endian, record_size, record_with, record_bytes, records_from, zero_bytes, room_size, room_with}
 use Rattle.job.specs.definitions.InnerContracts.{written_at, recorded_from}
 use Rattle.job.proofs.laws.RecordLaws.{length-records_from, records_from-append, length-zero_bytes, length-room_with}
 use Rattle.job.specs.declared.types.Report.{Report}
-use Rattle.job.specs.declared.types.Report.TheVariants.{Empty, Workshop, Service}
-
--- ---- clearing
-
-at_zero_bytes : (n i : ℕ) → i < n → get_or (zero_bytes n) i 0 ≡ 0
-unfolding zero_bytes
-at_zero_bytes n i h = get_or-replicate n i 0 0 h
+use Rattle.job.specs.declared.types.Report.TheVariants.{Workshop, Service}
 
 zero_bytes-append : (m n : ℕ) → zero_bytes m ++ zero_bytes n ≡ zero_bytes (m + n)
 unfolding zero_bytes
 zero_bytes-append m n = replicate-append-replicate m n 0
-
--- the first n bytes of a room, i of them cleared
-abbrev pub Emptying : ℕ → List ℕ → List ℕ → ℕ → Type 0
-Emptying n start l i = Filling (zero_bytes n) start l 0 n i
-
-pub emptying_begins : (n : ℕ) (start : List ℕ) → n ≤ length start → Emptying n start start 0
-emptying_begins n start h = begins (zero_bytes n) start 0 n (length-zero_bytes n) (omega arith)
-
-pub emptying_turn : {n : ℕ} {start l : List ℕ} {i : ℕ} → Emptying n start l i → i < n → Emptying n start (set l i 0) (i + 1)
-emptying_turn {n} {start} {l} {i} f h = turn i 0 0 f h (omega arith) (sym (at_zero_bytes n i h))
-
-pub emptying_ends : {n : ℕ} {start l : List ℕ} {i : ℕ} → Emptying n start l i → n ≤ i → l ≡ zero_bytes n ++ drop n start
-emptying_ends {n} {start} f h = let e : 0 + n ≡ n = omega arith in ends f h ∙ ap (λ (k : ℕ). zero_bytes n ++ drop k start) e
 
 -- ---- one record
 
@@ -140,7 +120,3 @@ module _ (report : Report) where
       ap (λ (k : ℕ). written_at report room k (record_bytes report k c)) n ∙ written_holds cs c room t (omega arith) e in
       recorded_holds new (cs ++ (c ∷ [])) (i + 1) _ t (omega (arith, length-append cs (c ∷ []))) (omega (arith, length-append cs (c ∷ []))) w
       ∙ ap (λ (l : List Certificate). room_with report l ++ t) (append_assoc cs (c ∷ []) new)
-
--- where no records are asked for, none is written
-pub empty_written : (room : List ℕ) (i : ℕ) → room ≡ written_at Empty room i []
-empty_written room i = let e : 0 * i ≡ 0 = omega arith in let f : 0 * i + 0 ≡ 0 = omega arith in rw (f, e)

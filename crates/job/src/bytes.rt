@@ -4,29 +4,20 @@ ghost use Rattle.job.specs.definitions.Bytes.{unsigned_at, signed as signed_of, 
 
 use model::types::{COEFFICIENTS, Candidate, Interval, Model};
 
-fn widen(b: u8) -> u32
-    ensures { (result ≡ b) × (result < 256) }
-{
-    b as u32
-}
-
 // The unsigned 32-bit number of the four bytes from i on.
 pub(crate) fn read_unsigned(s: &[u8], i: usize) -> u32
     requires { i + 4 ≤ length s.now }
     ensures { result ≡ unsigned_at s.now i }
 {
-    widen(s[i]) + 256 * widen(s[i + 1]) + 65536 * widen(s[i + 2]) + 16777216 * widen(s[i + 3])
+    u32::from_le_bytes([s[i], s[i + 1], s[i + 2], s[i + 3]])
 }
 
-// Two's complement.
-fn to_signed(n: u32) -> i32
-    ensures { result ≡ signed_of n }
+// The signed one, in two's complement.
+fn read_signed(s: &[u8], i: usize) -> i32
+    requires { i + 4 ≤ length s.now }
+    ensures { result ≡ signed_of (unsigned_at s.now i) }
 {
-    if n < 0x8000_0000 {
-        n as i32
-    } else {
-        -1 - ((0xffff_ffff - n) as i32)
-    }
+    read_unsigned(s, i).cast_signed()
 }
 
 // The coefficients of a block from i on.
@@ -35,10 +26,8 @@ fn read_coefficients(s: &[u8], i: usize) -> [i32; COEFFICIENTS]
     ensures { result ≡ signeds_at s.now i 33 }
 {
     let mut coefficients = [0i32; COEFFICIENTS];
-    let mut k: usize = 0;
-    while k < COEFFICIENTS {
-        coefficients[k] = to_signed(read_unsigned(s, i + 4 * k));
-        k += 1;
+    for k in 0..COEFFICIENTS {
+        coefficients[k] = read_signed(s, i + 4 * k);
     }
     coefficients
 }
@@ -48,10 +37,9 @@ pub(crate) fn read_candidate(s: &[u8], i: usize) -> Candidate
     requires { i + 133 ≤ length s.now }
     ensures { result ≡ candidate_at s.now i }
 {
-    let degree = widen(s[i]);
     let coefficients = read_coefficients(s, i + 1);
     Candidate {
-        degree,
+        degree: u32::from(s[i]),
         coefficients,
     }
 }
@@ -61,8 +49,8 @@ pub(crate) fn read_interval(s: &[u8], i: usize) -> Interval
     requires { i + 8 ≤ length s.now }
     ensures { result ≡ interval_at s.now i }
 {
-    let lower = to_signed(read_unsigned(s, i));
-    let upper = to_signed(read_unsigned(s, i + 4));
+    let lower = read_signed(s, i);
+    let upper = read_signed(s, i + 4);
     Interval { lower, upper }
 }
 

@@ -11,18 +11,19 @@ ghost use Rattle.job.specs.definitions.InnerContracts.{untested_outcome, Perform
 use crate::bytes::{read_candidate, read_interval, read_model, read_unsigned};
 use crate::types::Operation;
 use crate::work::stored_result;
-use certificate::types::{RootRule, TestOutcome};
-use model::types::{Interval, Model, ModelOutcome};
+use certificate::types::{Certificate, RootRule};
+use model::types::{Interval, Model, Refusal};
 
 // The result that byte i of the job names.
 fn named(job: &[u8], i: usize, work: &[i32]) -> Model
     requires { NamesOne job.now i work.now }
     ensures { result ≡ stored_result work.now (byte_at job.now i) }
 {
-    stored_result(work, job[i] as usize)
+    stored_result(work, usize::from(job[i]))
 }
 
 // The results that the two bytes after a command name.
+// Kept: job, position and work area by themselves, here and below: a struct of them writes each clause longer, and saves no call.
 #[derive(Clone, Copy)]
 struct Operands {
     first: Model,
@@ -40,22 +41,20 @@ fn read_operands(job: &[u8], at: usize, work: &[i32]) -> Operands
 }
 
 // Where no test runs, m, N and b are zero.
-fn untested(o: ModelOutcome) -> TestOutcome
-    ensures { test_of result ≡ untested_outcome (outcome_of o) }
+fn untested(made: Result<Model, Refusal>) -> Result<Certificate, Refusal>
+    ensures { test_of result ≡ untested_outcome (outcome_of made) }
 {
-    let verdict = o.verdict;
-    let model = o.model;
-    TestOutcome {
-        verdict,
+    let model = made?;
+    Ok(Certificate {
         model,
         contraction: 0,
         residual: 0,
         displacement: 0,
-    }
+    })
 }
 
 // The block and the radius behind a command byte, as a model on an interval.
-fn load_block(job: &[u8], at: usize, interval: Interval) -> TestOutcome
+fn load_block(job: &[u8], at: usize, interval: Interval) -> Result<Certificate, Refusal>
     requires { at + 138 ≤ length job.now }
     ensures { test_of result
         ≡ untested_outcome (loading (block_at job.now (at + 1) (unsigned_at job.now (at + 134)) interval)) }
@@ -65,7 +64,7 @@ fn load_block(job: &[u8], at: usize, interval: Interval) -> TestOutcome
     untested(model::load::load(m))
 }
 
-fn load(job: &[u8], at: usize) -> TestOutcome
+fn load(job: &[u8], at: usize) -> Result<Certificate, Refusal>
     requires { at + 138 ≤ length job.now }
     ensures { (w : List ℤ) → Performs (maker_at Operation.Load job.now at) w (test_of result) }
 {
@@ -73,7 +72,7 @@ fn load(job: &[u8], at: usize) -> TestOutcome
     load_block(job, at, interval)
 }
 
-fn load_on(job: &[u8], at: usize) -> TestOutcome
+fn load_on(job: &[u8], at: usize) -> Result<Certificate, Refusal>
     requires { at + 146 ≤ length job.now }
     ensures { (w : List ℤ) → Performs (maker_at Operation.LoadOn job.now at) w (test_of result) }
 {
@@ -81,7 +80,8 @@ fn load_on(job: &[u8], at: usize) -> TestOutcome
     load_block(job, at, interval)
 }
 
-fn add(job: &[u8], at: usize, work: &[i32]) -> TestOutcome
+// Kept: add and subtract are three lines each; one function of a closure needs two clauses on the closure besides.
+fn add(job: &[u8], at: usize, work: &[i32]) -> Result<Certificate, Refusal>
     requires { Operable Operation.Add job.now at work.now }
     ensures { Performs (maker_at Operation.Add job.now at) work.now (test_of result) }
 {
@@ -89,7 +89,7 @@ fn add(job: &[u8], at: usize, work: &[i32]) -> TestOutcome
     untested(model::add::add(o.first, o.second))
 }
 
-fn subtract(job: &[u8], at: usize, work: &[i32]) -> TestOutcome
+fn subtract(job: &[u8], at: usize, work: &[i32]) -> Result<Certificate, Refusal>
     requires { Operable Operation.Subtract job.now at work.now }
     ensures { Performs (maker_at Operation.Subtract job.now at) work.now (test_of result) }
 {
@@ -98,20 +98,18 @@ fn subtract(job: &[u8], at: usize, work: &[i32]) -> TestOutcome
 }
 
 // What the library takes for a byte in an edition: in edition 1 0xFF means 32, in edition 2 what 255 means in the library.
+// Kept: the edition is its byte and no enum, as no clause here says that it is 1 or 2 (`edition_known` does).
 fn kept_byte(edition: u8, d: u8) -> u32
     ensures { result ≡ kept_byte edition d }
 {
-    if edition == 2 {
-        return d as u32;
-    }
-    if d == 255 {
+    if edition != 2 && d == 0xff {
         Model::MAX_DEGREE
     } else {
-        d as u32
+        u32::from(d)
     }
 }
 
-fn multiply(job: &[u8], at: usize, work: &[i32]) -> TestOutcome
+fn multiply(job: &[u8], at: usize, work: &[i32]) -> Result<Certificate, Refusal>
     requires { Operable Operation.Multiply job.now at work.now }
     ensures { Performs (maker_at Operation.Multiply job.now at) work.now (test_of result) }
 {
@@ -120,7 +118,13 @@ fn multiply(job: &[u8], at: usize, work: &[i32]) -> TestOutcome
     untested(model::multiply::multiply(o.first, o.second, kept))
 }
 
-fn quotient(job: &[u8], at: usize, work: &[i32], scratch: &mut [i64]) -> TestOutcome
+// Kept: that the scratch is clear, in each clause, as its length is no part of it.
+fn quotient(
+    job: &[u8],
+    at: usize,
+    work: &[i32],
+    scratch: &mut [i64],
+) -> Result<Certificate, Refusal>
     requires { Operable Operation.Quotient job.now at work.now × Clear scratch.old }
     ensures performs { Performs (maker_at Operation.Quotient job.now at) work.now (test_of result) }
     ensures scratch_unchanged { scratch.new ≡ scratch.old }
@@ -131,7 +135,13 @@ fn quotient(job: &[u8], at: usize, work: &[i32], scratch: &mut [i64]) -> TestOut
     certificate::quotient::quotient(o.first, o.second, h, w, scratch)
 }
 
-fn root(rule: RootRule, job: &[u8], at: usize, work: &[i32], scratch: &mut [i64]) -> TestOutcome
+fn root(
+    rule: RootRule,
+    job: &[u8],
+    at: usize,
+    work: &[i32],
+    scratch: &mut [i64],
+) -> Result<Certificate, Refusal>
     requires { Operable (Operation.Root rule) job.now at work.now × Clear scratch.old }
     ensures performs { Performs (maker_at (Operation.Root rule) job.now at) work.now (test_of result) }
     ensures scratch_unchanged { scratch.new ≡ scratch.old }
@@ -149,7 +159,7 @@ pub(crate) fn operate(
     at: usize,
     work: &[i32],
     scratch: &mut [i64],
-) -> TestOutcome
+) -> Result<Certificate, Refusal>
     requires { Operable op job.now at work.now × Clear scratch.old }
     ensures performs { Performs (maker_at op job.now at) work.now (test_of result) }
     ensures scratch_unchanged { scratch.new ≡ scratch.old }

@@ -3,7 +3,8 @@ ghost use Rattle.std.specs.Prelude.{◌≡◌};
 ghost use Rattle.job.specs.definitions.Reading.{command_reading, command_reading_of};
 
 use crate::reading::read_command;
-use crate::types::CommandReading;
+use crate::types::ReadCommand;
+use model::types::Refusal;
 
 #[derive(Clone, Copy)]
 struct Reader<'a> {
@@ -11,16 +12,18 @@ struct Reader<'a> {
     at: usize,
 }
 
-// Command k, at the reader's position, with so many results before it.
-fn next<'a>(reader: Reader<'a>, k: usize, count: usize) -> CommandReading
-    ensures { command_reading_of result ≡ command_reading reader.entry.job.now k count reader.entry.at }
-{
-    read_command(reader.job, k, count, reader.at)
+impl Reader<'_> {
+    // Command k, at the reader's position, with so many results before it.
+    fn next(self, k: usize, count: usize) -> Result<ReadCommand, Refusal>
+        ensures { command_reading_of result ≡ command_reading self.entry.job.now k count self.entry.at }
+    {
+        read_command(self.job, k, count, self.at)
+    }
 }
 
-// The same with plain parameters, so that the run over the commands is covered.
-pub fn read_next(job: &[u8], k: usize, count: usize, at: usize) -> CommandReading
+// The same with plain parameters, for callers that keep the position themselves.
+pub fn read_next(job: &[u8], k: usize, count: usize, at: usize) -> Result<ReadCommand, Refusal>
     ensures { command_reading_of result ≡ command_reading job.now k count at }
 {
-    next(Reader { job, at }, k, count)
+    Reader { job, at }.next(k, count)
 }

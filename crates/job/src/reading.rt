@@ -5,7 +5,7 @@ ghost use Rattle.job.specs.definitions.Reading.{max_results, bad_kind, bad_value
 ghost use Rattle.job.specs.definitions.Reading.{makes_result, is_end, command_reading, command_reading_of};
 
 use crate::decode::shape_of;
-use crate::types::{CommandReading, Kind, MAX_RESULTS, Names, OperandValues};
+use crate::types::{Kind, MAX_RESULTS, Names, OperandValues, ReadCommand};
 use model::multiply::is_bad_kept;
 use model::types::Refusal;
 
@@ -24,14 +24,14 @@ fn is_bad_kind(k: usize, kind: Kind) -> bool
 fn is_bad_degree(d: u8) -> bool
     ensures { result ≡ bad_kept d }
 {
-    is_bad_kept(d as u32)
+    is_bad_kept(u32::from(d))
 }
 
-// Neither edition 1 nor 2.
+// Neither edition 1 nor 2. Kept: this is the test of the byte itself.
 fn is_bad_edition(e: u8) -> bool
     ensures { result ≡ (not (eqb e 1) && not (eqb e 2)) }
 {
-    (e != 1) & (e != 2)
+    e != 1 && e != 2
 }
 
 // An unknown edition; a bad kept degree.
@@ -50,7 +50,7 @@ fn has_bad_values(values: OperandValues, job: &[u8], at: usize) -> bool
 fn is_bad_name(b: u8, count: usize) -> bool
     ensures { result ≡ leb count b }
 {
-    count <= b as usize
+    count <= usize::from(b)
 }
 
 // The two bytes after a command name results of which one is not there yet.
@@ -58,11 +58,7 @@ fn is_bad_pair(job: &[u8], at: usize, count: usize) -> bool
     requires { at + 3 ≤ length job.now }
     ensures { result ≡ bad_bytes Names.Two job.now at count }
 {
-    if is_bad_name(job[at + 1], count) {
-        true
-    } else {
-        is_bad_name(job[at + 2], count)
-    }
+    is_bad_name(job[at + 1], count) || is_bad_name(job[at + 2], count)
 }
 
 fn has_bad_names(names: Names, job: &[u8], at: usize, count: usize) -> bool
@@ -80,51 +76,48 @@ fn has_bad_names(names: Names, job: &[u8], at: usize, count: usize) -> bool
 fn is_full(kind: Kind, count: usize) -> bool
     ensures { result ≡ (makes_result kind && leb max_results count) }
 {
-    match kind {
-        Kind::Result(_) => MAX_RESULTS <= count,
-        _ => false,
-    }
+    matches!(kind, Kind::Result(_)) && MAX_RESULTS <= count
 }
 
 // Bytes after the end.
 fn is_too_long(kind: Kind, next: usize, len: usize) -> bool
     ensures { result ≡ (is_end kind && ltb next len) }
 {
-    match kind {
-        Kind::End => next < len,
-        _ => false,
-    }
+    matches!(kind, Kind::End) && next < len
 }
 
 // Command k, whose byte stands at a position, with so many results before it.
-pub(crate) fn read_command(job: &[u8], k: usize, count: usize, at: usize) -> CommandReading
+pub(crate) fn read_command(
+    job: &[u8],
+    k: usize,
+    count: usize,
+    at: usize,
+) -> Result<ReadCommand, Refusal>
     ensures { command_reading_of result ≡ command_reading job.now k count at }
 {
     if job.len() <= at {
-        return CommandReading::Refused(Refusal::JobEnds);
+        return Err(Refusal::JobEnds);
     }
     let shape = shape_of(job[at]);
     let kind = shape.kind;
     if is_bad_kind(k, kind) {
-        return CommandReading::Refused(Refusal::BadValue);
+        return Err(Refusal::BadValue);
     }
     if job.len() - at <= shape.width {
-        return CommandReading::Refused(Refusal::JobEnds);
+        return Err(Refusal::JobEnds);
     }
-    let values = shape.values;
-    if has_bad_values(values, job, at) {
-        return CommandReading::Refused(Refusal::BadValue);
+    if has_bad_values(shape.values, job, at) {
+        return Err(Refusal::BadValue);
     }
-    let names = shape.names;
-    if has_bad_names(names, job, at, count) {
-        return CommandReading::Refused(Refusal::NotAResult);
+    if has_bad_names(shape.names, job, at, count) {
+        return Err(Refusal::NotAResult);
     }
     if is_full(kind, count) {
-        return CommandReading::Refused(Refusal::TooManyResults);
+        return Err(Refusal::TooManyResults);
     }
     let next = at + 1 + shape.width;
     if is_too_long(kind, next, job.len()) {
-        return CommandReading::Refused(Refusal::BytesAfterEnd);
+        return Err(Refusal::BytesAfterEnd);
     }
-    CommandReading::Found(kind, next)
+    Ok(ReadCommand { kind, next })
 }

@@ -1,60 +1,49 @@
 // Report records: that of result i in its own bytes of the room, from record_size · i on.
 ghost use Rattle.std.specs.Prelude.{◌≡◌, ◌++◌, ◌+◌, ◌≤◌, length, drop};
 ghost use Rattle.std.proofs.lemmas.List.Edits.{sets};
-ghost use Rattle.job.specs.definitions.Reports.{little_endian, record_with, zero_bytes, room_size};
+ghost use Rattle.certificate.specs.definitions.Tests.{certificate_of};
+ghost use Rattle.job.specs.definitions.Reports.{little_endian, record_bytes, zero_bytes, room_size};
 ghost use Rattle.job.specs.definitions.InnerContracts.{Recordable, written_at};
 
-use crate::types::Report;
+use crate::types::{MAX_RESULTS, Report};
+use certificate::types::Certificate;
 
+// Kept: bytes of the caller's at fixed places, with no heap.
 const WORKSHOP_SIZE: usize = 6;
 
 const SERVICE_SIZE: usize = 18;
-
-const WORKSHOP_ROOM: usize = 192;
-
-const SERVICE_ROOM: usize = 576;
 
 // The four bytes of a number, the lowest first, from a position on.
 fn write_number(room: &mut [u8], at: usize, n: u64)
     requires { at + 4 ≤ length room.old }
     ensures { room.new ≡ sets room.old at (little_endian n) }
 {
-    room[at] = (n % 256) as u8;
-    room[at + 1] = (n / 256 % 256) as u8;
-    room[at + 2] = (n / 65536 % 256) as u8;
-    room[at + 3] = (n / 16777216 % 256) as u8;
+    room[at..at + 4].copy_from_slice(&n.to_le_bytes()[..4]);
 }
 
 // Writes the record of result i.
-pub(crate) fn write_record(
-    report: Report,
-    room: &mut [u8],
-    i: usize,
-    degree: u32,
-    m: u64,
-    n: u64,
-    b: u64,
-    radius: u32,
-)
-    requires { Recordable report room.old i degree }
-    ensures { room.new ≡ written_at report room.old i (record_with report i degree m n b radius) }
+pub(crate) fn write_record(report: Report, room: &mut [u8], i: usize, made: &Certificate)
+    requires { Recordable report room.old i made.now.model.degree }
+    ensures { room.new ≡ written_at report room.old i (record_bytes report i (certificate_of made.now)) }
 {
+    let degree = made.model.degree as u8;
+    let radius = u64::from(made.model.radius);
     match report {
         Report::Empty => {}
         Report::Workshop => {
             let at = WORKSHOP_SIZE * i;
             room[at] = i as u8;
-            room[at + 1] = degree as u8;
-            write_number(room, at + 2, radius as u64);
+            room[at + 1] = degree;
+            write_number(room, at + 2, radius);
         }
         Report::Service => {
             let at = SERVICE_SIZE * i;
             room[at] = i as u8;
-            room[at + 1] = degree as u8;
-            write_number(room, at + 2, m);
-            write_number(room, at + 6, n);
-            write_number(room, at + 10, b);
-            write_number(room, at + 14, radius as u64);
+            room[at + 1] = degree;
+            write_number(room, at + 2, made.contraction);
+            write_number(room, at + 6, made.residual);
+            write_number(room, at + 10, made.displacement);
+            write_number(room, at + 14, radius);
         }
     }
 }
@@ -65,8 +54,8 @@ pub(crate) fn room_size(report: Report) -> usize
 {
     match report {
         Report::Empty => 0,
-        Report::Workshop => WORKSHOP_ROOM,
-        Report::Service => SERVICE_ROOM,
+        Report::Workshop => WORKSHOP_SIZE * MAX_RESULTS,
+        Report::Service => SERVICE_SIZE * MAX_RESULTS,
     }
 }
 
@@ -76,9 +65,5 @@ pub(crate) fn clear_room(report: Report, room: &mut [u8])
     ensures { room.new ≡ zero_bytes (room_size report) ++ drop (room_size report) room.old }
 {
     let size = room_size(report);
-    let mut i: usize = 0;
-    while i < size {
-        room[i] = 0;
-        i += 1;
-    }
+    room[..size].fill(0);
 }

@@ -4,27 +4,33 @@ ghost use Rattle.job.specs.definitions.Outcomes.{job_outcome_of, counted};
 ghost use Rattle.job.specs.definitions.Run.{job_outcome};
 ghost use Rattle.job.specs.definitions.Work.{work_size, work_with, area_places, results_in, work_after};
 ghost use Rattle.job.specs.definitions.Work.{check_outcome, scratch_after_job};
-ghost use Rattle.job.specs.definitions.Reports.{room_size, room_with, job_certificates, report_places};
+ghost use Rattle.job.specs.definitions.Reports.{room_size, report_fits, room_with, job_certificates, report_places};
 ghost use Rattle.job.specs.definitions.Reports.{report_outcome, report_work, report_scratch, room_after};
 ghost use Rattle.job.specs.definitions.InnerContracts.{Cleared, ClearedRoom};
 ghost use Rattle.job.specs.definitions.Requirement.{Requirement3};
 
 use crate::reports::{clear_room, room_size};
 use crate::step::step;
-use crate::types::{JobOutcome, Report, Step};
+use crate::types::{Progress, RefusedCommand, Report};
 use crate::work::{WORK_SIZE, clear_work};
 use certificate::scratch::clear_scratch;
 use certificate::types::SCRATCH_SIZE;
 use model::types::Refusal;
 
-// A job over cleared areas.
+// Refusal 1 goes with command 0.
+const SHORT_AREA: RefusedCommand = RefusedCommand {
+    refusal: Refusal::ShortArea,
+    command: 0,
+};
+
+// A job over cleared areas. Kept: each area is lent by itself, as in step.rt.
 fn run(
     job: &[u8],
     work: &mut [i32],
     scratch: &mut [i64],
     report: Report,
     room: &mut [u8],
-) -> JobOutcome
+) -> Result<usize, RefusedCommand>
     requires { Cleared work.old scratch.old × ClearedRoom report room.old }
     ensures result_value { job_outcome_of result ≡ counted (job_outcome job.now) }
     ensures work_after { work.new
@@ -34,27 +40,35 @@ fn run(
     ensures room_after { room.new
         ≡ room_with report (job_certificates job.now) ++ drop (room_size report) room.old }
 {
-    let mut at: usize = 0;
+    let mut done = Progress {
+        results: 0,
+        next: 0,
+    };
     let mut k: usize = 0;
-    let mut count: usize = 0;
     loop {
-        let done = step(job, k, count, at, work, scratch, report, room);
-        match done {
-            Step::More(results, next) => {
-                at = next;
-                count = results;
+        match step(job, k, done, work, scratch, report, room) {
+            Ok(Some(after)) => {
+                done = after;
                 k += 1;
             }
-            Step::Over => {
-                return JobOutcome::Accepted(count);
-            }
-            Step::Refused(refusal) => {
+            Ok(None) => return Ok(done.results),
+            Err(refusal) => {
                 clear_work(work);
                 clear_room(report, room);
-                return JobOutcome::Refused(refusal, k);
+                return Err(RefusedCommand {
+                    refusal,
+                    command: k,
+                });
             }
         }
     }
+}
+
+// The lent areas are long enough.
+fn areas_fit(work: &[i32], scratch: &[i64], report: Report, room: &[u8]) -> bool
+    ensures { result ≡ report_fits report work.now scratch.now room.now }
+{
+    WORK_SIZE <= work.len() && SCRATCH_SIZE <= scratch.len() && room_size(report) <= room.len()
 }
 
 // Checks a job and writes a report: the work area gets its results and the room their report records, or zeros on a refusal.
@@ -65,7 +79,7 @@ pub fn check_and_report(
     scratch: &mut [i64],
     report: Report,
     room: &mut [u8],
-) -> JobOutcome
+) -> Result<usize, RefusedCommand>
     ensures result_value { job_outcome_of result
         ≡ counted (report_outcome report job.now work.old scratch.old room.old) }
     ensures work_after { work.new
@@ -77,15 +91,8 @@ pub fn check_and_report(
     ensures requirement3 { Requirement3 (report_places report work.old scratch.old room.old)
         job.now (job_outcome_of result) work.new }
 {
-    if work.len() < WORK_SIZE {
-        return JobOutcome::Refused(Refusal::ShortArea, 0);
-    }
-    if scratch.len() < SCRATCH_SIZE {
-        return JobOutcome::Refused(Refusal::ShortArea, 0);
-    }
-    let size = room_size(report);
-    if room.len() < size {
-        return JobOutcome::Refused(Refusal::ShortArea, 0);
+    if !areas_fit(work, scratch, report, room) {
+        return Err(SHORT_AREA);
     }
     clear_work(work);
     clear_scratch(scratch);
@@ -94,13 +101,12 @@ pub fn check_and_report(
 }
 
 // Checks a job, without a report.
-pub fn check(job: &[u8], work: &mut [i32], scratch: &mut [i64]) -> JobOutcome
+pub fn check(job: &[u8], work: &mut [i32], scratch: &mut [i64]) -> Result<usize, RefusedCommand>
     ensures result_value { job_outcome_of result ≡ counted (check_outcome job.now work.old scratch.old) }
     ensures work_after { work.new ≡ work_after job.now work.old scratch.old }
     ensures scratch_after { scratch.new ≡ scratch_after_job work.old scratch.old }
     ensures requirement3 { Requirement3 (area_places work.old scratch.old)
         job.now (job_outcome_of result) work.new }
 {
-    let mut none: [u8; 0] = [];
-    check_and_report(job, work, scratch, Report::Empty, &mut none)
+    check_and_report(job, work, scratch, Report::Empty, &mut [])
 }

@@ -18,6 +18,7 @@ pub enum Operation {
 }
 
 // A command is the end, the edition or one that makes a result.
+// Kept: an unknown byte is a kind and no None, since 01's table has a place for it, and its command a meaning.
 #[derive(Clone, Copy)]
 pub enum Kind {
     End,
@@ -27,7 +28,7 @@ pub enum Kind {
 }
 
 // How many of a command's operand bytes, from the first on, name results.
-#[derive(Clone, Copy)]
+#[derive(Clone, Copy, Debug, PartialEq, Eq)]
 pub enum Names {
     Nothing,
     One,
@@ -35,7 +36,7 @@ pub enum Names {
 }
 
 // What values are asked of a command's operand bytes: none, a known edition, or a kept degree after two names.
-#[derive(Clone, Copy)]
+#[derive(Clone, Copy, Debug, PartialEq, Eq)]
 pub enum OperandValues {
     Any,
     KnownEdition,
@@ -51,30 +52,29 @@ pub struct Shape {
     pub values: OperandValues,
 }
 
-// What reading a command answers: its kind and the next position, or a refusal.
+// A command that was read, and the next position.
 #[derive(Clone, Copy)]
-pub enum CommandReading {
-    Found(Kind, usize),
-    Refused(Refusal),
+pub struct ReadCommand {
+    pub kind: Kind,
+    pub next: usize,
 }
 
-// What one command does: the count of results then and the next position, the end of the job, or a refusal.
-#[derive(Clone, Copy)]
-pub enum Step {
-    More(usize, usize),
-    Over,
-    Refused(Refusal),
+// The count of results after a command, and the next position.
+#[derive(Clone, Copy, Debug, PartialEq, Eq)]
+pub(crate) struct Progress {
+    pub results: usize,
+    pub next: usize,
 }
 
-// Accepted with the count of results, or refused with the refusal and the command's number, counted from 0.
-#[derive(Clone, Copy)]
-pub enum JobOutcome {
-    Accepted(usize),
-    Refused(Refusal, usize),
+// Why a job is refused, and the command that is refused, counted from 0.
+#[derive(Clone, Copy, Debug, PartialEq, Eq)]
+pub struct RefusedCommand {
+    pub refusal: Refusal,
+    pub command: usize,
 }
 
 // Which report records a check writes: none, the workshop's of 6 bytes, or the service's of 18.
-#[derive(Clone, Copy)]
+#[derive(Clone, Copy, Debug, PartialEq, Eq)]
 pub enum Report {
     Empty,
     Workshop,

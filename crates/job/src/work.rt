@@ -1,4 +1,4 @@
-// The work area: result i in its own 37 numbers from 37 i on.
+// The work area: result i in its own 37 numbers from 37 i on. Kept: numbers of the caller's at fixed places, with no heap.
 ghost use Rattle.std.specs.Prelude.{◌≡◌, ◌++◌, ◌≤◌, ◌<◌, length, drop};
 ghost use Rattle.integer.specs.definitions.Lists.{zeros};
 ghost use Rattle.job.specs.definitions.Reading.{max_results};
@@ -33,9 +33,5 @@ pub(crate) fn clear_work(work: &mut [i32])
     requires { work_size ≤ length work.old }
     ensures { work.new ≡ zeros work_size ++ drop work_size work.old }
 {
-    let mut i: usize = 0;
-    while i < WORK_SIZE {
-        work[i] = 0;
-        i += 1;
-    }
+    work[..WORK_SIZE].fill(0);
 }

@@ -7,10 +7,9 @@ ghost use Rattle.jobcheck.specs.definitions.Main.{Printable};
 ghost use Rattle.std.specs.Prelude.{◌+◌};
 
 use certificate::types::SCRATCH_SIZE;
-use input::Input;
-use job::types::JobOutcome;
+use input::InputError;
+use job::types::RefusedCommand;
 use job::work::WORK_SIZE;
-use model::types::Refusal;
 use std::io;
 
 mod input;
@@ -19,12 +18,12 @@ mod input;
 const LIMIT: usize = 65536;
 
 fn main(rt: HostRuntime) -> io::Result<()> {
+    // Kept: a buffer of fixed size, as the program takes no heap.
     let mut buffer = [0u8; LIMIT + 1];
-    let input = input::read_input(&mut rt.stdin(), &mut buffer);
-    match input {
-        Input::Whole(length) => answer(&rt, &buffer[..length]),
-        Input::TooLong => println!(rt; "too long"),
-        Input::Unreadable => println!(rt; "unreadable"),
+    match input::read_input(&mut rt.stdin(), &mut buffer) {
+        Ok(length) => answer(&rt, &buffer[..length]),
+        Err(InputError::TooLong) => println!(rt; "too long"),
+        Err(InputError::Unreadable) => println!(rt; "unreadable"),
     }
 }
 
@@ -32,10 +31,9 @@ fn main(rt: HostRuntime) -> io::Result<()> {
 fn answer(rt: &impl Print, job: &[u8]) -> io::Result<()> {
     let mut work = [0i32; WORK_SIZE];
     let mut scratch = [0i64; SCRATCH_SIZE];
-    let outcome = job::run::check(job, &mut work, &mut scratch);
-    match outcome {
-        JobOutcome::Accepted(count) => accepted(rt, &work, count),
-        JobOutcome::Refused(refusal, command) => refused(rt, refusal, command),
+    match job::run::check(job, &mut work, &mut scratch) {
+        Ok(count) => accepted(rt, &work, count),
+        Err(r) => refused(rt, r),
     }
 }
 
@@ -50,10 +48,8 @@ fn line(rt: &impl Print, work: &[i32], i: usize) -> io::Result<()>
 fn lines(rt: &impl Print, work: &[i32], count: usize) -> io::Result<()>
     requires { Printable work.now count }
 {
-    let mut i: usize = 0;
-    while i < count {
+    for i in 0..count {
         line(rt, work, i)?;
-        i += 1;
     }
     Ok(())
 }
@@ -65,6 +61,6 @@ fn accepted(rt: &impl Print, work: &[i32], count: usize) -> io::Result<()>
     println!(rt; "accepted {count}")
 }
 
-fn refused(rt: &impl Print, refusal: Refusal, command: usize) -> io::Result<()> {
-    println!(rt; "refused {} {command}", model::types::number_of(refusal))
+fn refused(rt: &impl Print, r: RefusedCommand) -> io::Result<()> {
+    println!(rt; "refused {} {}", u32::from(r.refusal), r.command)
 }

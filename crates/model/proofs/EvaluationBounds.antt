@@ -4,7 +4,6 @@ use mathlib.Core.Bool.{true}
 use Prim.Native.Nat.{ℕ, ◌+◌, ◌^◌, ◌≤◌}
 use native.Mathlib.Omega.{arith}
 use lib.IntN.{ℤ, pos, nat_abs, ◌+ℤ◌, ◌-ℤ◌, ◌*ℤ◌}
-use lib.ListN.{length}
 use mir.Syntax.{w64}
 use mir.Val.{SFits, to_z}
 use mir.Facts.{to_z_pos}
@@ -13,7 +12,7 @@ use Rattle.integer.proofs.laws.Machine.{abs-fits}
 use Rattle.integer.specs.definitions.Rounding.{floor, up}
 use Rattle.integer.proofs.laws.RoundingSize.{floor_size, up_size}
 use Rattle.model.specs.definitions.InnerContracts.{Evaluable}
-use Rattle.model.specs.definitions.Models.{scale, coefficient_count, terms, good}
+use Rattle.model.specs.definitions.Models.{scale, terms, good}
 use Rattle.model.proofs.laws.ModelLaws.{Good, good_is}
 use Rattle.model.proofs.laws.GoodLaws.{length-terms, weight-terms}
 use Rattle.model.specs.definitions.Evaluate.{mapped_point, maps_exactly, value_sum, error_sum, low_bound, high_bound}
@@ -38,8 +37,8 @@ module _ (a : Model) (passed : good a ≡ true) where
     pub fits_mapped : SFits w64 q
     fits_mapped = abs-fits w64 q (omega (arith, mapped_small))
 
-    pub evaluable : length a.coefficients ≡ coefficient_count → Evaluable a.degree a.coefficients q
-    evaluable all = record { all = all; degree_fits = (good_is a passed).degree_fits; light = (good_is a passed).weight-fits; inside = mapped_small }
+    pub evaluable : Evaluable a.degree a.coefficients q
+    evaluable = record { degree_fits = (good_is a passed).degree_fits; light = (good_is a passed).weight-fits; inside = mapped_small }
 
 module _ {a : Model} {p v : ℤ} {w : ℕ} (s : Sums a p v w) where
   is_good : Good a

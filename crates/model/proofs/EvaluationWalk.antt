@@ -119,12 +119,12 @@ pub record Turn (p value t next x : ℤ) : Type 0 where
   pub numerator-fits : SFits w64 (pos 2 *ℤ p *ℤ next)
 
 -- the terms up to a degree
-module _ {degree : ℕ} {coefficients : List ℤ} {p : ℤ} (pre : Evaluable degree coefficients p) where
+module _ {degree : ℕ} {coefficients : List ℤ} {p : ℤ} (all : length coefficients ≡ coefficient_count) (pre : Evaluable degree coefficients p) where
   abbrev cs : List ℤ
   cs = take (suc degree) coefficients
 
   pub length_list : length cs ≡ suc degree
-  length_list = rw length-take (omega (arith, pre))
+  length_list = rw length-take (omega (arith, all, pre))
 
   pub bounded : {exact : Bool} {value : ℤ} {error : ℕ} {t next : ℤ} {k : ℕ} → Walk exact p cs value error t next k → Small value error t next
   bounded w = small w pre.inside (omega (arith, length_list, pre)) (omega (arith, weight-take (suc degree) coefficients, pre))

@@ -126,9 +126,9 @@ narrow c total m e h = abs-fits w32 c (omega (arith, e))
 
 -- ---- the list up to a degree, and a turn over it
 
-module _ {degree : ℕ} {doubled : List ℤ} {d : ℕ} (pre : Integrable degree doubled d) where
+module _ {degree : ℕ} {doubled : List ℤ} {d : ℕ} (all : length doubled ≡ coefficient_count) (pre : Integrable degree doubled d) where
   pub length_list : length (take (suc degree) doubled) ≡ degree + 1
-  length_list = rw length-take (omega (arith, pre))
+  length_list = rw length-take (omega (arith, all, pre))
 
   module _ {out : List ℤ} {total : ℕ} {first above here : ℤ} {k : ℕ} (w : Walk d (take (suc degree) doubled) out total first above here k) where
     pub bounded : Small total first above

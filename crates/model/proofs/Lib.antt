@@ -1,3 +1,4 @@
+pub mod Refusing
 pub mod laws
 pub mod EndWords
 pub mod IntegralWalk

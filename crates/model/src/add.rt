@@ -6,8 +6,8 @@ ghost use Rattle.model.specs.definitions.InnerContracts.{Summands, combination};
 ghost use Rattle.model.specs.definitions.Outcomes.{outcome_of};
 ghost use Rattle.model.specs.definitions.Add.{addition, subtraction};
 
-use crate::measure::{fault_of, is_good};
-use crate::types::{COEFFICIENTS, Interval, Model, ModelOutcome, Refusal};
+use crate::measure::checked_weight;
+use crate::types::{COEFFICIENTS, Model, Refusal};
 
 #[derive(Clone, Copy)]
 struct Combined {
@@ -23,12 +23,10 @@ fn combine(a: &[i32; COEFFICIENTS], b: &[i32; COEFFICIENTS], sign: i32) -> Combi
 {
     let mut coefficients = [0i32; COEFFICIENTS];
     let mut weight: u64 = 0;
-    let mut i = 0;
-    while i < COEFFICIENTS {
+    for i in 0..COEFFICIENTS {
         let c = a[i] + sign * b[i];
         coefficients[i] = c;
-        weight += integer::absolute::magnitude(c as i64);
-        i += 1;
+        weight += c.unsigned_abs() as u64;
     }
     Combined {
         coefficients,
@@ -37,37 +35,28 @@ fn combine(a: &[i32; COEFFICIENTS], b: &[i32; COEFFICIENTS], sign: i32) -> Combi
 }
 
 // a + sign·b of two models.
-fn combine_models(a: Model, b: Model, sign: i32) -> ModelOutcome
+fn combine_models(a: Model, b: Model, sign: i32) -> Result<Model, Refusal>
     requires { nat_abs sign ≡ 1 }
     ensures { outcome_of result ≡ combination sign a b }
 {
-    if !is_good(a) {
-        return ModelOutcome::refused(fault_of(a));
-    }
-    if !is_good(b) {
-        return ModelOutcome::refused(fault_of(b));
-    }
-    if !Interval::is_same(a.interval, b.interval) {
-        return ModelOutcome::refused(Refusal::DifferentIntervals);
+    checked_weight(a)?;
+    checked_weight(b)?;
+    if a.interval != b.interval {
+        return Err(Refusal::DifferentIntervals);
     }
     let sum = combine(&a.coefficients, &b.coefficients, sign);
-    let coefficients = sum.coefficients;
-    let degree = if a.degree < b.degree {
-        b.degree
-    } else {
-        a.degree
-    };
+    let degree = a.degree.max(b.degree);
     let radius = a.radius as u64 + b.radius as u64;
-    ModelOutcome::formed(degree, coefficients, sum.weight, radius, a.interval)
+    Model::formed(degree, sum.coefficients, sum.weight, radius, a.interval)
 }
 
-pub fn add(a: Model, b: Model) -> ModelOutcome
+pub fn add(a: Model, b: Model) -> Result<Model, Refusal>
     ensures { outcome_of result ≡ addition a b }
 {
     combine_models(a, b, 1)
 }
 
-pub fn subtract(a: Model, b: Model) -> ModelOutcome
+pub fn subtract(a: Model, b: Model) -> Result<Model, Refusal>
     ensures { outcome_of result ≡ subtraction a b }
 {
     combine_models(a, b, -1)

@@ -1,8 +1,8 @@
 // Areas of signed 32-bit numbers: a model is its degree, its coefficients, its radius and its ends, a candidate the
 // first two.
 ghost use Rattle.std.specs.Prelude.{◌≡◌, ◌≤◌, length};
-ghost use Rattle.model.specs.definitions.Area.{model_size, candidate_size, unsigned_of, area_model};
-ghost use Rattle.model.specs.definitions.Area.{area_candidate, words, Storable};
+ghost use Rattle.model.specs.definitions.Area.{model_size, candidate_size, area_model, area_candidate};
+ghost use Rattle.model.specs.definitions.Area.{area_out, words, Storable};
 
 use crate::types::{COEFFICIENTS, Candidate, Interval, Model};
 
@@ -15,29 +15,12 @@ const LOWER: usize = 35;
 
 const UPPER: usize = 36;
 
-// 2^32
-const WORD: u64 = 4294967296;
-
-// The unsigned number with the same 32 bits.
-fn unsigned(x: i32) -> u32
-    ensures { result ≡ unsigned_of x }
+// Stores numbers in an area, which may be longer; one that is too short is not touched.
+pub fn store<T: Copy, const N: usize>(area: &mut [T], values: [T; N])
+    ensures { area.new ≡ area_out N values area.old }
 {
-    let size = integer::absolute::magnitude(x as i64);
-    if x < 0 {
-        (WORD - size) as u32
-    } else {
-        size as u32
-    }
-}
-
-pub fn copy(from: &[i32], to: &mut [i32])
-    requires { length from.now ≡ length to.old }
-    ensures { to.new ≡ from.now }
-{
-    let mut i: usize = 0;
-    while i < from.len() {
-        to[i] = from[i];
-        i += 1;
+    if N <= area.len() {
+        area[..N].copy_from_slice(&values);
     }
 }
 
@@ -47,9 +30,9 @@ pub fn read_candidate(area: &[i32]) -> Candidate
     ensures { result ≡ area_candidate area.now }
 {
     let mut coefficients = [0i32; COEFFICIENTS];
-    copy(&area[1..CANDIDATE_SIZE], &mut coefficients);
+    coefficients.copy_from_slice(&area[1..CANDIDATE_SIZE]);
     Candidate {
-        degree: unsigned(area[0]),
+        degree: area[0].cast_unsigned(),
         coefficients,
     }
 }
@@ -60,12 +43,11 @@ pub fn read(area: &[i32]) -> Model
     ensures { result ≡ area_model area.now }
 {
     let candidate = read_candidate(&area[..CANDIDATE_SIZE]);
-    let coefficients = candidate.coefficients;
-    let radius = unsigned(area[CANDIDATE_SIZE]);
+    let radius = area[CANDIDATE_SIZE].cast_unsigned();
     let lower = area[LOWER];
     let upper = area[UPPER];
     let interval = Interval { lower, upper };
-    Model::new(candidate.degree, coefficients, radius, interval)
+    Model::new(candidate.degree, candidate.coefficients, radius, interval)
 }
 
 // The model in an area, which may be longer.
@@ -81,13 +63,9 @@ pub fn write(area: &mut [i32], m: Model)
     requires { (length area.old ≡ model_size) × Storable m }
     ensures { area.new ≡ words m }
 {
-    let coefficients = m.coefficients;
-    copy(&coefficients, &mut area[1..CANDIDATE_SIZE]);
     area[0] = m.degree as i32;
+    area[1..CANDIDATE_SIZE].copy_from_slice(&m.coefficients);
     area[CANDIDATE_SIZE] = m.radius as i32;
-    let interval = m.interval;
-    let lower = interval.lower;
-    let upper = interval.upper;
-    area[LOWER] = lower;
-    area[UPPER] = upper;
+    area[LOWER] = m.interval.lower;
+    area[UPPER] = m.interval.upper;
 }

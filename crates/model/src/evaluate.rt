@@ -5,8 +5,8 @@ ghost use Rattle.model.specs.definitions.Intervals.{good_ends};
 ghost use Rattle.model.specs.definitions.Models.{max_degree};
 ghost use Rattle.model.specs.definitions.Evaluate.{point_sum, mapped_point, maps_exactly, bounds_of, evaluation};
 
-use crate::measure::{fault_of, is_good};
-use crate::types::{BoundsOutcome, COEFFICIENTS, Interval, Model, Refusal, Verdict};
+use crate::measure::checked_weight;
+use crate::types::{Bounds, COEFFICIENTS, Interval, Model, Refusal};
 
 // 2^30, the scale of t_k: t_0 = 2^30 and t_1 = 2^10·p.
 const TERM_SCALE: i64 = 1073741824;
@@ -23,6 +23,7 @@ struct PointSums {
 }
 
 // A point of an interval taken to one from -1 to 1, and whether that is exact.
+// Kept: the point counts whether it is exact or not, so that a None would lose it.
 #[derive(Clone, Copy)]
 struct MappedPoint {
     point: i64,
@@ -34,17 +35,14 @@ fn map_point(i: Interval, p: i32) -> MappedPoint
     ensures point_value { result.point ≡ mapped_point i p }
     ensures exact_value { result.exact ≡ maps_exactly i p }
 {
-    let low = i.lower;
-    let high = i.upper;
-    let lower = low as i64;
-    let upper = high as i64;
+    let lower = i.lower as i64;
+    let upper = i.upper as i64;
     let extent = upper - lower;
     let numerator = Model::SCALE * (2 * (p as i64) - lower - upper);
     let point = integer::rounding::near(numerator, extent);
-    let rest = integer::absolute::magnitude(point * extent - numerator);
     MappedPoint {
         point,
-        exact: rest == 0,
+        exact: point * extent == numerator,
     }
 }
 
@@ -67,54 +65,33 @@ fn point_sums(degree: u32, coefficients: &[i32; COEFFICIENTS], p: i64, exact: bo
     ensures value_value { result.value ≡ point_sum p 0 (take (suc degree) coefficients.now) }
     ensures error_value { result.error ≡ error_from exact 0 (take (suc degree) coefficients.now) }
 {
-    let n = degree as usize;
     let mut value: i64 = 0;
     let mut error: u64 = 0;
     let mut t = TERM_SCALE;
     let mut next = POINT_FACTOR * p;
-    let mut k: usize = 0;
-    while k <= n {
-        let c = coefficients[k] as i64;
-        value += c * t;
-        let size = integer::absolute::magnitude(c);
-        error += size * error_factor(k, exact);
+    for (k, c) in coefficients[..=degree as usize].iter().enumerate() {
+        value += *c as i64 * t;
+        error += c.unsigned_abs() as u64 * error_factor(k, exact);
         let after = integer::rounding::near(2 * p * next, Model::SCALE) - t;
         t = next;
         next = after;
-        k += 1;
     }
     PointSums { value, error }
 }
 
-pub fn evaluate(a: Model, p: i32) -> BoundsOutcome
+pub fn evaluate(a: Model, p: i32) -> Result<Bounds, Refusal>
     ensures { bounds_of result ≡ evaluation a p }
 {
-    if is_good(a) {
-        if Interval::contains(a.interval, p) {
-            let mapped = map_point(a.interval, p);
-            let sums = point_sums(a.degree, &a.coefficients, mapped.point, mapped.exact);
-            let value = 4 * sums.value;
-            let error = sums.error as i64;
-            let radius = a.radius as i64;
-            let low = integer::rounding::floor(value - error, SUM_SCALE) - radius;
-            let high = integer::rounding::up(value + error, SUM_SCALE) + radius;
-            BoundsOutcome {
-                verdict: Verdict::Accepted,
-                low,
-                high,
-            }
-        } else {
-            BoundsOutcome {
-                verdict: Verdict::Refused(Refusal::PointOutside),
-                low: 0,
-                high: 0,
-            }
-        }
-    } else {
-        BoundsOutcome {
-            verdict: Verdict::Refused(fault_of(a)),
-            low: 0,
-            high: 0,
-        }
+    checked_weight(a)?;
+    if !a.interval.contains(p) {
+        return Err(Refusal::PointOutside);
     }
+    let mapped = map_point(a.interval, p);
+    let sums = point_sums(a.degree, &a.coefficients, mapped.point, mapped.exact);
+    let value = 4 * sums.value;
+    let error = sums.error as i64;
+    let radius = a.radius as i64;
+    let low = integer::rounding::floor(value - error, SUM_SCALE) - radius;
+    let high = integer::rounding::up(value + error, SUM_SCALE) + radius;
+    Ok(Bounds { low, high })
 }

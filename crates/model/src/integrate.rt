@@ -8,8 +8,8 @@ ghost use Rattle.model.specs.definitions.InnerContracts.{Integrable, Numerator, 
 ghost use Rattle.model.specs.definitions.Outcomes.{outcome_of};
 ghost use Rattle.model.specs.definitions.Integrate.{integration};
 
-use crate::measure::{fault_of, is_good};
-use crate::types::{COEFFICIENTS, Interval, Model, ModelOutcome, Refusal};
+use crate::measure::checked_weight;
+use crate::types::{COEFFICIENTS, Model, Refusal};
 use integer::rounding::up_unsigned;
 
 // 4S, of the divisors 4S·k.
@@ -51,11 +51,12 @@ fn narrowed(c: i64, size: u64, wide: bool) -> i32
 }
 
 // The integral of 2·a_0, a_1, .., a_n, 0, .. over an interval of that extent, and its weight. On the way `above`, `here` and
-// `below` are the numbers of that list at places k + 1, k and k - 1.
+// `below` are the numbers of that list at places k + 2, k + 1 and k.
 fn rounded_integral(degree: u32, doubled: &[i32; COEFFICIENTS], extent: u64) -> Integral
     requires { Integrable degree doubled.now extent }
     ensures weight_value { result.weight ≡ weight (rounded_integral extent (take (suc degree) doubled.now)) }
-    ensures coefficients_value { result.weight ≤ max_weight → result.coefficients ≡ rounded_integral extent (take (suc degree) doubled.now) }
+    ensures coefficients_value { result.weight ≤ max_weight
+        → result.coefficients ≡ rounded_integral extent (take (suc degree) doubled.now) }
 {
     let wide = NARROW < extent;
     let mut coefficients = [0i32; COEFFICIENTS];
@@ -63,19 +64,17 @@ fn rounded_integral(degree: u32, doubled: &[i32; COEFFICIENTS], extent: u64) -> 
     let mut first: i64 = 0;
     let mut above: i64 = 0;
     let mut here: i64 = 0;
-    let mut k = degree as usize + 1;
-    while 0 < k {
-        let below = doubled[k - 1] as i64;
-        let c = rounded_coefficient(below, above, extent, k);
-        let size = integer::absolute::magnitude(c);
+    for k in (0..degree as usize + 1).rev() {
+        let below = doubled[k] as i64;
+        let c = rounded_coefficient(below, above, extent, k + 1);
+        let size = c.unsigned_abs();
         weight += size;
-        coefficients[k] = narrowed(c, size, wide);
+        coefficients[k + 1] = narrowed(c, size, wide);
         first = c - first;
         above = here;
         here = below;
-        k -= 1;
     }
-    weight += integer::absolute::magnitude(first);
+    weight += first.unsigned_abs();
     if weight <= Model::MAX_WEIGHT {
         coefficients[0] = first as i32;
     }
@@ -85,29 +84,24 @@ fn rounded_integral(degree: u32, doubled: &[i32; COEFFICIENTS], extent: u64) -> 
     }
 }
 
-pub fn integrate(a: Model) -> ModelOutcome
+pub fn integrate(a: Model) -> Result<Model, Refusal>
     ensures { outcome_of result ≡ integration a }
 {
-    if is_good(a) {
-        if a.degree < Model::MAX_DEGREE {
-            let mut doubled = a.coefficients;
-            doubled[0] = 2 * doubled[0];
-            let extent = Interval::extent(a.interval);
-            let result = rounded_integral(a.degree, &doubled, extent);
-            let spread = up_unsigned(a.radius as u64 * extent, Model::SCALE as u64);
-            let radius = spread + (a.degree as u64) + 1;
-            let coefficients = result.coefficients;
-            ModelOutcome::formed(
-                a.degree + 1,
-                coefficients,
-                result.weight,
-                radius,
-                a.interval,
-            )
-        } else {
-            ModelOutcome::refused(Refusal::LargeResult)
-        }
-    } else {
-        ModelOutcome::refused(fault_of(a))
+    checked_weight(a)?;
+    if a.degree == Model::MAX_DEGREE {
+        return Err(Refusal::LargeResult);
     }
+    let mut doubled = a.coefficients;
+    doubled[0] = 2 * doubled[0];
+    let extent = a.interval.extent();
+    let result = rounded_integral(a.degree, &doubled, extent);
+    let spread = up_unsigned(a.radius as u64 * extent, Model::SCALE as u64);
+    let radius = spread + (a.degree as u64) + 1;
+    Model::formed(
+        a.degree + 1,
+        result.coefficients,
+        result.weight,
+        radius,
+        a.interval,
+    )
 }

@@ -3,18 +3,12 @@ ghost use Rattle.std.specs.Prelude.{◌≡◌};
 ghost use Rattle.model.specs.definitions.Outcomes.{outcome_of};
 ghost use Rattle.model.specs.definitions.Load.{loading};
 
-use crate::measure::{fault_of, is_good};
-use crate::types::{Model, ModelOutcome, Verdict};
+use crate::measure::checked_weight;
+use crate::types::{Model, Refusal};
 
-pub fn load(m: Model) -> ModelOutcome
+pub fn load(m: Model) -> Result<Model, Refusal>
     ensures { outcome_of result ≡ loading m }
 {
-    if is_good(m) {
-        ModelOutcome {
-            verdict: Verdict::Accepted,
-            model: m,
-        }
-    } else {
-        ModelOutcome::refused(fault_of(m))
-    }
+    checked_weight(m)?;
+    Ok(m)
 }

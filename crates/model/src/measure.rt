@@ -1,11 +1,13 @@
 // The test for a good model, and the weight, in one pass over the coefficients.
-ghost use Rattle.std.specs.Prelude.{◌≡◌, ◌<◌, ◌^◌, length};
+ghost use Rattle.std.specs.Prelude.{◌≡◌, ◌<◌, ◌^◌, length, true, false, IfOk, IfErr};
+ghost use Rattle.model.specs.declared.types.Refusal.TheVariants.{BadModel};
 ghost use Rattle.chebyshev.specs.definitions.Coefficients.{weight};
 ghost use Rattle.model.specs.definitions.Models.{coefficient_count, parts_within_limits, within_limits, good, fault};
 ghost use Rattle.model.specs.definitions.Outcomes.{number_of};
 
-use crate::types::{COEFFICIENTS, Candidate, Interval, Model, Refusal};
+use crate::types::{COEFFICIENTS, Candidate, Model, Refusal};
 
+// Kept: `measure` and `measure_candidate` promise the weight of a bad model too; `checked_weight` has the Result.
 #[derive(Clone, Copy)]
 pub struct Measured {
     pub good: bool,
@@ -14,32 +16,21 @@ pub struct Measured {
 
 // The degree, the weight and what lies beyond the degree, of a model with radius 0 given by its parts.
 fn measure_parts(degree: u32, coefficients: &[i32; COEFFICIENTS]) -> Measured
-    requires { length coefficients.now ≡ coefficient_count }
     ensures good_value { result.good ≡ parts_within_limits degree coefficients.now 0 }
     ensures weight_value { result.weight ≡ weight coefficients.now }
 {
     let n = degree as usize;
     let mut total: u64 = 0;
     let mut beyond: u64 = 0;
-    let mut i = 0;
-    while i < COEFFICIENTS {
-        let size = integer::absolute::magnitude(coefficients[i] as i64);
+    for (i, c) in coefficients.iter().enumerate() {
+        let size = c.unsigned_abs() as u64;
         total += size;
         if n < i {
             beyond += size;
         }
-        i += 1;
-    }
-    if degree <= Model::MAX_DEGREE {
-        if total <= Model::MAX_WEIGHT {
-            return Measured {
-                good: beyond == 0,
-                weight: total,
-            };
-        }
     }
     Measured {
-        good: false,
+        good: (degree <= Model::MAX_DEGREE) & (total <= Model::MAX_WEIGHT) & (beyond == 0),
         weight: total,
     }
 }
@@ -49,13 +40,9 @@ fn measure_limits(m: Model) -> Measured
     ensures { (result.good ≡ within_limits m) × (result.weight ≡ weight m.coefficients) }
 {
     let parts = measure_parts(m.degree, &m.coefficients);
-    if m.radius as u64 <= Model::MAX_RADIUS {
-        parts
-    } else {
-        Measured {
-            good: false,
-            weight: parts.weight,
-        }
+    Measured {
+        good: parts.good & (m.radius as u64 <= Model::MAX_RADIUS),
+        weight: parts.weight,
     }
 }
 
@@ -63,13 +50,9 @@ pub fn measure(m: Model) -> Measured
     ensures { (result.good ≡ good m) × (result.weight ≡ weight m.coefficients) }
 {
     let limits = measure_limits(m);
-    if Interval::is_good(m.interval) {
-        limits
-    } else {
-        Measured {
-            good: false,
-            weight: limits.weight,
-        }
+    Measured {
+        good: limits.good & m.interval.is_good(),
+        weight: limits.weight,
     }
 }
 
@@ -91,13 +74,37 @@ pub fn is_good(m: Model) -> bool
 pub fn fault_of(m: Model) -> Refusal
     ensures { number_of result ≡ fault m }
 {
-    if Interval::is_good(m.interval) {
-        return Refusal::BadModel;
-    }
-    if measure_limits(m).good {
+    if !m.interval.is_good() && measure_limits(m).good {
         Refusal::BadEnds
     } else {
         Refusal::BadModel
+    }
+}
+
+// The weight of a good model, or why it is not good.
+pub fn checked_weight(m: Model) -> Result<u64, Refusal>
+    ensures ok { IfOk result (λ weight_value. (good m ≡ true) × (weight_value ≡ weight m.coefficients)) }
+    ensures err { IfErr result (λ refusal. (good m ≡ false) × (number_of refusal ≡ fault m)) }
+{
+    let measured = measure(m);
+    if measured.good {
+        Ok(measured.weight)
+    } else {
+        Err(fault_of(m))
+    }
+}
+
+// The weight of a good candidate.
+pub fn checked_candidate(c: Candidate) -> Result<u64, Refusal>
+    ensures ok { IfOk result
+        (λ weight_value. (parts_within_limits c.degree c.coefficients 0 ≡ true) × (weight_value ≡ weight c.coefficients)) }
+    ensures err { IfErr result (λ refusal. (parts_within_limits c.degree c.coefficients 0 ≡ false) × (refusal ≡ BadModel)) }
+{
+    let measured = measure_candidate(c);
+    if measured.good {
+        Ok(measured.weight)
+    } else {
+        Err(Refusal::BadModel)
     }
 }
 
@@ -107,10 +114,8 @@ pub fn weigh(c: &[i64]) -> u64
     ensures { result ≡ weight c.now }
 {
     let mut total: u64 = 0;
-    let mut i = 0;
-    while i < c.len() {
-        total += integer::absolute::magnitude(c[i]);
-        i += 1;
+    for x in c {
+        total += x.unsigned_abs();
     }
     total
 }

@@ -7,37 +7,35 @@ ghost use Rattle.model.specs.definitions.Models.{scale, coefficient_count, produ
 ghost use Rattle.model.specs.definitions.Outcomes.{outcome_of};
 ghost use Rattle.model.specs.definitions.Multiply.{bad_kept, kept_degree, product_model, product_visits, multiplication};
 
-use crate::measure::{fault_of, measure};
+use crate::measure::checked_weight;
 use crate::products::add_products;
 use crate::round::{Rounded, round};
-use crate::types::{Interval, Model, ModelOutcome, PRODUCT_SIZE, Refusal};
+use crate::types::{Model, PRODUCT_SIZE, Refusal};
 use integer::rounding::up_unsigned;
 
 // One unit of a coefficient, in units of C.
 const UNIT: i64 = 2 * Model::SCALE;
 
 // A kept degree that means the larger degree of the two factors.
+// Kept: a number and no enum, as `multiply` takes every number, and refuses one behind the models and their intervals.
 const LARGER_DEGREE: u32 = 255;
 
 // Neither 0 to 32 nor 255.
 pub fn is_bad_kept(kept: u32) -> bool
     ensures { result ≡ bad_kept kept }
 {
-    if kept == LARGER_DEGREE {
-        false
-    } else {
-        Model::MAX_DEGREE < kept
-    }
+    (kept != LARGER_DEGREE) & (Model::MAX_DEGREE < kept)
 }
 
 // The kept degree that a number stands for between factors of two degrees.
 fn kept_degree(kept: u32, first: u32, second: u32) -> u32
     ensures { result ≡ kept_degree kept first second }
 {
-    if kept != LARGER_DEGREE {
-        return kept;
+    if kept == LARGER_DEGREE {
+        first.max(second)
+    } else {
+        kept
     }
-    if first < second { second } else { first }
 }
 
 // A list C, rounded, and how many pairs the walk that formed it visited.
@@ -50,7 +48,7 @@ pub struct RoundedProduct {
 // A product, and how many pairs were visited for it.
 #[derive(Clone, Copy)]
 pub struct Multiplied {
-    pub outcome: ModelOutcome,
+    pub outcome: Result<Model, Refusal>,
     pub visits: usize,
 }
 
@@ -82,22 +80,20 @@ fn multiply_good(a: Model, b: Model, weight_a: u64, weight_b: u64, kept: u32) ->
     ensures visits_value { result.visits ≡ product_visits a b }
 {
     let top = a.degree + b.degree;
-    let degree = if kept < top { kept } else { top };
-    let first = a.coefficients;
-    let second = b.coefficients;
+    let degree = kept.min(top);
     let product = round_product(
-        &first[..a.degree as usize + 1],
-        &second[..b.degree as usize + 1],
+        &a.coefficients[..a.degree as usize + 1],
+        &b.coefficients[..b.degree as usize + 1],
         degree as usize + 1,
     );
     let rounded = product.rounded;
-    let coefficients = rounded.coefficients;
     let loss = rounded.loss + radius_loss(weight_a, a.radius as u64, weight_b, b.radius as u64);
-    let outcome = ModelOutcome::formed(
+    let radius = up_unsigned(loss, UNIT as u64);
+    let outcome = Model::formed(
         degree,
-        coefficients,
+        rounded.coefficients,
         rounded.weight,
-        up_unsigned(loss, UNIT as u64),
+        radius,
         a.interval,
     );
     Multiplied {
@@ -106,24 +102,17 @@ fn multiply_good(a: Model, b: Model, weight_a: u64, weight_b: u64, kept: u32) ->
     }
 }
 
-pub fn multiply(a: Model, b: Model, kept: u32) -> ModelOutcome
+pub fn multiply(a: Model, b: Model, kept: u32) -> Result<Model, Refusal>
     ensures { outcome_of result ≡ multiplication kept a b }
 {
-    let first = measure(a);
-    if !first.good {
-        return ModelOutcome::refused(fault_of(a));
-    }
-    let second = measure(b);
-    if !second.good {
-        return ModelOutcome::refused(fault_of(b));
-    }
-    if !Interval::is_same(a.interval, b.interval) {
-        return ModelOutcome::refused(Refusal::DifferentIntervals);
+    let weight_a = checked_weight(a)?;
+    let weight_b = checked_weight(b)?;
+    if a.interval != b.interval {
+        return Err(Refusal::DifferentIntervals);
     }
     if is_bad_kept(kept) {
-        return ModelOutcome::refused(Refusal::BadValue);
+        return Err(Refusal::BadValue);
     }
     let degree = kept_degree(kept, a.degree, b.degree);
-    let product = multiply_good(a, b, first.weight, second.weight, degree);
-    product.outcome
+    multiply_good(a, b, weight_a, weight_b, degree).outcome
 }

@@ -2,43 +2,35 @@
 ghost use Rattle.std.specs.Prelude.{◌≡◌, suc, ◌+◌, ◌*◌, ◌^◌, ◌<◌, ◌≤◌, nat_abs, length};
 ghost use Rattle.ring.specs.definitions.Integer.{ℤ_ring};
 ghost use Rattle.chebyshev.specs.definitions.Coefficients.{weight};
-ghost use Rattle.chebyshev.specs.definitions.Product.{distance as distance_of, add_at, add_pair, add_term, add_terms};
-
-// |i - j|
-fn distance(i: usize, j: usize) -> usize
-    ensures { result ≡ distance_of i j }
-{
-    if j < i { i - j } else { j - i }
-}
+ghost use Rattle.chebyshev.specs.definitions.Product.{add_at, add_pair, add_term, add_terms};
 
 // v at place k.
 fn add_at(c: &mut [i64], k: usize, v: i64)
     requires { (k < length c.old) × (weight c.old + nat_abs v < 2 ^ 63) }
     ensures { c.new ≡ add_at ℤ_ring c.old k v }
 {
-    c[k] = c[k] + v;
+    c[k] += v;
 }
 
 // One visit of the pair (i, j) with the product v, for both its places: a pair with i + j = |i - j| counts twice.
+// abs_diff is asked of j: of i, the loop over j < i would keep a test.
 fn add_pair(c: &mut [i64], i: usize, j: usize, v: i64)
     requires { (i + j < length c.old) × (weight c.old + 2 * nat_abs v < 2 ^ 63) }
     ensures { c.new ≡ add_pair ℤ_ring c.old i j v }
 {
     add_at(c, i + j, v);
-    add_at(c, distance(i, j), v);
+    add_at(c, j.abs_diff(i), v);
 }
 
-// The pairs of x, at place i, with each element of b, the first at place j. The loop's counter is the count of visits.
+// The pairs of x, at place i, with each element of b, the first at place j; answers how many they are.
 fn add_pairs(c: &mut [i64], x: i64, i: usize, j: usize, b: &[i32]) -> usize
     requires { (i + j + length b.now ≤ length c.old) × (weight c.old + 2 * nat_abs x * weight b.now < 2 ^ 63) }
     ensures { (c.new, result) ≡ add_term ℤ_ring (c.old, 0) x i j b.now }
 {
-    let mut k = 0;
-    while k < b.len() {
+    for k in 0..b.len() {
         add_pair(c, i, j + k, x * (b[k] as i64));
-        k += 1;
     }
-    k
+    b.len()
 }
 
 // The whole term of x, at place i, cut at j = i, so that no loop has to choose between i - j and j - i.
@@ -64,10 +56,8 @@ pub fn add_products(c: &mut [i64], a: &[i32], b: &[i32]) -> usize
     ensures value { result ≡ length a.now * length b.now }
 {
     let mut visits = 0;
-    let mut i = 0;
-    while i < a.len() {
-        visits += add_term(c, a[i] as i64, i, b);
-        i += 1;
+    for (i, x) in a.iter().enumerate() {
+        visits += add_term(c, *x as i64, i, b);
     }
     visits
 }

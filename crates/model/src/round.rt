@@ -4,7 +4,6 @@ ghost use Rattle.model.specs.definitions.InnerContracts.{Roundable, RoundedFrom}
 
 use crate::measure::weigh;
 use crate::types::{COEFFICIENTS, Model};
-use integer::absolute::magnitude;
 use integer::rounding::near;
 
 // The rounded coefficients, which count only where their weight is within its limit, their weight, and what the rounding
@@ -24,16 +23,13 @@ pub fn round(c: &[i64], kept: usize, unit: i64) -> Rounded
     let mut coefficients = [0i32; COEFFICIENTS];
     let mut weight: u64 = 0;
     let mut loss: u64 = weigh(&c[kept..]);
-    let mut k = 0;
-    while k < kept {
-        let exact = c[k];
-        let q = near(exact, unit);
-        loss += magnitude(exact - unit * q);
-        weight += magnitude(q);
+    for (k, exact) in c[..kept].iter().enumerate() {
+        let q = near(*exact, unit);
+        loss += (exact - unit * q).unsigned_abs();
+        weight += q.unsigned_abs();
         if weight <= Model::MAX_WEIGHT {
             coefficients[k] = q as i32;
         }
-        k += 1;
     }
     Rounded {
         coefficients,

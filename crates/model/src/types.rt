@@ -1,10 +1,10 @@
 // A model: degree, coefficients of T_0 .. T_32 in units of 1/SCALE, radius in units, and the interval on which it holds.
 ghost use Rattle.std.specs.Prelude.{◌≡◌};
 ghost use Rattle.model.specs.definitions.InnerContracts.{formed_outcome};
-ghost use Rattle.model.specs.definitions.Intervals.{good_ends, extent, contains, same_interval};
+ghost use Rattle.model.specs.definitions.Intervals.{good_ends, extent, contains};
 ghost use Rattle.model.specs.definitions.Intervals.{standard_interval, zero_interval};
 ghost use Rattle.model.specs.definitions.Models.{make_model, zero_model, constant_model};
-ghost use Rattle.model.specs.definitions.Outcomes.{refused, number_of, verdict_number, outcome_of};
+ghost use Rattle.model.specs.definitions.Outcomes.{number_of, outcome_of};
 
 pub const COEFFICIENTS: usize = 33;
 
@@ -12,7 +12,7 @@ pub const COEFFICIENTS: usize = 33;
 pub const PRODUCT_SIZE: usize = 65;
 
 // Two ends in units.
-#[derive(Clone, Copy)]
+#[derive(Clone, Copy, Debug, PartialEq, Eq)]
 pub struct Interval {
     pub lower: i32,
     pub upper: i32,
@@ -33,8 +33,8 @@ pub struct Candidate {
     pub coefficients: [i32; COEFFICIENTS],
 }
 
-// The numbered refusals of documents 01 and 02; `number_of` gives the number of each.
-#[derive(Clone, Copy)]
+// The numbered refusals of documents 01 and 02; `u32::from` gives the number of each.
+#[derive(Clone, Copy, Debug, PartialEq, Eq)]
 pub enum Refusal {
     ShortArea,
     BadModel,
@@ -58,62 +58,39 @@ pub enum Refusal {
     ShortOutput,
 }
 
-// How an operation ends.
-#[derive(Clone, Copy)]
-pub enum Verdict {
-    Accepted,
-    Refused(Refusal),
-}
-
-// A refused operation answers its refusal beside the zero model.
-#[derive(Clone, Copy)]
-pub struct ModelOutcome {
-    pub verdict: Verdict,
-    pub model: Model,
-}
-
-// A refused evaluation answers 0 and 0.
-#[derive(Clone, Copy)]
-pub struct BoundsOutcome {
-    pub verdict: Verdict,
+// The bounds of an evaluation.
+#[derive(Clone, Copy, Debug, PartialEq, Eq)]
+pub struct Bounds {
     pub low: i64,
     pub high: i64,
 }
 
-pub fn number_of(refusal: Refusal) -> u32
-    ensures { result ≡ number_of refusal }
-{
-    match refusal {
-        Refusal::ShortArea => 1,
-        Refusal::BadModel => 2,
-        Refusal::LargeResult => 3,
-        Refusal::PointOutside => 4,
-        Refusal::NotContracting => 5,
-        Refusal::LargeResidual => 6,
-        Refusal::HelperNotPositive => 7,
-        Refusal::NegativeDiscriminant => 8,
-        Refusal::BadValue => 9,
-        Refusal::JobEnds => 10,
-        Refusal::BytesAfterEnd => 11,
-        Refusal::NotAResult => 12,
-        Refusal::TooManyResults => 13,
-        Refusal::BadSeries => 14,
-        Refusal::NotFinite => 15,
-        Refusal::LargeProposal => 16,
-        Refusal::NoRadius => 17,
-        Refusal::BadEnds => 18,
-        Refusal::DifferentIntervals => 19,
-        Refusal::ShortOutput => 20,
-    }
-}
+impl From<Refusal> for u32 {
+    ghost from_gives = { λ refusal n. n ≡ number_of refusal };
 
-// The number of a refusal, 0 where nothing is refused.
-pub fn verdict_number(verdict: Verdict) -> u32
-    ensures { result ≡ verdict_number verdict }
-{
-    match verdict {
-        Verdict::Accepted => 0,
-        Verdict::Refused(refusal) => number_of(refusal),
+    fn from(refusal: Refusal) -> u32 {
+        match refusal {
+            Refusal::ShortArea => 1,
+            Refusal::BadModel => 2,
+            Refusal::LargeResult => 3,
+            Refusal::PointOutside => 4,
+            Refusal::NotContracting => 5,
+            Refusal::LargeResidual => 6,
+            Refusal::HelperNotPositive => 7,
+            Refusal::NegativeDiscriminant => 8,
+            Refusal::BadValue => 9,
+            Refusal::JobEnds => 10,
+            Refusal::BytesAfterEnd => 11,
+            Refusal::NotAResult => 12,
+            Refusal::TooManyResults => 13,
+            Refusal::BadSeries => 14,
+            Refusal::NotFinite => 15,
+            Refusal::LargeProposal => 16,
+            Refusal::NoRadius => 17,
+            Refusal::BadEnds => 18,
+            Refusal::DifferentIntervals => 19,
+            Refusal::ShortOutput => 20,
+        }
     }
 }
 
@@ -139,41 +116,25 @@ impl Interval {
         Interval { lower: 0, upper: 0 }
     }
 
-    pub fn is_good(i: Interval) -> bool
-        ensures { result ≡ good_ends i }
+    pub fn is_good(self) -> bool
+        ensures { result ≡ good_ends self }
     {
-        let lower = i.lower;
-        let upper = i.upper;
-        (Interval::MIN_END <= lower) & (lower < upper) & (upper <= Interval::MAX_END)
+        (Interval::MIN_END <= self.lower)
+            & (self.lower < self.upper)
+            & (self.upper <= Interval::MAX_END)
     }
 
     // u - l
-    pub fn extent(i: Interval) -> u64
-        ensures { result ≡ extent i }
+    pub fn extent(self) -> u64
+        ensures { result ≡ extent self }
     {
-        let lower = i.lower;
-        let upper = i.upper;
-        integer::absolute::magnitude(upper as i64 - lower as i64)
+        (self.upper as i64 - self.lower as i64).unsigned_abs()
     }
 
-    pub fn contains(i: Interval, p: i32) -> bool
-        ensures { result ≡ contains i p }
+    pub fn contains(self, p: i32) -> bool
+        ensures { result ≡ contains self p }
     {
-        let lower = i.lower;
-        let upper = i.upper;
-        (lower <= p) & (p <= upper)
-    }
-
-    pub fn is_same(i: Interval, j: Interval) -> bool
-        ensures { result ≡ same_interval i j }
-    {
-        let low = i.lower;
-        let high = i.upper;
-        let lower = j.lower;
-        let upper = j.upper;
-        let below = integer::absolute::magnitude(low as i64 - lower as i64);
-        let above = integer::absolute::magnitude(high as i64 - upper as i64);
-        (below == 0) & (above == 0)
+        (self.lower <= p) & (p <= self.upper)
     }
 }
 
@@ -192,7 +153,7 @@ impl Model {
         coefficients: [i32; COEFFICIENTS],
         radius: u32,
         interval: Interval,
-    ) -> Model
+    ) -> Self
         ensures { result ≡ make_model degree coefficients radius interval }
     {
         Model {
@@ -206,53 +167,35 @@ impl Model {
     pub fn zero() -> Model
         ensures { result ≡ zero_model }
     {
-        let interval = Interval::zero();
-        Model::new(0, [0i32; COEFFICIENTS], 0, interval)
+        Model::new(0, [0; COEFFICIENTS], 0, Interval::zero())
     }
 
     // The constant c, in units, with radius 0, from -1 to 1.
     pub fn constant(c: i32) -> Model
         ensures { result ≡ constant_model c }
     {
-        let mut coefficients = [0i32; COEFFICIENTS];
+        let mut coefficients = [0; COEFFICIENTS];
         coefficients[0] = c;
-        let interval = Interval::standard();
-        Model::new(0, coefficients, 0, interval)
-    }
-}
-
-impl ModelOutcome {
-    // A refused operation: its refusal beside the zero model.
-    pub fn refused(refusal: Refusal) -> ModelOutcome
-        ensures { outcome_of result ≡ refused (number_of refusal) zero_model }
-    {
-        ModelOutcome {
-            verdict: Verdict::Refused(refusal),
-            model: Model::zero(),
-        }
+        Model::new(0, coefficients, 0, Interval::standard())
     }
 
-    // An operation that has formed its result: that result, unless it is too large.
+    // The result of an operation, unless it is too large.
     pub fn formed(
         degree: u32,
         coefficients: [i32; COEFFICIENTS],
         weight: u64,
         radius: u64,
         interval: Interval,
-    ) -> ModelOutcome
+    ) -> Result<Model, Refusal>
         ensures { outcome_of result ≡ formed_outcome degree coefficients weight radius interval }
     {
-        if weight <= Model::MAX_WEIGHT {
-            if radius <= Model::MAX_RADIUS {
-                if degree <= Model::MAX_DEGREE {
-                    let model = Model::new(degree, coefficients, radius as u32, interval);
-                    return ModelOutcome {
-                        verdict: Verdict::Accepted,
-                        model,
-                    };
-                }
-            }
+        if weight <= Model::MAX_WEIGHT
+            && radius <= Model::MAX_RADIUS
+            && degree <= Model::MAX_DEGREE
+        {
+            Ok(Model::new(degree, coefficients, radius as u32, interval))
+        } else {
+            Err(Refusal::LargeResult)
         }
-        ModelOutcome::refused(Refusal::LargeResult)
     }
 }

@@ -1,6 +1,9 @@
 -- What the makers store has degrees that 32-bit numbers hold, and what the lengths of their areas tell.
 use borrow.Author.Tests.{leb-true}
-use mathlib.Core.Path.{◌≡◌}
+use Rattle.std.specs.Prelude.{Result, Ok, Err, IfOk}
+use Rattle.std.specs.Result.{result_unwrap_or}
+use Rattle.std.proofs.Common.{rules}
+use mathlib.Core.Path.{◌≡◌, sym, ◌∙◌, subst}
 use mathlib.Core.Bool.{true, ◌&&◌}
 use mathlib.Core.List.{List}
 use Prim.Native.Nat.{ℕ, ◌≤◌}
@@ -10,66 +13,63 @@ use lib.ListN.{length}
 use lib.Ieee.{Float}
 use Rattle.model.specs.definitions.Models.{max_degree}
 use Rattle.model.specs.definitions.Area.{model_size, candidate_size, fits}
-use Rattle.model.specs.definitions.Outcomes.{refused}
+use Rattle.model.specs.definitions.Outcomes.{payload, judged}
 use Rattle.model.proofs.laws.AreaLaws.{fit_last}
 use Rattle.model.proofs.laws.OutcomeLaws.{held_judged}
 use Rattle.model.proofs.laws.ResultLaws.{outcome-payload}
 use Rattle.model.specs.declared.types.Model.{Model}
 use Rattle.model.specs.declared.types.Candidate.{Candidate}
+use Rattle.model.specs.declared.types.Refusal.{Refusal}
 use Rattle.proposals.specs.definitions.Units.{zero_candidate, in_units, in_units_of}
 use Rattle.proposals.specs.definitions.Reciprocal.{Reciprocal, refused_reciprocal, reciprocal_proposal, reciprocal_of}
 use Rattle.proposals.specs.definitions.Quotient.{Quotient, refused_quotient, quotient_proposal, quotient_of}
 use Rattle.proposals.specs.definitions.Areas.{round_size, quotient_size, outcome_size, reciprocal_fits, quotient_fits}
-use Rattle.proposals.specs.declared.types.CandidateOutcome.{CandidateOutcome}
-use Rattle.proposals.specs.declared.types.ReciprocalOutcome.{ReciprocalOutcome}
-use Rattle.proposals.specs.declared.types.QuotientOutcome.{QuotientOutcome}
 
 -- ---- degrees
 
-abbrev of_units : Candidate → Type 0
+abbrev pub of_units : Candidate → Type 0
 of_units c = c.degree ≤ max_degree
 
-abbrev of_reciprocal : Reciprocal → Type 0
+abbrev pub of_reciprocal : Reciprocal → Type 0
 of_reciprocal r = r.w.degree ≤ max_degree
 
-abbrev of_quotient : Quotient → Type 0
+abbrev pub of_quotient : Quotient → Type 0
 of_quotient q = (q.h.degree ≤ max_degree) × (q.w.degree ≤ max_degree)
 
-zero_list : of_units zero_candidate
+pub zero_list : of_units zero_candidate
 unfolding zero_candidate
 zero_list = omega arith
 
-zero_reciprocal : of_reciprocal refused_reciprocal
+pub zero_reciprocal : of_reciprocal refused_reciprocal
 unfolding refused_reciprocal
 zero_reciprocal = zero_list
 
-zero_quotient : of_quotient refused_quotient
+pub zero_quotient : of_quotient refused_quotient
 unfolding refused_quotient
 zero_quotient = (zero_list, zero_list)
 
-module _ (r : CandidateOutcome) where
-  pub list_degree : (v : List Float) → in_units_of r ≡ in_units v → of_units r.candidate
-  unfolding in_units
-  list_degree v e = held_judged of_units r.verdict _ e (outcome-payload of_units _ _ _ (λ p. (omega arith)) zero_list)
+pub list_degree : (r : Result Candidate Refusal) (v : List Float) → in_units_of r ≡ in_units v → IfOk r of_units
+unfolding in_units
+list_degree r v e = held_judged of_units zero_candidate r e (outcome-payload of_units _ _ _ (λ p. (omega arith)) zero_list)
 
-  pub short_list_degree : in_units_of r ≡ refused 1 zero_candidate → of_units r.candidate
-  short_list_degree e = held_judged of_units r.verdict _ e zero_list
+pub reciprocal_degree : (r : Result Reciprocal Refusal) (g : Model) → reciprocal_of r ≡ reciprocal_proposal g → IfOk r of_reciprocal
+unfolding reciprocal_proposal
+reciprocal_degree r g e = held_judged of_reciprocal refused_reciprocal r e (outcome-payload of_reciprocal _ _ _ (λ p. (omega arith)) zero_reciprocal)
 
-module _ (r : ReciprocalOutcome) where
-  pub reciprocal_degree : (g : Model) → reciprocal_of r ≡ reciprocal_proposal g → r.w.degree ≤ max_degree
-  unfolding reciprocal_proposal
-  reciprocal_degree g e = held_judged of_reciprocal r.verdict _ e (outcome-payload of_reciprocal _ _ _ (λ p. (omega arith)) zero_reciprocal)
+pub quotient_degrees : (r : Result Quotient Refusal) (f g : Model) → quotient_of r ≡ quotient_proposal f g → IfOk r of_quotient
+unfolding quotient_proposal
+quotient_degrees r f g e = held_judged of_quotient refused_quotient r e (outcome-payload of_quotient _ _ _ (λ p. (omega arith, omega arith)) zero_quotient)
 
-  pub short_reciprocal_degree : reciprocal_of r ≡ refused 1 refused_reciprocal → r.w.degree ≤ max_degree
-  short_reciprocal_degree e = held_judged of_reciprocal r.verdict _ e zero_reciprocal
+-- ---- what is stored: the values, or zeros in their place
 
-module _ (r : QuotientOutcome) where
-  pub quotient_degrees : (f g : Model) → quotient_of r ≡ quotient_proposal f g → (r.h.degree ≤ max_degree) × (r.w.degree ≤ max_degree)
-  unfolding quotient_proposal
-  quotient_degrees f g e = held_judged of_quotient r.verdict _ e (outcome-payload of_quotient _ _ _ (λ p. (omega arith, omega arith)) zero_quotient)
+module _ {A : Type 0} {v d : A} (z : A) where
+  pub stored : (r : Result A Refusal) → v ≡ result_unwrap_or r d → d ≡ z → v ≡ payload (judged z r)
+  stored (Ok a) e f = e
+  stored (Err k) e f = e ∙ f
 
-  pub short_quotient_degrees : quotient_of r ≡ refused 1 refused_quotient → (r.h.degree ≤ max_degree) × (r.w.degree ≤ max_degree)
-  short_quotient_degrees e = held_judged of_quotient r.verdict _ e zero_quotient
+  pub stored_holds : (P : A → Type 0) (r : Result A Refusal) → v ≡ result_unwrap_or r d → d ≡ z → IfOk r P → P z → P v
+  stored_holds P (Ok a) e f h k = subst P (sym e) (search rules)
+  stored_holds P (Err n) e f h k = subst P (sym (e ∙ f)) k
 
 -- ---- areas that have their numbers
 

@@ -1,11 +1,20 @@
--- A loop that puts f of each element in its place.
+-- What `values::each` gives is `map`.
 use mathlib.Core.Path.{◌≡◌, refl, sym, ◌∙◌, ap}
 use mathlib.Core.List.{List, map}
 use Prim.Native.Nat.{ℕ, ◌+◌, ◌≤◌, ◌<◌}
 use native.Mathlib.Omega.{arith}
 use lib.ListN.{length, get_or, set, length-map, get_or-map}
+use lib.Seq.{ext_get_or}
 use Rattle.integer.proofs.laws.Filling.{Filling, begins, turn, next, whole}
+use Rattle.proposals.specs.definitions.InnerContracts.{Each}
 
+pub mapped : {A B : Type 0} {R : A → B → Type 0} (f : A → B) (d : A) (xs : List A) (ys : List B) → ((k : ℕ) (y : B) → k < length xs → R (get_or xs k d) y → y ≡ f (get_or xs k d))
+    → Each R xs ys → ys ≡ map f xs
+mapped f d xs ys given r =
+    ext_get_or (f d) ys (map f xs) (r.long ∙ sym (length-map xs f))
+    (λ k h. let j : k < length xs = omega (arith, r.long) in given k (get_or ys k (f d)) j (r.at k d (f d) j) ∙ sym (get_or-map f xs k d))
+
+-- A loop that puts f of each element in its place.
 module _ {A : Type 0} (f : A → A) (start : List A) where
   abbrev pub Mapping : List A → ℕ → Type 0
   Mapping l k = Filling (map f start) start l 0 (length start) k
@@ -20,19 +29,3 @@ module _ {A : Type 0} (f : A → A) (start : List A) where
 
   pub map_ends : (l : List A) (k : ℕ) → Mapping l k → length start ≤ k → l ≡ map f start
   map_ends l k m h = whole m h refl
-
--- A loop that puts f of each element of a into a list of the same length n.
-module _ {A B : Type 0} (f : A → B) (a : List A) (start : List B) (n : ℕ) where
-  abbrev pub Making : List B → ℕ → Type 0
-  Making l k = Filling (map f a) start l 0 n k
-
-  pub make_begins : length a ≡ n → length start ≡ n → Making start 0
-  make_begins e g = begins (map f a) start 0 n (length-map a f ∙ e) (omega arith)
-
-  pub make_turn : (l : List B) (k : ℕ) (v : B) (d : A) → Making l k → k < n → v ≡ f (get_or a k d) → Making (set l k v) (k + 1)
-  make_turn l k v d m h e =
-      let p : k ≡ 0 + k = omega arith in
-      turn k v (f d) m h p (e ∙ sym (get_or-map f a k d))
-
-  pub make_ends : (l : List B) (k : ℕ) → Making l k → n ≤ k → length start ≡ n → l ≡ map f a
-  make_ends l k m h e = whole m h e

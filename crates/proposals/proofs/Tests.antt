@@ -1,11 +1,20 @@
--- The test of a loop over two lists.
+-- Where a loop over the shorter of two lists ends.
 use mathlib.Core.Path.{◌≡◌, sym, subst}
 use mathlib.Core.Bool.{Bool, true, false, not, ◌&&◌}
 use mathlib.Core.Logic.{◌⊎◌, inl, inr}
-use Prim.Native.Nat.{ℕ, ◌<◌, ◌≤◌}
+use Prim.Native.Nat.{ℕ, ◌<◌, ◌≤◌, min}
+use native.Mathlib.Omega.{arith}
 use lib.Dec.{T, ltb, ltb→lt, nltb→le}
 use lib.Ieee.Fits.{and_l, and_r}
 
+pub one_ends : (k m n : ℕ) → min m n ≤ k → (m ≤ k) ⊎ (n ≤ k)
+one_ends k m n h = go (ltb k m) (ltb→lt k m) (nltb→le k m)
+  where
+    go : (b : Bool) → (T b → k < m) → (T (not b) → m ≤ k) → (m ≤ k) ⊎ (n ≤ k)
+    go true f g = let l : k < m = f tt in inr (omega arith)
+    go false f g = inl (g tt)
+
+-- the same of a test of both lengths
 pub both_below : (k m n : ℕ) → ltb k m && ltb k n ≡ true → (k < m) × (k < n)
 both_below k m n e =
     let t : T (ltb k m && ltb k n) = subst T (sym e) tt in

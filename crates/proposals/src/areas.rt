@@ -1,11 +1,12 @@
 // The makers over lent areas: numbers behind those in use play no part and stay; an area that is itself too short is not written
 // to. If any area is too short, refusal 1 before all else.
-ghost use Rattle.std.specs.Prelude.{◌≡◌, [], ◌∷◌, ◌≤◌, length};
+ghost use Rattle.std.specs.Prelude.{◌≡◌, [], ◌∷◌, ◌≤◌, length, IfOk};
 ghost use Rattle.model.specs.definitions.Area.{candidate_size, area_out};
 ghost use Rattle.model.specs.definitions.Models.{max_degree};
+ghost use Rattle.model.specs.definitions.Outcomes.{verdict_number};
 ghost use Rattle.proposals.specs.definitions.Areas.{value_count, round_size, quotient_size, outcome_size};
 ghost use Rattle.proposals.specs.definitions.Areas.{round_numbers, quotient_numbers, candidate_numbers};
-ghost use Rattle.proposals.specs.definitions.Areas.{ending_number, reciprocal_in, reciprocal_answer, make_reciprocal_answer};
+ghost use Rattle.proposals.specs.definitions.Areas.{reciprocal_in, reciprocal_answer, make_reciprocal_answer};
 ghost use Rattle.proposals.specs.definitions.Areas.{quotient_in, quotient_answer, make_quotient_answer};
 ghost use Rattle.proposals.specs.definitions.Areas.{units_in, units_answer, to_units_answer, area_values};
 ghost use Rattle.proposals.specs.definitions.Reciprocal.{reciprocal_of};
@@ -14,12 +15,10 @@ ghost use Rattle.proposals.specs.definitions.Units.{in_units_of};
 
 use crate::quotient::make_quotient;
 use crate::reciprocal::make_reciprocal;
-use crate::types::{
-    CandidateOutcome, Ending, QuotientOutcome, QuotientRecord, ReciprocalOutcome, Round,
-};
+use crate::types::{Quotient, QuotientRecord, Reciprocal, Round, zero_candidate};
 use crate::units::to_units;
-use model::area::{CANDIDATE_SIZE, MODEL_SIZE, copy, model_in};
-use model::types::{COEFFICIENTS, Candidate, Refusal, verdict_number};
+use model::area::{CANDIDATE_SIZE, MODEL_SIZE, model_in, store};
+use model::types::{COEFFICIENTS, Candidate, Refusal};
 
 // The coefficients of a round and its change.
 const ROUND_SIZE: usize = 34;
@@ -30,100 +29,74 @@ const QUOTIENT_SIZE: usize = 67;
 // Settled is 1, given up 0.
 const OUTCOME_SIZE: usize = 1;
 
-fn copy_values(from: &[f64], to: &mut [f64])
-    requires { length from.now ≡ length to.old }
-    ensures { to.new ≡ from.now }
-{
-    let mut k: usize = 0;
-    while k < from.len() {
-        to[k] = from[k];
-        k += 1;
-    }
-}
-
 // The values in an area, which may be longer.
 fn values_in(area: &[f64]) -> [f64; COEFFICIENTS]
     requires { value_count ≤ length area.now }
     ensures { result ≡ area_values area.now }
 {
     let mut values = [0.0f64; COEFFICIENTS];
-    copy_values(&area[..COEFFICIENTS], &mut values);
+    values.copy_from_slice(&area[..COEFFICIENTS]);
     values
 }
 
-// Stores a round: its coefficients, then its change.
-fn store_round(recorded: &mut [f64], round: Round)
-    ensures { recorded.new ≡ area_out round_size (round_numbers round) recorded.old }
+// The numbers of a round: its coefficients, then its change.
+fn round_numbers(round: Round) -> [f64; ROUND_SIZE]
+    ensures { result ≡ round_numbers round }
 {
-    if recorded.len() < ROUND_SIZE {
-        return;
-    }
-    let coefficients = round.coefficients;
-    copy_values(&coefficients, &mut recorded[..COEFFICIENTS]);
-    recorded[COEFFICIENTS] = round.change;
+    let mut numbers = [0.0; ROUND_SIZE];
+    numbers[..COEFFICIENTS].copy_from_slice(&round.coefficients);
+    numbers[COEFFICIENTS] = round.change;
+    numbers
 }
 
-// Stores the record of a quotient: f·w, then the round with w.
-fn store_quotient(recorded: &mut [f64], made: QuotientRecord)
-    ensures { recorded.new ≡ area_out quotient_size (quotient_numbers made) recorded.old }
+// The record of a quotient: f·w, then the round with w.
+fn quotient_numbers(made: QuotientRecord) -> [f64; QUOTIENT_SIZE]
+    ensures { result ≡ quotient_numbers made }
 {
-    if recorded.len() < QUOTIENT_SIZE {
-        return;
-    }
-    let quotient = made.quotient;
-    copy_values(&quotient, &mut recorded[..COEFFICIENTS]);
-    store_round(&mut recorded[COEFFICIENTS..], made.round);
+    let mut numbers = [0.0; QUOTIENT_SIZE];
+    numbers[..COEFFICIENTS].copy_from_slice(&made.quotient);
+    numbers[COEFFICIENTS..].copy_from_slice(&round_numbers(made.round));
+    numbers
 }
 
-// Stores a candidate.
-fn store_candidate(area: &mut [i32], c: Candidate)
+// The degree of a candidate, then its coefficients.
+fn candidate_numbers(c: Candidate) -> [i32; CANDIDATE_SIZE]
     requires { c.degree ≤ max_degree }
-    ensures { area.new ≡ area_out candidate_size (candidate_numbers c) area.old }
+    ensures { result ≡ candidate_numbers c }
 {
-    if area.len() < CANDIDATE_SIZE {
-        return;
-    }
-    let coefficients = c.coefficients;
-    copy(&coefficients, &mut area[1..CANDIDATE_SIZE]);
-    area[0] = c.degree as i32;
+    let mut numbers = [0; CANDIDATE_SIZE];
+    numbers[0] = c.degree as i32;
+    numbers[1..].copy_from_slice(&c.coefficients);
+    numbers
 }
 
-fn ending_number(ending: Ending) -> u32
-    ensures { result ≡ ending_number ending }
+// The number of a refusal, or 0.
+fn number<A: Copy>(made: &Result<A, Refusal>) -> u32
+    ensures { result ≡ verdict_number made.now }
 {
-    match ending {
-        Ending::Settled(_) => 1,
-        Ending::GivenUp(_) => 0,
+    match made {
+        Ok(_) => 0,
+        Err(refusal) => u32::from(*refusal),
     }
-}
-
-// Stores whether the rounds settled.
-fn store_ending(outcome: &mut [u32], ending: Ending)
-    ensures { outcome.new ≡ area_out outcome_size (ending_number ending ∷ []) outcome.old }
-{
-    if outcome.len() < OUTCOME_SIZE {
-        return;
-    }
-    outcome[0] = ending_number(ending);
 }
 
 // Stores what the maker of reciprocals answers, and gives the number of its verdict.
+// Kept: the areas as C lends them, here and below.
 fn answer_reciprocal(
-    made: ReciprocalOutcome,
+    made: Result<Reciprocal, Refusal>,
     recorded: &mut [f64],
     w: &mut [i32],
     outcome: &mut [u32],
 ) -> u32
-    requires { made.w.degree ≤ max_degree }
+    requires { IfOk made (λ m. m.w.degree ≤ max_degree) }
     ensures { reciprocal_answer result recorded.new w.new outcome.new
         ≡ reciprocal_in (reciprocal_of made) recorded.old w.old outcome.old }
 {
-    let verdict = made.verdict;
-    let ending = made.ending;
-    store_round(recorded, made.round);
-    store_candidate(w, made.w);
-    store_ending(outcome, ending);
-    verdict_number(verdict)
+    let values = made.unwrap_or(Reciprocal::zero());
+    store(recorded, round_numbers(values.round));
+    store(w, candidate_numbers(values.w));
+    store(outcome, [u32::from(values.ending); OUTCOME_SIZE]);
+    number(&made)
 }
 
 // A proposal for 1/g.
@@ -143,34 +116,28 @@ pub fn make_reciprocal_in(
     {
         answer_reciprocal(make_reciprocal(model_in(g)), recorded, w, outcome)
     } else {
-        answer_reciprocal(
-            ReciprocalOutcome::refused(Refusal::ShortArea),
-            recorded,
-            w,
-            outcome,
-        )
+        answer_reciprocal(Err(Refusal::ShortArea), recorded, w, outcome)
     }
 }
 
 // Stores what the maker of quotients answers, and gives the number of its verdict.
 fn answer_quotient(
-    made: QuotientOutcome,
+    made: Result<Quotient, Refusal>,
     recorded: &mut [f64],
     h: &mut [i32],
     w: &mut [i32],
     outcome: &mut [u32],
 ) -> u32
-    requires { (made.h.degree ≤ max_degree) × (made.w.degree ≤ max_degree) }
+    requires { IfOk made (λ m. (m.h.degree ≤ max_degree) × (m.w.degree ≤ max_degree)) }
     ensures { quotient_answer result recorded.new h.new w.new outcome.new
         ≡ quotient_in (quotient_of made) recorded.old h.old w.old outcome.old }
 {
-    let verdict = made.verdict;
-    let ending = made.ending;
-    store_quotient(recorded, made.recorded);
-    store_candidate(h, made.h);
-    store_candidate(w, made.w);
-    store_ending(outcome, ending);
-    verdict_number(verdict)
+    let values = made.unwrap_or(Quotient::zero());
+    store(recorded, quotient_numbers(values.recorded));
+    store(h, candidate_numbers(values.h));
+    store(w, candidate_numbers(values.w));
+    store(outcome, [u32::from(values.ending); OUTCOME_SIZE]);
+    number(&made)
 }
 
 // Proposals h for f/g and w for 1/g.
@@ -201,24 +168,17 @@ pub fn make_quotient_in(
             outcome,
         )
     } else {
-        answer_quotient(
-            QuotientOutcome::refused(Refusal::ShortArea),
-            recorded,
-            h,
-            w,
-            outcome,
-        )
+        answer_quotient(Err(Refusal::ShortArea), recorded, h, w, outcome)
     }
 }
 
 // Stores a list in units, and gives the number of its verdict.
-fn answer_units(list: CandidateOutcome, units: &mut [i32]) -> u32
-    requires { list.candidate.degree ≤ max_degree }
+fn answer_units(list: Result<Candidate, Refusal>, units: &mut [i32]) -> u32
+    requires { IfOk list (λ c. c.degree ≤ max_degree) }
     ensures { units_answer result units.new ≡ units_in (in_units_of list) units.old }
 {
-    let verdict = list.verdict;
-    store_candidate(units, list.candidate);
-    verdict_number(verdict)
+    store(units, candidate_numbers(list.unwrap_or(zero_candidate())));
+    number(&list)
 }
 
 // Values in units.
@@ -228,6 +188,6 @@ pub fn to_units_in(values: &[f64], units: &mut [i32]) -> u32
     if (COEFFICIENTS <= values.len()) & (CANDIDATE_SIZE <= units.len()) {
         answer_units(to_units(values_in(values)), units)
     } else {
-        answer_units(CandidateOutcome::refused(Refusal::ShortArea), units)
+        answer_units(Err(Refusal::ShortArea), units)
     }
 }

@@ -1,40 +1,25 @@
 // Rounds of w times (2 - g·w).
-ghost use Rattle.std.specs.Prelude.{◌≡◌, map};
-ghost use Rattle.std.specs.Float.{binary64};
-ghost use Rattle.std.specs.Float.Ieee.{sub};
+ghost use Rattle.std.specs.Prelude.{◌≡◌};
 ghost use Rattle.proposals.specs.definitions.Values.{nought};
 ghost use Rattle.proposals.specs.definitions.Rounds.{two_less, change_from, next_round, finite_round};
-ghost use Rattle.proposals.specs.definitions.Rounds.{max_rounds, rounds, round_of};
+ghost use Rattle.proposals.specs.definitions.Rounds.{max_rounds, rounds, round_of, found_finite};
 
 use crate::product::multiply;
-use crate::types::{Ending, Made, Round};
-use crate::values::{are_finite, difference, greater, is_finite};
-use model::types::COEFFICIENTS;
+use crate::types::{Ending, FiniteRounds, Round};
+use crate::values::{are_finite, difference, each, greater};
+use model::types::{COEFFICIENTS, Refusal};
 
 const ROUNDS: u32 = 12;
 
 // 2^-24, at or below which a change is settled.
 const SETTLED: f64 = 0.000000059604644775390625;
 
-// 0 - c_k at every place.
-fn negate(c: &mut [f64])
-    ensures { c.new ≡ map (sub binary64 nought) c.old }
-{
-    let mut k = 0;
-    while k < c.len() {
-        c[k] = 0.0 - c[k];
-        k += 1;
-    }
-}
-
 // 2 - c.
 fn two_less(c: [f64; COEFFICIENTS]) -> [f64; COEFFICIENTS]
     ensures { result ≡ two_less c }
 {
-    let first = c[0];
-    let mut d = c;
-    negate(&mut d);
-    d[0] = 2.0 - first;
+    let mut d = each(c, 0.0, |x| 0.0 - x);
+    d[0] = 2.0 - c[0];
     d
 }
 
@@ -43,10 +28,8 @@ fn largest_change(a: [f64; COEFFICIENTS], b: [f64; COEFFICIENTS]) -> f64
     ensures { result ≡ change_from nought a b }
 {
     let mut change = 0.0;
-    let mut k = 0;
-    while k < COEFFICIENTS {
-        change = greater(change, difference(a[k], b[k]));
-        k += 1;
+    for (x, y) in a.iter().zip(&b) {
+        change = greater(change, difference(*x, *y));
     }
     change
 }
@@ -67,40 +50,31 @@ fn is_finite_round(r: Round) -> bool
     ensures { result ≡ finite_round r }
 {
     let w = r.coefficients;
-    are_finite(w) & is_finite(r.change)
+    are_finite(w) & r.change.is_finite()
 }
 
 // At most 12 rounds from w on.
-pub(crate) fn run_rounds(g: [f64; COEFFICIENTS], w: [f64; COEFFICIENTS]) -> Made
-    ensures { result ≡ rounds max_rounds g (round_of w nought) }
+pub(crate) fn run_rounds(
+    g: [f64; COEFFICIENTS],
+    w: [f64; COEFFICIENTS],
+) -> Result<FiniteRounds, Refusal>
+    ensures { result ≡ found_finite (rounds max_rounds g (round_of w nought)) }
 {
-    let mut r = Round {
+    let mut round = Round {
         coefficients: w,
         change: 0.0,
     };
-    let mut n: u32 = 0;
-    while n < ROUNDS {
-        r = next_round(g, r);
-        let change = r.change;
-        if !is_finite_round(r) {
-            return Made {
-                finite: false,
-                ending: Ending::GivenUp(change),
-                round: r,
-            };
+    for _ in 0..ROUNDS {
+        round = next_round(g, round);
+        let change = round.change;
+        if !is_finite_round(round) {
+            return Err(Refusal::NotFinite);
         }
         if change <= SETTLED {
-            return Made {
-                finite: true,
-                ending: Ending::Settled(change),
-                round: r,
-            };
+            let ending = Ending::Settled(change);
+            return Ok(FiniteRounds { ending, round });
         }
-        n += 1;
     }
-    Made {
-        finite: true,
-        ending: Ending::GivenUp(r.change),
-        round: r,
-    }
+    let ending = Ending::GivenUp(round.change);
+    Ok(FiniteRounds { ending, round })
 }

@@ -1,11 +1,11 @@
-// What a round keeps, how the rounds end, and what the makers answer.
+// What a round keeps, how the rounds end, and what the makers make.
 ghost use Rattle.std.specs.Prelude.{◌≡◌};
-ghost use Rattle.model.specs.definitions.Outcomes.{refused, number_of};
-ghost use Rattle.proposals.specs.definitions.Reciprocal.{zero_round, refused_reciprocal, reciprocal_of};
-ghost use Rattle.proposals.specs.definitions.Quotient.{refused_quotient, quotient_of};
-ghost use Rattle.proposals.specs.definitions.Units.{zero_candidate as zero_candidate_of, in_units_of};
+ghost use Rattle.proposals.specs.definitions.Areas.{ending_number};
+ghost use Rattle.proposals.specs.definitions.Reciprocal.{zero_round, refused_reciprocal};
+ghost use Rattle.proposals.specs.definitions.Quotient.{refused_quotient};
+ghost use Rattle.proposals.specs.definitions.Units.{zero_candidate as zero_candidate_of};
 
-use model::types::{COEFFICIENTS, Candidate, Refusal, Verdict};
+use model::types::{COEFFICIENTS, Candidate};
 
 // The f64 coefficients and the largest change of a round.
 #[derive(Clone, Copy)]
@@ -14,32 +14,35 @@ pub struct Round {
     pub change: f64,
 }
 
-// How the rounds end, each with the last change.
+// How the rounds end, each with the last change. Kept: 01 names this form.
 #[derive(Clone, Copy)]
 pub enum Ending {
     Settled(f64),
     GivenUp(f64),
 }
 
-// The outcome beside the record; `finite` is false where refusal 15 is due.
+// Whether the rounds settled, for C.
+impl From<Ending> for u32 {
+    ghost from_gives = { λ ending n. n ≡ ending_number ending };
+
+    fn from(ending: Ending) -> u32 {
+        match ending {
+            Ending::Settled(_) => 1,
+            Ending::GivenUp(_) => 0,
+        }
+    }
+}
+
+// Rounds that were found finite: how they ended, and the last one.
 #[derive(Clone, Copy)]
-pub(crate) struct Made {
-    pub finite: bool,
+pub(crate) struct FiniteRounds {
     pub ending: Ending,
     pub round: Round,
 }
 
-// A list in units; a refused one is zero.
+// A proposal for 1/g: the outcome beside the record, and w in units.
 #[derive(Clone, Copy)]
-pub struct CandidateOutcome {
-    pub verdict: Verdict,
-    pub candidate: Candidate,
-}
-
-// A refused reciprocal is given up with change 0, and its lists are zero.
-#[derive(Clone, Copy)]
-pub struct ReciprocalOutcome {
-    pub verdict: Verdict,
+pub struct Reciprocal {
     pub ending: Ending,
     pub round: Round,
     pub w: Candidate,
@@ -52,17 +55,16 @@ pub struct QuotientRecord {
     pub round: Round,
 }
 
-// A refused quotient likewise.
+// Proposals for f/g and 1/g: the outcome beside the record, and both lists in units.
 #[derive(Clone, Copy)]
-pub struct QuotientOutcome {
-    pub verdict: Verdict,
+pub struct Quotient {
     pub ending: Ending,
     pub recorded: QuotientRecord,
     pub h: Candidate,
     pub w: Candidate,
 }
 
-pub(crate) fn zero_round() -> Round
+fn zero_round() -> Round
     ensures { result ≡ zero_round }
 {
     Round {
@@ -71,7 +73,8 @@ pub(crate) fn zero_round() -> Round
     }
 }
 
-fn zero_candidate() -> Candidate
+// What stands beside the refusal of a list.
+pub(crate) fn zero_candidate() -> Candidate
     ensures { result ≡ zero_candidate_of }
 {
     Candidate {
@@ -80,23 +83,12 @@ fn zero_candidate() -> Candidate
     }
 }
 
-impl CandidateOutcome {
-    pub fn refused(refusal: Refusal) -> CandidateOutcome
-        ensures { in_units_of result ≡ refused (number_of refusal) zero_candidate_of }
+impl Reciprocal {
+    // What stands beside a refusal: given up with change 0, and zero lists.
+    pub(crate) fn zero() -> Reciprocal
+        ensures { result ≡ refused_reciprocal }
     {
-        CandidateOutcome {
-            verdict: Verdict::Refused(refusal),
-            candidate: zero_candidate(),
-        }
-    }
-}
-
-impl ReciprocalOutcome {
-    pub fn refused(refusal: Refusal) -> ReciprocalOutcome
-        ensures { reciprocal_of result ≡ refused (number_of refusal) refused_reciprocal }
-    {
-        ReciprocalOutcome {
-            verdict: Verdict::Refused(refusal),
+        Reciprocal {
             ending: Ending::GivenUp(0.0),
             round: zero_round(),
             w: zero_candidate(),
@@ -104,12 +96,12 @@ impl ReciprocalOutcome {
     }
 }
 
-impl QuotientOutcome {
-    pub fn refused(refusal: Refusal) -> QuotientOutcome
-        ensures { quotient_of result ≡ refused (number_of refusal) refused_quotient }
+impl Quotient {
+    // What stands beside a refusal, likewise.
+    pub(crate) fn zero() -> Quotient
+        ensures { result ≡ refused_quotient }
     {
-        QuotientOutcome {
-            verdict: Verdict::Refused(refusal),
+        Quotient {
             ending: Ending::GivenUp(0.0),
             recorded: QuotientRecord {
                 quotient: [0.0; COEFFICIENTS],

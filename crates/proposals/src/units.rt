@@ -5,11 +5,10 @@ ghost use Rattle.proposals.specs.definitions.Values.{all_finite};
 ghost use Rattle.proposals.specs.definitions.Units.{signed as signed_of, in_units, in_units_of};
 ghost use Rattle.proposals.specs.definitions.InnerContracts.{limited_units};
 
-use crate::types::CandidateOutcome;
-use crate::values::are_finite;
+use crate::values::{are_finite, each};
 use integer::rounding::near;
 use model::measure::measure_candidate;
-use model::types::{COEFFICIENTS, Candidate, Model, Refusal, Verdict};
+use model::types::{COEFFICIENTS, Candidate, Model, Refusal};
 
 // 2^63 and 2^52: where the sign and the exponent of an f64 stand. 2^52 is also the leading digit, which the bits leave out.
 const SIGN: u64 = 9223372036854775808;
@@ -50,33 +49,23 @@ fn list_of(values: [f64; COEFFICIENTS]) -> [i32; COEFFICIENTS]
     requires { all_finite values ≡ true }
     ensures { result ≡ map limited_units values }
 {
-    let mut units = [0i32; COEFFICIENTS];
-    let mut k = 0;
-    while k < COEFFICIENTS {
-        units[k] = units_of(values[k]);
-        k += 1;
-    }
-    units
+    each(values, 0, units_of)
 }
 
 // A list of values in units.
-pub fn to_units(values: [f64; COEFFICIENTS]) -> CandidateOutcome
+pub fn to_units(values: [f64; COEFFICIENTS]) -> Result<Candidate, Refusal>
     ensures { in_units_of result ≡ in_units values }
 {
     if !are_finite(values) {
-        return CandidateOutcome::refused(Refusal::NotFinite);
+        return Err(Refusal::NotFinite);
     }
-    let coefficients = list_of(values);
     let candidate = Candidate {
         degree: Model::MAX_DEGREE,
-        coefficients,
+        coefficients: list_of(values),
     };
     let measured = measure_candidate(candidate);
     if Model::MAX_WEIGHT < measured.weight {
-        return CandidateOutcome::refused(Refusal::LargeProposal);
+        return Err(Refusal::LargeProposal);
     }
-    CandidateOutcome {
-        verdict: Verdict::Accepted,
-        candidate,
-    }
+    Ok(candidate)
 }

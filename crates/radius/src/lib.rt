@@ -2,4 +2,3 @@
 #![tactic(auto)]
 
 pub mod least_radius;
-pub mod types;

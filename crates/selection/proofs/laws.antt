@@ -3,5 +3,6 @@ pub mod SelectLaws
 pub mod SelectSound
 pub mod PartLaws
 pub mod Examples
+pub mod FormerProposal
 pub mod FormerSelection
 pub mod IntervalExamples

@@ -7,31 +7,24 @@ ghost use Rattle.selection.specs.definitions.Select.{make_selected, tighter, sel
 ghost use Rattle.selection.specs.definitions.Promise.{part_model, Tightest};
 
 use crate::proposal::test_proposal;
-use crate::types::{ProposalOutcome, Selection};
+use crate::types::Chosen;
 use model::area::CANDIDATE_SIZE;
-use model::types::{Model, Verdict, number_of};
+use model::types::{Model, Refusal};
 
 // The smaller radius of those that pass; equal radii favour the first.
-fn select(a: ProposalOutcome, b: ProposalOutcome) -> Selection
+#[tactic(auto, unfolding(crate::specs::definitions::Select::tighter))]
+fn select(a: Result<u32, Refusal>, b: Result<u32, Refusal>) -> Result<Chosen, Refusal>
     ensures { selection_of result ≡ tighter (proposal_of a) (proposal_of b) }
 {
-    let of_first = a.verdict;
-    let of_second = b.verdict;
-    match of_first {
-        Verdict::Accepted => match of_second {
-            Verdict::Accepted => {
-                if b.radius < a.radius {
-                    Selection::Second(b.radius)
-                } else {
-                    Selection::First(a.radius)
-                }
-            }
-            Verdict::Refused(_) => Selection::First(a.radius),
-        },
-        Verdict::Refused(refusal) => match of_second {
-            Verdict::Accepted => Selection::Second(b.radius),
-            Verdict::Refused(_) => Selection::Neither(refusal),
-        },
+    match (a, b) {
+        (Ok(a), Ok(b)) => Ok(if b < a {
+            Chosen::Second(b)
+        } else {
+            Chosen::First(a)
+        }),
+        (Ok(a), Err(_)) => Ok(Chosen::First(a)),
+        (Err(_), Ok(b)) => Ok(Chosen::Second(b)),
+        (Err(refusal), Err(_)) => Err(refusal),
     }
 }
 
@@ -59,25 +52,25 @@ pub fn quotient_of_two<'a>(
 {
     let a = test_proposal(f, g, first, scratch);
     let b = test_proposal(f, g, second, scratch);
-    let selection = select(a, b);
-    match selection {
-        Selection::First(e) => {
+    // Kept: lent numbers and no Result: S-14 names the form, and `IsPart` promises an empty part of the first on a refusal.
+    match select(a, b) {
+        Ok(Chosen::First(e)) => {
             *number = 0;
             *chosen = 1;
             *radius = e;
-            return &first[1..CANDIDATE_SIZE];
+            &first[1..CANDIDATE_SIZE]
         }
-        Selection::Second(e) => {
+        Ok(Chosen::Second(e)) => {
             *number = 0;
             *chosen = 2;
             *radius = e;
-            return &second[1..CANDIDATE_SIZE];
+            &second[1..CANDIDATE_SIZE]
         }
-        Selection::Neither(refusal) => {
-            *number = number_of(refusal);
+        Err(refusal) => {
+            *number = u32::from(refusal);
             *chosen = 0;
             *radius = 0;
-            return &first[..0];
+            &first[..0]
         }
     }
 }

@@ -1,17 +1,8 @@
-// What the test of a proposal answers, and what two of them select.
-use model::types::{Refusal, Verdict};
+// What two proposals select.
 
-// The verdict and the radius; on refusal the radius is 0.
-#[derive(Clone, Copy)]
-pub(crate) struct ProposalOutcome {
-    pub verdict: Verdict,
-    pub radius: u32,
-}
-
-// Which proposal is chosen, with its radius; where neither passes, the refusal of the first.
-#[derive(Clone, Copy)]
-pub(crate) enum Selection {
+// Which proposal is chosen, with its radius.
+#[derive(Clone, Copy, Debug, PartialEq, Eq)]
+pub(crate) enum Chosen {
     First(u32),
     Second(u32),
-    Neither(Refusal),
 }

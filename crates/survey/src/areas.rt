@@ -1,25 +1,14 @@
 // Areas of bytes.
-ghost use Rattle.std.specs.Prelude.{◌≡◌, length, set, replicate};
+ghost use Rattle.std.specs.Prelude.{◌≡◌, length, set};
 
+// The bytes of a slice of one length.
+// Kept: a loop, as the library asks C for memcpy and memset alone, and copy_from_slice asks for memmove here.
 pub(crate) fn copy(from: &[u8], to: &mut [u8])
     requires { length from.now ≡ length to.old }
     ensures { to.new ≡ from.now }
 {
-    let mut i: usize = 0;
-    while i < from.len() {
+    for i in 0..from.len() {
         to[i] = from[i];
-        i += 1;
-    }
-}
-
-// Every byte becomes zero.
-pub fn clear(area: &mut [u8])
-    ensures { area.new ≡ replicate (length area.old) 0 }
-{
-    let mut i: usize = 0;
-    while i < area.len() {
-        area[i] = 0;
-        i += 1;
     }
 }
 
@@ -29,6 +18,5 @@ pub(crate) fn put(area: &mut [u8], i: usize, b: u8)
 {
     if i < area.len() {
         area[i] = b;
-        return;
     }
 }

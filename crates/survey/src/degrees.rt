@@ -1,5 +1,5 @@
 // What a command's bytes tell of its result's degree, with the degrees of the results before it.
-ghost use Rattle.std.specs.Prelude.{◌≡◌, ◌+◌, min as least, max as greatest};
+ghost use Rattle.std.specs.Prelude.{◌≡◌, ◌+◌, min as least};
 ghost use Rattle.job.specs.definitions.Bytes.{byte_at};
 ghost use Rattle.job.specs.definitions.Decode.{kept_in, maker_at};
 ghost use Rattle.survey.specs.definitions.Degrees.{degree_at, block_degree, maker_degree};
@@ -14,16 +14,11 @@ const MAX_DEGREE: u8 = Model::MAX_DEGREE as u8;
 pub(crate) fn block_degree(b: u8) -> u8
     ensures { result ≡ block_degree b }
 {
-    if b < MAX_DEGREE { b } else { MAX_DEGREE }
-}
-
-fn larger(n: u8, m: u8) -> u8
-    ensures { result ≡ greatest n m }
-{
-    if n < m { m } else { n }
+    b.min(MAX_DEGREE)
 }
 
 // The kept degree that a byte stands for in an edition, between factors of two degrees.
+// Kept: the edition is its byte and no enum, as no clause here says that it is 1 or 2 (`edition_known` does).
 pub(crate) fn stands_for(edition: u8, d: u8, n: u8, m: u8) -> u8
     ensures { result ≡ kept_in edition d n m }
 {
@@ -31,7 +26,7 @@ pub(crate) fn stands_for(edition: u8, d: u8, n: u8, m: u8) -> u8
         return d;
     }
     if edition == 2 {
-        return larger(n, m);
+        return n.max(m);
     }
     MAX_DEGREE
 }
@@ -40,28 +35,36 @@ pub(crate) fn stands_for(edition: u8, d: u8, n: u8, m: u8) -> u8
 pub(crate) fn product_degree(kept: u8, n: u8, m: u8) -> u8
     ensures { result ≡ least kept (n + m) }
 {
-    let sum = n as u32 + m as u32;
-    if (kept as u32) < sum {
-        return kept;
+    kept.min(n.saturating_add(m))
+}
+
+// A command at its position in a job, with the degrees of the results before it.
+#[derive(Clone, Copy)]
+pub(crate) struct Place<'a> {
+    pub job: &'a [u8],
+    pub at: usize,
+    pub degrees: &'a [u8],
+}
+
+impl Place<'_> {
+    // The degree of the result that the command's operand byte i names, counted from 1.
+    pub(crate) fn named_degree(self, i: usize) -> u8
+        requires { NamesOne self.job.now (self.at + i) self.degrees.now }
+        ensures { result ≡ degree_at self.entry.degrees.now (byte_at self.entry.job.now (self.entry.at + i)) }
+    {
+        self.degrees[self.job[self.at + i] as usize]
     }
-    sum as u8
-}
 
-// The degree of the result that byte i of the job names.
-pub(crate) fn named_degree(job: &[u8], i: usize, degrees: &[u8]) -> u8
-    requires { NamesOne job.now i degrees.now }
-    ensures { result ≡ degree_at degrees.now (byte_at job.now i) }
-{
-    degrees[job[i] as usize]
-}
-
-// Of a sum and of a difference.
-pub(crate) fn sum_degree(job: &[u8], at: usize, degrees: &[u8]) -> u8
-    requires { NamesTwo job.now at degrees.now }
-    ensures value { result ≡ maker_degree (maker_at Operation.Add job.now at) degrees.now }
-    ensures value_2 { result ≡ maker_degree (maker_at Operation.Subtract job.now at) degrees.now }
-{
-    let first = named_degree(job, at + 1, degrees);
-    let second = named_degree(job, at + 2, degrees);
-    larger(first, second)
+    // Of a sum and of a difference.
+    #[tactic(auto, unfolding(crate::specs::definitions::Degrees::maker_degree, job::specs::definitions::Decode::maker_at))]
+    pub(crate) fn sum_degree(self) -> u8
+        requires { NamesTwo self.job.now self.at self.degrees.now }
+        ensures value { result ≡ maker_degree (maker_at Operation.Add self.entry.job.now self.entry.at) self.entry.degrees.now }
+        ensures value_2 { result
+            ≡ maker_degree (maker_at Operation.Subtract self.entry.job.now self.entry.at) self.entry.degrees.now }
+    {
+        let first = self.named_degree(1);
+        let second = self.named_degree(2);
+        first.max(second)
+    }
 }

@@ -2,26 +2,21 @@
 ghost use Rattle.std.specs.Prelude.{◌≡◌, ℕ, length, take};
 ghost use Rattle.job.specs.definitions.Outcomes.{accepted, job_outcome_of};
 ghost use Rattle.survey.specs.definitions.Editions.{ConvertedJob, edition_conversion, output_after};
-ghost use Rattle.survey.specs.definitions.InnerContracts.{short_output};
 
-use crate::areas::{clear, copy};
+use crate::areas::copy;
 use crate::walk::walk;
-use job::types::JobOutcome;
+use job::types::RefusedCommand;
 use model::types::Refusal;
 
-// Where the output is too short, a refusal of the reading comes first.
-fn refuse_short(read: JobOutcome) -> JobOutcome
-    ensures { job_outcome_of result ≡ short_output (job_outcome_of read) }
-{
-    match read {
-        JobOutcome::Accepted(_) => JobOutcome::Refused(Refusal::ShortOutput, 0),
-        JobOutcome::Refused(refusal, command) => JobOutcome::Refused(refusal, command),
-    }
-}
+// Refusal 20 goes with command 0.
+const SHORT_OUTPUT: RefusedCommand = RefusedCommand {
+    refusal: Refusal::ShortOutput,
+    command: 0,
+};
 
 // Converts a job that reads well to the other edition: it answers the length, and bytes of the output behind that stay. After a
 // refusal the whole output is zero. The last clause is what the converted job has to do with its source.
-pub fn convert_edition(job: &[u8], out: &mut [u8]) -> JobOutcome
+pub fn convert_edition(job: &[u8], out: &mut [u8]) -> Result<usize, RefusedCommand>
     ensures result_value { job_outcome_of result ≡ edition_conversion job.now (length out.old) }
     ensures out_after { out.new ≡ output_after job.now out.old }
     ensures by_index { (n : ℕ) → job_outcome_of result ≡ accepted n → ConvertedJob job.now (take n out.new) }
@@ -29,16 +24,14 @@ pub fn convert_edition(job: &[u8], out: &mut [u8]) -> JobOutcome
     let len = job.len();
     if out.len() < len {
         let read = walk(job, out);
-        clear(out);
-        return refuse_short(read);
+        out.fill(0);
+        read?;
+        return Err(SHORT_OUTPUT);
     }
     copy(job, &mut out[..len]);
-    let read = walk(job, &mut out[..len]);
-    match read {
-        JobOutcome::Accepted(_) => JobOutcome::Accepted(len),
-        JobOutcome::Refused(refusal, command) => {
-            clear(out);
-            JobOutcome::Refused(refusal, command)
-        }
+    if let Err(refused) = walk(job, &mut out[..len]) {
+        out.fill(0);
+        return Err(refused);
     }
+    Ok(len)
 }

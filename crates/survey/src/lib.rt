@@ -1,7 +1,7 @@
 // What a job's commands tell before any model is checked: the degrees of its results, and with them its other edition.
 #![tactic(auto)]
 
-pub mod areas;
+mod areas;
 mod degrees;
 pub mod editions;
 mod walk;

@@ -1,5 +1,5 @@
 -- 01, "Refused, and where": 5, m ≥ S, before 6, N > 2^28, in each of the three tests. Both hold of the first helper, only 6 of the second.
-use Rattle.std.specs.Prelude.{◌≡◌, refl, [], ◌∷◌, pos}
+use Rattle.std.specs.Prelude.{◌≡◌, refl, pos}
 use Rattle.std.proofs.Common.{ap, arith}
 use Rattle.integer.specs.definitions.Rounding.{upℕ}
 use Rattle.chebyshev.specs.definitions.Coefficients.{weight, add_lists, subtract_lists, scale_list, coefficient_sum}

@@ -1,5 +1,5 @@
 -- What the tests' contracts promise of a test that passes.
-use Rattle.std.specs.Prelude.{◌≡◌, [], map, ℕ, pos}
+use Rattle.std.specs.Prelude.{◌≡◌, [], map, ℕ, pos, Result, Ok, Err, IfOk}
 use Rattle.std.proofs.Common.{sym, ◌∙◌, ap, subst, inr}
 use Rattle.std.proofs.Math.Path.{subst⁻¹}
 use Rattle.fraction.specs.definitions.Fraction.{ℚ, whole, ◌+ℚ◌, ◌*ℚ◌, ◌/ℚ◌, ◌≤ℚ◌, ◌<ℚ◌}
@@ -10,25 +10,24 @@ use Rattle.integer.proofs.laws.FractionSolver.{reifyℚ, solveℚ}
 use Rattle.chebyshev.specs.definitions.Coefficients.{value}
 use Rattle.model.specs.definitions.Allowed.{position, Allows, OnInterval}
 use Rattle.model.specs.definitions.Outcomes.{Outcome, accepted}
-use Rattle.model.proofs.laws.OutcomeLaws.{accepted_judged}
 use Rattle.model.specs.declared.types.Candidate.{Candidate}
-use Rattle.model.specs.declared.types.Interval.{Interval}
 use Rattle.model.specs.declared.types.Model.{Model}
-use Rattle.model.specs.declared.types.Verdict.TheVariants.{Accepted}
-use Rattle.certificate.specs.definitions.Tests.{Certificate, test_of}
+use Rattle.model.specs.declared.types.Refusal.{Refusal}
+use Rattle.certificate.specs.definitions.Tests.{Certificate, certificate_of, test_of}
 use Rattle.certificate.specs.definitions.Quotient.{quotient_test}
 use Rattle.certificate.specs.definitions.Root.{root_test}
 use Rattle.certificate.specs.definitions.RootBounds.{RootBounds, of_units}
 use Rattle.certificate.specs.definitions.Promise.{QuotientAllowed, RootBox, centre, RootAllowed}
 use Rattle.certificate.specs.declared.types.RootRule.{RootRule}
-use Rattle.certificate.specs.declared.types.TestOutcome.{TestOutcome}
+use Rattle.certificate.specs.declared.types.Certificate.{Certificate as CodeCertificate}
 use Rattle.certificate.proofs.laws.QuotientSound.{quotient_nonzero, quotient_sound}
 use Rattle.certificate.proofs.laws.RootSound.{root_interval, root_coefficients, root_sound, root_overlap}
 
--- what holds of the result of every test that passes holds of the code's result where its verdict is an acceptance
-pub test_promised : (P : Model → Type 0) (t : TestOutcome) {o : Outcome Certificate} → test_of t ≡ o
-    → ((c : Certificate) → o ≡ accepted c → P c.model) → t.verdict ≡ Accepted → P t.model
-test_promised P t e claim a = claim _ (accepted_judged t.verdict _ e a)
+-- what holds of the result of every test that passes holds of the code's result where it has one
+pub test_promised : (P : Model → Type 0) (t : Result CodeCertificate Refusal) {o : Outcome Certificate} → test_of t ≡ o
+    → ((c : Certificate) → o ≡ accepted c → P c.model) → IfOk t (λ c. P c.model)
+test_promised P (Ok c) e claim = claim (certificate_of c) (sym e)
+test_promised P (Err r) e claim = tt
 
 pub quotient_allowed : (len : ℕ) (f g : Model) (h w : Candidate) {c : Certificate} → quotient_test len f g h w ≡ accepted c
     → QuotientAllowed f g c.model

@@ -1,14 +1,14 @@
 -- The quotient test in 01's whole numbers, with C( , ) formed by its two sums: for good models, good candidates and enough
 -- scratch, a candidate is accepted exactly where the test holds and the stated radius is within 2^28, with exactly that radius.
-use Rattle.std.specs.Prelude.{◌≡◌, ◌↔◌, true, ℕ, ◌^◌, ◌≤◌, ◌<◌}
+use Rattle.std.specs.Prelude.{◌≡◌, ◌↔◌, true, ℕ, ◌≤◌}
 use Rattle.std.proofs.Common.{sym, ◌∙◌, ap}
 use borrow.Author.Tests.{ltb-false, le-ltb}
 use Rattle.model.specs.definitions.Intervals.{same_interval}
-use Rattle.model.specs.definitions.Models.{scale, max_radius, good, make_model}
+use Rattle.model.specs.definitions.Models.{max_radius, good}
 use Rattle.model.specs.definitions.Outcomes.{accepted}
 use Rattle.model.specs.declared.types.Candidate.{Candidate}
 use Rattle.model.specs.declared.types.Model.{Model}
-use Rattle.certificate.specs.definitions.Tests.{scratch_size, displacement, Certificate, make_certificate, placed}
+use Rattle.certificate.specs.definitions.Tests.{scratch_size, displacement, Certificate, placed}
 use Rattle.certificate.specs.definitions.Quotient.{quotient_test, quotient_contraction, quotient_residual, quotient_model, quotient_certificate}
 use Rattle.certificate.specs.definitions.TwoSums.{quotient_m, quotient_N, quotient_b, quotient_radius, QuotientHolds, quotient_given}
 use Rattle.certificate.proofs.laws.TwoSumsLaws.{product_list-good}

@@ -10,11 +10,13 @@ use Rattle.model.specs.declared.types.Candidate.{Candidate}
 use Rattle.model.specs.declared.types.Model.{Model}
 use Rattle.certificate.specs.definitions.Root.{root_places, root_contraction, root_residual, root_test, root_needing}
 use Rattle.certificate.specs.declared.types.RootRule.{RootRule}
-use Rattle.certificate.specs.definitions.Tests.{displacement, zero_certificate, placed, refused_test}
-use Rattle.certificate.specs.definitions.InnerContracts.{RootLast, Reach, make_reach, zero_reach, root_reach, root_end}
+use Rattle.certificate.specs.definitions.Tests.{displacement, make_certificate, zero_certificate, placed, with_radius, refused_test}
+use Rattle.certificate.specs.definitions.InnerContracts.{RootLast as RootLastOf, Reach, make_reach, zero_reach, root_reach}
+use Rattle.certificate.specs.definitions.RootEnd.{RootLast, rule_outcome}
 use Rattle.certificate.proofs.laws.Stages.{displacement_bound}
 use Rattle.certificate.proofs.laws.RootConditions.{NumbersConditions, numbers_conditions}
 use Rattle.certificate.proofs.laws.RootRadius.{gap_bound}
+use Rattle.certificate.proofs.laws.RootEnd.{root_end, end_refused, end_passed}
 use Rattle.certificate.proofs.laws.Discriminant.{weight_positive}
 
 module _ (len : ℕ) (f : Model) (h w : Candidate) where
@@ -50,18 +52,37 @@ module _ (len : ℕ) (f : Model) (h w : Candidate) where
       }
 
   -- what the last places are given
-  pub root_last : (M m n b : ℕ) → RootReached M m n b → RootLast (placed f h) M m b
+  pub root_numbers_last : (M m n b : ℕ) → RootReached M m n b → RootLast M m b
   unfolding displacement
-  root_last M m n b r =
+  root_numbers_last M m n b r =
       let c = r.conditions in
       let of_w = good_is (placed f w) c.good_w in record {
-        good_h = c.good_h;
         positive = omega (arith, r.is_M, weight_positive w.coefficients c.helper);
         weight-fits = omega (arith, r.is_M, of_w);
         contracting = omega (arith, r.is_m, c.contraction);
         displaced = omega (arith, r.is_b, displacement_bound (weight w.coefficients) n of_w.weight-fits (omega (arith, r.is_n, c.residual)));
         square = rw (r.is_m, r.is_M) (gap_bound len f h w c);
       }
+
+  pub root_last : (M m n b : ℕ) → RootReached M m n b → RootLastOf (placed f h) M m b
+  root_last M m n b r =
+      let l = root_numbers_last M m n b r in
+      record {
+        good_h = r.conditions.good_h;
+        positive = l.positive;
+        weight-fits = l.weight-fits;
+        contracting = l.contracting;
+        displaced = l.displaced;
+        square = l.square;
+      }
+
+  -- the whole test, where the places through N are passed
+  module _ (rule : RootRule) {M m n b : ℕ} (r : RootReached M m n b) where
+    pub root_rule_refused : {k : ℕ} → rule_outcome rule M m b ≡ refused k 0 → root_test rule len f h w ≡ refused_test k
+    root_rule_refused e = r.last rule ∙ end_refused rule (placed f h) M m n b e
+
+    pub root_rule_passed : (e : ℕ) → rule_outcome rule M m b ≡ accepted e → root_test rule len f h w ≡ accepted (make_certificate (with_radius (placed f h) e) m n b)
+    root_rule_passed e same = r.last rule ∙ end_passed rule (placed f h) M m n b (root_numbers_last M m n b r) r.conditions.good_h e same
 
   pub root_refused_is : (rule : RootRule) (k : ℕ) → root_reach len f h w ≡ refused k zero_reach → root_test rule len f h w ≡ refused_test k
   unfolding root_reach root_needing root_places

@@ -1,6 +1,6 @@
 -- Whole tests by the least radius, of constants, beside 01's root test on the same candidates. The million steps of the
 -- definition's search are not computed: laws of radius give the least radius of the test's numbers.
-use Rattle.std.specs.Prelude.{◌≡◌, refl, [], ◌∷◌, ◌++◌, ℕ, pos, replicate}
+use Rattle.std.specs.Prelude.{◌≡◌, refl, [], ◌∷◌, ◌++◌, ℕ, pos, replicate, Option}
 use Rattle.std.proofs.Common.{ap}
 use Rattle.integer.specs.definitions.Rounding.{upℕ}
 use Rattle.chebyshev.specs.definitions.Coefficients.{weight, add_lists, subtract_lists, scale_list, coefficient_sum}
@@ -12,7 +12,6 @@ use Rattle.model.specs.definitions.Multiply.{product_list}
 use Rattle.radius.specs.definitions.LeastRadius.{is_missing, radius_of}
 use Rattle.radius.proofs.laws.SearchLaws.{no_displacement}
 use Rattle.radius.proofs.laws.Examples.{next_one, next_two, whole-scale, beyond-scale, missing_small, missing_large, wrapped}
-use Rattle.radius.specs.declared.types.FoundRadius.{FoundRadius}
 use Rattle.model.specs.declared.types.Candidate.{Candidate}
 use Rattle.model.specs.declared.types.Model.{Model}
 use Rattle.certificate.specs.definitions.Tests.{with_radius, Certificate, make_certificate, zero_certificate, displacement, placed}
@@ -21,7 +20,7 @@ use Rattle.certificate.specs.declared.types.RootRule.TheVariants.{ByDiscriminant
 use Rattle.certificate.proofs.laws.Examples.{candidate}
 
 -- the test where the search answers e
-abbrev pub answering : Model → Candidate → Candidate → FoundRadius → Outcome Certificate
+abbrev pub answering : Model → Candidate → Candidate → Option ℕ → Outcome Certificate
 answering f h w e =
     let r = with_radius (placed f h) (radius_of e) in
     let n = root_residual f (placed f h) in

@@ -1,6 +1,6 @@
 -- Document 02, S-22: command 0x22. "Once the sign of w, m and N have passed, it is refused exactly if no such r exists. Where both
 -- commands accept the same candidates, its radius is never the larger."
-use Rattle.std.specs.Prelude.{◌≡◌, refl, ◌↔◌, true, ℕ, ◌+◌, ◌*◌, ◌-◌, ◌≤◌, ◌<◌, pos}
+use Rattle.std.specs.Prelude.{◌≡◌, refl, ◌↔◌, true, ℕ, ◌+◌, ◌*◌, ◌-◌, ◌≤◌, ◌<◌, pos, Option, Some, None}
 use Rattle.std.proofs.Common.{sym, ◌∙◌, ap, subst, arith}
 use Rattle.std.proofs.Math.Decide.{dec_le}
 use Rattle.ring.proofs.laws.Order.{ℤ_ordered, pos-le, le-pos}
@@ -11,8 +11,6 @@ use Rattle.model.specs.definitions.Outcomes.{accepted}
 use Rattle.model.proofs.laws.PlaceLaws.{refused_not_accepted}
 use Rattle.radius.specs.definitions.LeastRadius.{least_radius, radius_of, IsLeast}
 use Rattle.radius.proofs.laws.LeastLaws.{least_found, least_is, least_missing}
-use Rattle.radius.specs.declared.types.FoundRadius.{FoundRadius}
-use Rattle.radius.specs.declared.types.FoundRadius.TheVariants.{Found, Missing}
 use Rattle.model.specs.declared.types.Candidate.{Candidate}
 use Rattle.model.specs.declared.types.Model.{Model}
 use Rattle.certificate.specs.definitions.Tests.{scratch_size, with_radius, Certificate, make_certificate, placed, refused_test}
@@ -22,7 +20,7 @@ use Rattle.certificate.specs.declared.types.RootRule.TheVariants.{ByDiscriminant
 use Rattle.certificate.proofs.laws.LeastAlgebra.{smaller_fits, discriminant_by}
 use Rattle.certificate.proofs.laws.RootConditions.{RootConditions, root_displacement, root_passes, root_result_lem}
 use Rattle.certificate.proofs.laws.RootRadius.{root_fits}
-use Rattle.certificate.proofs.laws.RootEnd.{root_end_missing}
+use Rattle.certificate.proofs.laws.RootEnd.{least_refused, end_refused}
 use Rattle.certificate.proofs.laws.RootStages.{root_behind}
 use Rattle.certificate.proofs.laws.RootTheorem.{numbers_hold, contraction_is, displacement_is, rule_accepted, rule_accepted_only}
 
@@ -113,7 +111,7 @@ module _ (len : ℕ) (f : Model) (h w : Candidate) (enough : scratch_size ≤ le
 
   -- where the sign of w, m and N have passed
   module _ (numbers : RootNumbersHold f h' w') where
-    abbrev least : FoundRadius
+    abbrev least : Option ℕ
     least = least_radius M (root_m h' w') (root_b f h' w')
 
     -- no such r exists
@@ -124,14 +122,14 @@ module _ (len : ℕ) (f : Model) (h w : Candidate) (enough : scratch_size ≤ le
     pub tight_none : none → root_test ByLeastRadius len f h w ≡ refused_test 17
     tight_none n =
         root_behind len f h w ByLeastRadius ((numbers_hold len f h w enough gf gh gw).1 numbers)
-        ∙ root_end_missing h' M (root_contraction h' w') (root_residual f h') (root_displacement f h w)
-        (rw (contraction_is h' w' gh gw, displacement_is len f h w enough gf gh gw) ((least_missing M (root_m h' w') (root_b f h' w')).1 n))
+        ∙ end_refused ByLeastRadius h' M (root_contraction h' w') (root_residual f h') (root_displacement f h w)
+        (least_refused M (root_contraction h' w') (root_displacement f h w) (rw (contraction_is h' w' gh gw, displacement_is len f h w enough gf gh gw) ((least_missing M (root_m h' w') (root_b f h' w')).1 n)))
 
     -- "it is refused exactly if no such r exists"
     pub tight_refused : ((k : ℕ) × (root_test ByLeastRadius len f h w ≡ refused_test k)) ↔ none
     tight_refused = (λ e. pick least refl e.0 e.1, λ n. (17, tight_none n))
       where
-        pick : (e : FoundRadius) → least ≡ e → (k : ℕ) → root_test ByLeastRadius len f h w ≡ refused_test k → none
-        pick Missing e k refused = (least_missing M (root_m h' w') (root_b f h' w')).0 e
-        pick (Found r) e k refused =
+        pick : (e : Option ℕ) → least ≡ e → (k : ℕ) → root_test ByLeastRadius len f h w ≡ refused_test k → none
+        pick None e k refused = (least_missing M (root_m h' w') (root_b f h' w')).0 e
+        pick (Some r) e k refused =
             absurd (refused_not_accepted (sym refused ∙ tight_accepted r (numbers, least_found M (root_m h' w') (root_b f h' w') r e)))

@@ -1,5 +1,5 @@
 -- What inner functions ask of their callers and answer to them. The contracts of the entries do not speak of this.
-use Rattle.std.specs.Prelude.{◌≡◌, Bool, true, List, [], ◌∷◌, ℕ, suc, ◌+◌, ◌*◌, ◌-◌, ◌^◌, ◌≤◌, ◌<◌, ℤ, pos, length}
+use Rattle.std.specs.Prelude.{◌≡◌, true, List, [], ◌∷◌, ℕ, suc, ◌+◌, ◌*◌, ◌-◌, ◌^◌, ◌≤◌, ◌<◌, ℤ, pos, length, Result, Ok, Err}
 use Rattle.ring.specs.definitions.Integer.{ℤ_ring}
 use Rattle.chebyshev.specs.definitions.Coefficients.{weight, subtract_lists, scale_list}
 use Rattle.model.specs.definitions.Intervals.{standard_interval, same_interval}
@@ -8,13 +8,12 @@ use Rattle.model.specs.definitions.Models.{good, candidate_model, large_place}
 use Rattle.model.specs.definitions.Outcomes.{Outcome, accepted, refused, outcome, number_of}
 use Rattle.model.specs.declared.types.Model.{Model}
 use Rattle.model.specs.declared.types.Candidate.{Candidate}
+use Rattle.model.specs.declared.types.Refusal.{Refusal}
 use Rattle.certificate.specs.definitions.Tests.{Certificate, make_certificate, zero_certificate}
 use Rattle.certificate.specs.definitions.Tests.{placed, with_radius, displacement}
 use Rattle.certificate.specs.definitions.Groups.{group}
-use Rattle.certificate.specs.definitions.Root.{root_places, root_last_places, root_model, root_contraction, root_residual}
-use Rattle.certificate.specs.declared.types.RootRule.{RootRule}
-use Rattle.certificate.specs.declared.types.RootNumbers.{RootNumbers}
-use Rattle.certificate.specs.declared.types.RootNumbers.TheVariants.{Refused, Reached}
+use Rattle.certificate.specs.definitions.Root.{root_places, root_contraction, root_residual}
+use Rattle.certificate.specs.declared.root_end.RootNumbers.{RootNumbers}
 
 -- ---- what is asked
 
@@ -77,20 +76,14 @@ group_residual n start c f = weight (residual_list (group n start c) (group n st
 
 -- ---- the answer of a test by its parts
 
-abbrev pub tested : List (Bool × ℕ) → Model → ℕ → ℕ → ℕ → Outcome Certificate
-tested ps r m n b = outcome ps (make_certificate r m n b) zero_certificate
-
 -- passed
 abbrev pub passed_test : Model → ℕ → ℕ → ℕ → Outcome Certificate
 passed_test r m n b = accepted (make_certificate r m n b)
 
 -- of a test that passes unless h with radius e is too large
 abbrev pub formed_test : Model → ℕ → ℕ → ℕ → ℕ → Outcome Certificate
-formed_test h e m n b = tested (large_place (with_radius h e) ∷ []) (with_radius h e) m n b
-
--- of a root test after N and b, where M is the weight of w
-abbrev pub root_end : RootRule → Model → ℕ → ℕ → ℕ → ℕ → Outcome Certificate
-root_end rule h M m n b = tested (root_last_places rule h M m b) (root_model rule h M m b) m n b
+formed_test h e m n b =
+    let r = with_radius h e in outcome (large_place r ∷ []) (make_certificate r m n b) zero_certificate
 
 -- ---- a root test up to N and b: refused with a number, or M, m, N and b
 
@@ -106,9 +99,9 @@ make_reach k m n b = record { M = k; m = m; N = n; b = b }
 abbrev pub zero_reach : Reach
 zero_reach = make_reach 0 0 0 0
 
-abbrev pub reach_of : RootNumbers → Outcome Reach
-reach_of (Refused v) = refused (number_of v) zero_reach
-reach_of (Reached k m n b) = accepted (make_reach k m n b)
+abbrev pub reach_of : Result RootNumbers Refusal → Outcome Reach
+reach_of (Ok n) = accepted (make_reach n.weight n.contraction n.residual n.displacement)
+reach_of (Err r) = refused (number_of r) zero_reach
 
 unfoldable pub root_reach : ℕ → Model → Candidate → Candidate → Outcome Reach
 root_reach len f h w =

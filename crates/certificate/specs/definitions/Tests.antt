@@ -1,13 +1,14 @@
 -- Document 01, "The two tests", in its whole numbers: what the tests share. "Candidates are h (the answer) and w (a helper); M
 -- and H are the weights of w and h."
-use Rattle.std.specs.Prelude.{Bool, cond, List, [], ◌∷◌, ◌++◌, ℕ, ◌*◌, leb, ltb, ℤ, pos, replicate, drop, length}
+use Rattle.std.specs.Prelude.{Bool, cond, List, [], ◌∷◌, ◌++◌, ℕ, ◌*◌, leb, ltb, ℤ, pos, replicate, drop, length, Result, Ok, Err}
 use Rattle.integer.specs.definitions.Rounding.{upℕ}
 use Rattle.chebyshev.specs.definitions.Coefficients.{weight}
 use Rattle.model.specs.definitions.Models.{scale, max_radius, make_model, zero_model, candidate_model}
-use Rattle.model.specs.definitions.Outcomes.{Outcome, refused, judged}
+use Rattle.model.specs.definitions.Outcomes.{Outcome, accepted, refused, number_of}
 use Rattle.model.specs.declared.types.Candidate.{Candidate}
 use Rattle.model.specs.declared.types.Model.{Model}
-use Rattle.certificate.specs.declared.types.TestOutcome.{TestOutcome}
+use Rattle.model.specs.declared.types.Refusal.{Refusal}
+use Rattle.certificate.specs.declared.types.Certificate.{Certificate as CodeCertificate}
 
 -- ---- the scratch
 
@@ -60,9 +61,13 @@ zero_certificate = make_certificate zero_model 0 0 0
 abbrev pub refused_test : ℕ → Outcome Certificate
 refused_test k = refused k zero_certificate
 
--- what the code's answer means
-abbrev pub test_of : TestOutcome → Outcome Certificate
-test_of r = judged r.verdict (make_certificate r.model r.contraction r.residual r.displacement)
+-- what the code's answers mean
+abbrev pub certificate_of : CodeCertificate → Certificate
+certificate_of c = make_certificate c.model c.contraction c.residual c.displacement
+
+abbrev pub test_of : Result CodeCertificate Refusal → Outcome Certificate
+test_of (Ok c) = accepted (certificate_of c)
+test_of (Err r) = refused_test (number_of r)
 
 -- "tests: 5, m ≥ S" and "6, N > 2^28"
 abbrev pub test_places : ℕ → ℕ → List (Bool × ℕ)

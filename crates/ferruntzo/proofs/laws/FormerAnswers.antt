@@ -3,11 +3,13 @@
 -- its ends.
 use Rattle.std.specs.Prelude.{◌≡◌, refl, cond, ◌&&◌, List, [], ◌∷◌, ◌++◌, ℕ, ◌≤◌, ℤ, pos, neg_ℤ, length, get_or, drop, Float}
 use Rattle.std.proofs.Common.{sym, ◌∙◌, ap, append_assoc, arith, le-leb}
+use Rattle.model.specs.definitions.Add.{addition, subtraction}
 use Rattle.model.specs.definitions.Area.{model_size, candidate_size, words, area_model, area_candidate, fits, area_out}
 use Rattle.model.specs.definitions.Evaluate.{evaluation}
 use Rattle.model.specs.definitions.Integrate.{integration}
 use Rattle.model.specs.definitions.Intervals.{standard_interval}
 use Rattle.model.specs.definitions.Models.{scale}
+use Rattle.model.specs.definitions.Multiply.{multiplication}
 use Rattle.model.specs.definitions.Outcomes.{Outcome, refused}
 use Rattle.model.proofs.laws.FormerNumbers.{former_kept, former_addition, former_subtraction, former_multiplication, former_integration, former_evaluation, addition_former, subtraction_former, multiplication_former, integration_former, evaluation_former, former_words, words_ends, former_area_model, area_former}
 use Rattle.model.specs.declared.types.Model.{Model}
@@ -29,10 +31,8 @@ use Rattle.ferruntzo.specs.definitions.Areas.{bounds_size, numbers_size, selecti
 use Rattle.ferruntzo.specs.definitions.Certificates.{short_test, quotient_call, root_call}
 use Rattle.ferruntzo.specs.definitions.Conversions.{series_size, area_series}
 use Rattle.ferruntzo.specs.definitions.Jobs.{answer_size, job_answer, check_answer}
-use Rattle.ferruntzo.specs.definitions.Operations.{short_outcome, short_bounds, operation_for}
+use Rattle.ferruntzo.specs.definitions.Operations.{short_outcome, short_bounds}
 use Rattle.ferruntzo.specs.definitions.Selections.{short_selection, selection_call}
-use Rattle.ferruntzo.specs.declared.operations.Operation.{Operation}
-use Rattle.ferruntzo.specs.declared.operations.Operation.TheVariants.{Add, Subtract, Multiply}
 
 -- an area with a model on −S..S
 pub record StandardArea (s : List ℤ) : Type 0 where
@@ -57,6 +57,17 @@ out_former m out long =
 -- "lent areas: 1, too short" asked 35 numbers for a model
 fits_former : (s : List ℤ) → model_size ≤ length s → fits model_size s ≡ fits 35 s
 fits_former s long = le-leb model_size (length s) long ∙ sym (le-leb 35 (length s) (omega arith))
+
+-- the exported operations on two models, and multiply's kept degree
+pub data Operation : Type 0 where
+  Add : Operation
+  Subtract : Operation
+  Multiply : ℕ → Operation
+
+abbrev pub operation_for : Operation → Model → Model → Outcome Model
+operation_for Add a b = addition a b
+operation_for Subtract a b = subtraction a b
+operation_for (Multiply kept) a b = multiplication kept a b
 
 abbrev pub former_for : Operation → Model → Model → Outcome Model
 former_for Add a b = former_addition a b

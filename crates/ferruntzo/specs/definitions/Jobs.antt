@@ -1,5 +1,5 @@
 -- What the exported checks of a job, with and without a report, and its exported conversion answer and leave in their areas.
-use Rattle.std.specs.Prelude.{Bool, cond, List, [], ◌∷◌, ℕ, ◌^◌, ◌≤◌, ◌<◌, eqb, ℤ, length, get_or, replicate}
+use Rattle.std.specs.Prelude.{Bool, cond, List, [], ◌∷◌, ℕ, ◌^◌, ◌<◌, eqb, ℤ, length, get_or, replicate}
 use Rattle.model.specs.definitions.Area.{fits, area_out}
 use Rattle.job.specs.definitions.Outcomes.{JobOutcome, accepted, refused, counted, refusal_number, refused_command, result_count}
 use Rattle.survey.specs.definitions.Editions.{edition_conversion, output_after}
@@ -15,8 +15,7 @@ abbrev pub answer_numbers : JobOutcome ℕ → List ℕ
 answer_numbers o = result_count o ∷ refused_command o ∷ []
 
 -- they are written where they fit
-pub record Answerable (o : JobOutcome ℕ) (answer : List ℕ) : Type 0 where
-  pub long : answer_size ≤ length answer
+pub record Answerable (o : JobOutcome ℕ) : Type 0 where
   pub count_fits : result_count o < 2 ^ 32
   pub command-fits : refused_command o < 2 ^ 32
 

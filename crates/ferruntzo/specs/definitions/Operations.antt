@@ -1,16 +1,14 @@
 -- What an exported operation answers and leaves in its areas. Every function takes areas of every length: one that is too short
 -- for its numbers is refusal 1, before all else. What an area holds afterwards depends on its own length alone.
-use Rattle.std.specs.Prelude.{cond, ◌&&◌, List, [], ◌∷◌, ℕ, ℤ}
+use Rattle.std.specs.Prelude.{◌≡◌, Result, cond, ◌&&◌, List, [], ◌∷◌, ℕ, ℤ}
 use Rattle.model.specs.definitions.Area.{model_size, words, area_model, fits, area_out}
-use Rattle.model.specs.definitions.Evaluate.{Bounds, zero_bounds, evaluation}
+use Rattle.model.specs.definitions.Evaluate.{zero_bounds, evaluation}
+use Rattle.model.specs.declared.types.Bounds.{Bounds}
 use Rattle.model.specs.definitions.Models.{zero_model}
-use Rattle.model.specs.definitions.Outcomes.{Outcome, refused, number, payload}
-use Rattle.model.specs.definitions.Add.{addition, subtraction}
-use Rattle.model.specs.definitions.Multiply.{multiplication}
+use Rattle.model.specs.definitions.Outcomes.{Outcome, refused, number, payload, outcome_of}
 use Rattle.model.specs.declared.types.Model.{Model}
+use Rattle.model.specs.declared.types.Refusal.{Refusal}
 use Rattle.ferruntzo.specs.definitions.Areas.{bounds_size}
-use Rattle.ferruntzo.specs.declared.operations.Operation.{Operation}
-use Rattle.ferruntzo.specs.declared.operations.Operation.TheVariants.{Add, Subtract, Multiply}
 
 -- ---- refusal 1, whichever area is too short
 
@@ -47,11 +45,9 @@ binary_answer f a b out =
 abbrev pub unary_answer : (Model → Outcome Model) → List ℤ → List ℤ → OperationAnswer
 unary_answer f a out = outcome_in (cond (fits model_size a && fits model_size out) (f (area_model a)) short_outcome) out
 
--- the operations on two models
-abbrev pub operation_for : Operation → Model → Model → Outcome Model
-operation_for Add a b = addition a b
-operation_for Subtract a b = subtraction a b
-operation_for (Multiply kept) a b = multiplication kept a b
+-- what a call can return by `post` is what f gives
+abbrev pub Computes : (Model → Model → Result Model Refusal → Type 0) → (Model → Model → Outcome Model) → Type 0
+Computes post f = (a b : Model) (r : Result Model Refusal) → post a b r → outcome_of r ≡ f a b
 
 -- ---- evaluate
 

@@ -1,9 +1,9 @@
 -- From plain facts about whole numbers to what signed code asks: that a number fits a width, and what division leaves.
 -- In a code proof every signed operand shows as `to_z w (of_z w z)`; `to_z-of_z` with `SFits w z` reads it back.
 use Rattle.std.specs.Prelude.{◌≡◌, refl, Bool, true, false, ◌&&◌, ℕ, suc, ◌-◌, ◌*◌, ◌/◌, ◌%◌, ◌≤◌, ◌<◌, ◌^◌, T, ℤ, pos, negsuc, neg_ℤ, ◌+ℤ◌, ◌*ℤ◌, nat_abs, ◌<ℤ◌, ◌≤ℤ◌}
-use Rattle.std.proofs.Common.{sym, ◌∙◌, ap, subst, zero-le, arith, div-le_self, mod-lt, lt_of_lt_of_le, lit≤, pow_pos, rules}
+use Rattle.std.proofs.Common.{sym, ◌∙◌, ap, subst, zero-le, arith, div-le_self, mod-lt, lt_of_lt_of_le, lit≤, pow_pos}
 use Rattle.std.proofs.Math.Nat.{div-add-mod}
-use Rattle.std.specs.Int.Signed.{mag, non_neg, quot_z, rem_z, le_z, lt_z, le_z_yes, lt_z_yes}
+use Rattle.std.specs.Int.Signed.{quot_z, rem_z, le_z, lt_z, le_z_yes, lt_z_yes, mag, non_neg}
 use Rattle.std.specs.Int.Bits.{bit_and}
 use Rattle.std.proofs.lemmas.Nat.{and_mask}
 use Rattle.std.specs.Int.{Width, w32, w64}
@@ -34,15 +34,12 @@ pub non_neg_lem : (z : ℤ) → z ⁻ ≡ 0 → T (non_neg z)
 non_neg_lem (pos a) h = tt
 non_neg_lem (negsuc a) h = absurd (omega arith)
 
--- a number that 32 bits hold, 64 bits hold: the first takes what a read of an element hands over (`.given`), the second
--- a parameter's `.fits`; both for `search`
+-- a number that 32 bits hold, 64 bits hold: the first of its size, the second of the range
 pub read_widens : {z : ℤ} → mag z < 2 ^ 31 → SFits w64 z
 read_widens {z} h = record { sfits = lt_of_lt_of_le h (lit≤ tt) }
 
 pub fits_widens : {z : ℤ} → SFits w32 z → SFits w64 z
-fits_widens {z} h = read_widens h.sfits
-
-pub ruleset signed_needs = (read_widens, fits_widens, rules)
+fits_widens {z} h = record { sfits = lt_of_lt_of_le h.sfits (lit≤ tt) }
 
 -- ---- the machine's tests of order, as the order
 

@@ -1,5 +1,5 @@
 -- 02, S-27, in a job: what the kept degree of a multiply command stands for, and the edition check.
-use Rattle.std.specs.Prelude.{◌≡◌, refl, Bool, true, false, cond, List, [], ◌∷◌, ℕ, suc, ◌+◌, max, eqb, length}
+use Rattle.std.specs.Prelude.{◌≡◌, refl, Bool, true, false, cond, List, [], ◌∷◌, ℕ, ◌+◌, max, eqb, length}
 use Rattle.std.proofs.Common.{sym, ap, ◌∙◌, add-one, arith, ne_eqb, eqb-true, le-ltb}
 use Rattle.std.proofs.lemmas.Bool.{lt-leb}
 use Rattle.model.specs.definitions.Models.{max_degree}

@@ -1,6 +1,6 @@
 -- Closed examples of the format, computed from the definitions: the shortest jobs with their answers, for each refusal that a job
 -- can meet.
-use Rattle.std.specs.Prelude.{◌≡◌, refl, List, [], ◌∷◌, ◌++◌, map, ℕ, ◌-◌, length}
+use Rattle.std.specs.Prelude.{◌≡◌, refl, List, [], ◌∷◌, ◌++◌, map, ℕ, ◌-◌, length, Option}
 use Rattle.std.proofs.Common.{ap, arith}
 use Rattle.integer.specs.definitions.Rounding.{upℕ, near, floor}
 use Rattle.chebyshev.specs.definitions.Coefficients.{weight, add_lists, subtract_lists, scale_list, coefficient_sum}
@@ -13,7 +13,6 @@ use Rattle.model.specs.definitions.Multiply.{product_model, product_list, produc
 use Rattle.certificate.specs.definitions.Root.{root_places, root_places_for, root_contraction, root_residual, root_model}
 use Rattle.radius.specs.definitions.LeastRadius.{is_missing, radius_of}
 use Rattle.radius.proofs.laws.SearchLaws.{scale_missing}
-use Rattle.radius.specs.declared.types.FoundRadius.{FoundRadius}
 use Rattle.certificate.specs.definitions.Quotient.{quotient_contraction, quotient_residual, quotient_model}
 use Rattle.certificate.specs.definitions.Tests.{with_radius, make_certificate, zero_certificate, displacement}
 use Rattle.model.specs.definitions.Round.{rounded, rounding_loss}
@@ -96,7 +95,7 @@ abbrev pub without_radius : List ℕ
 without_radius = job (one ++ ((0x22 ∷ 0 ∷ block 0 (2097152 ∷ [])) ++ block 0 (262144 ∷ [])))
 
 -- the job where the search answers e, from its last command but one on
-abbrev answering : FoundRadius → JobOutcome ℕ
+abbrev answering : Option ℕ → JobOutcome ℕ
 answering e =
     let f = model_by 0 (1048576 ∷ []) 0 in
     let h = model_by 0 (2097152 ∷ []) 0 in

@@ -1,12 +1,14 @@
 -- What inner functions ask of their callers and answer to them: one command of the code, what it answers, and what the work area
 -- holds before and after. The contract of the entry does not speak of this.
 use Rattle.std.specs.Prelude.{◌≡◌, false, ◌&&◌, ◌||◌, List, [], ◌∷◌, ◌++◌, ℕ, ◌+◌, ◌*◌, ◌≤◌, ◌<◌, leb, ℤ, length, take, drop}
+use Rattle.std.specs.Prelude.{Result as CodeResult, Ok, Err, Option, Some, None}
 use Rattle.integer.specs.definitions.Lists.{zeros}
 use Rattle.model.specs.definitions.Models.{coefficient_count, max_degree}
 use Rattle.model.specs.definitions.Outcomes.{Outcome, accepted, refused, payload, number_of, passing}
 use Rattle.model.specs.definitions.Area.{Storable}
 use Rattle.certificate.specs.definitions.Tests.{scratch_size, scratch_after, Certificate}
 use Rattle.model.specs.declared.types.Model.{Model}
+use Rattle.model.specs.declared.types.Refusal.{Refusal}
 use Rattle.job.specs.definitions.Bytes.{byte_at}
 use Rattle.job.specs.definitions.Operations.{Maker, untested, names_bad, operation}
 use Rattle.job.specs.definitions.Reading.{max_results, bad_names, makes_result, reading_places, command_read}
@@ -16,8 +18,7 @@ use Rattle.job.specs.definitions.Step.{Step, more, over}
 use Rattle.job.specs.definitions.Work.{work_size, work_with}
 use Rattle.job.specs.definitions.Reports.{record_size, record_bytes, zero_bytes, room_size}
 use Rattle.job.specs.declared.types.Report.{Report}
-use Rattle.job.specs.declared.types.Step.{Step as CodeStep}
-use Rattle.job.specs.declared.types.Step.TheVariants.{More, Over, Refused}
+use Rattle.job.specs.declared.types.Progress.{Progress}
 use Rattle.job.specs.declared.types.Kind.{Kind}
 use Rattle.job.specs.declared.types.Operation.{Operation}
 
@@ -32,11 +33,15 @@ pub record Holds (w : List ℤ) (count : ℕ) (rs : List Model) (t : List ℤ) :
   pub count_is : count ≡ length rs
   pub sized : Sized rs
 
--- the code's step, with the count of the results
+-- the code's step: the progress after a command, none at the end of the job, or a refusal
+abbrev pub CodeStep : Type 0
+CodeStep = CodeResult (Option Progress) Refusal
+
+-- its meaning, with the count of the results
 abbrev pub step_of : CodeStep → Step ℕ
-step_of (More count next) = more count next
-step_of Over = over
-step_of (Refused v) = Step.refused (number_of v)
+step_of (Ok (Some p)) = more p.results p.next
+step_of (Ok None) = over
+step_of (Err v) = Step.refused (number_of v)
 
 -- with the count of the results in their place
 abbrev pub counted_step : Step (List Model) → Step ℕ

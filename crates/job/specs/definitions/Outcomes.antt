@@ -1,9 +1,8 @@
 -- What the check of a job answers: "The answer is the count, or the refusal with its command, counted from 0".
-use Rattle.std.specs.Prelude.{List, ℕ, length}
+use Rattle.std.specs.Prelude.{List, ℕ, length, Result, Ok, Err}
 use Rattle.model.specs.definitions.Outcomes.{number_of}
 use Rattle.model.specs.declared.types.Model.{Model}
-use Rattle.job.specs.declared.types.JobOutcome.{JobOutcome as CodeOutcome}
-use Rattle.job.specs.declared.types.JobOutcome.TheVariants.{Accepted, Refused}
+use Rattle.job.specs.declared.types.RefusedCommand.{RefusedCommand}
 
 -- accepted with results or their count, or refused with a number and a command
 pub data JobOutcome (A : Type 0) : Type 0 where
@@ -11,9 +10,9 @@ pub data JobOutcome (A : Type 0) : Type 0 where
   refused : ℕ → ℕ → JobOutcome A
 
 -- the code's answer
-abbrev pub job_outcome_of : CodeOutcome → JobOutcome ℕ
-job_outcome_of (Accepted count) = accepted count
-job_outcome_of (Refused v k) = refused (number_of v) k
+abbrev pub job_outcome_of : Result ℕ RefusedCommand → JobOutcome ℕ
+job_outcome_of (Ok count) = accepted count
+job_outcome_of (Err r) = refused (number_of r.refusal) r.command
 
 -- with the count of the results in their place
 abbrev pub counted : JobOutcome (List Model) → JobOutcome ℕ

@@ -1,7 +1,9 @@
 -- Document 01, "Jobs": reading one command, on the bytes, the position and the count of results alone.
 use Rattle.std.specs.Prelude.{Bool, true, false, not, ◌&&◌, ◌||◌, List, [], ◌∷◌, ℕ, ◌+◌, leb, ltb, eqb, length}
+use Rattle.std.specs.Prelude.{Result as CodeResult, Ok, Err}
 use Rattle.model.specs.definitions.Multiply.{bad_kept}
 use Rattle.model.specs.definitions.Outcomes.{passing, number_of}
+use Rattle.model.specs.declared.types.Refusal.{Refusal}
 use Rattle.job.specs.definitions.Bytes.{byte_at}
 use Rattle.job.specs.definitions.Operations.{names_bad}
 use Rattle.job.specs.definitions.Decode.{shape_of, Command, edition, result, finish, unknown, command_at}
@@ -12,8 +14,7 @@ use Rattle.job.specs.declared.types.Names.TheVariants.{Nothing, One, Two}
 use Rattle.job.specs.declared.types.OperandValues.{OperandValues}
 use Rattle.job.specs.declared.types.OperandValues.TheVariants.{Any, KnownEdition, KeptDegree}
 use Rattle.job.specs.declared.types.Shape.{Shape}
-use Rattle.job.specs.declared.types.CommandReading.{CommandReading as CodeReading}
-use Rattle.job.specs.declared.types.CommandReading.TheVariants.{Found, Refused}
+use Rattle.job.specs.declared.types.ReadCommand.{ReadCommand}
 
 -- "Results are counted 0 to 31 as they arise."
 abbrev pub max_results : ℕ
@@ -101,9 +102,9 @@ pub data CommandReading : Type 0 where
   found : Kind → ℕ → CommandReading
   refused : ℕ → CommandReading
 
-abbrev pub command_reading_of : CodeReading → CommandReading
-command_reading_of (Found kind next) = found kind next
-command_reading_of (Refused v) = refused (number_of v)
+abbrev pub command_reading_of : CodeResult ReadCommand Refusal → CommandReading
+command_reading_of (Ok r) = found r.kind r.next
+command_reading_of (Err v) = refused (number_of v)
 
 unfoldable pub command_reading : List ℕ → ℕ → ℕ → ℕ → CommandReading
 command_reading job k count at =

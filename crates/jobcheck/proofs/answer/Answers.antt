@@ -4,4 +4,4 @@ use Rattle.jobcheck.proofs.answer.Goals as goal
 
 pub accepted-requires : goal.accepted-requires
 accepted-requires g c =
-    (search rules, count_small _ _ _ _ _ c.check-outcome.ensures.result_value c.in-Accepted.is)
+    (search rules, count_small _ _ _ _ _ c.check.ensures.result_value c.in-Ok.is)

@@ -18,7 +18,8 @@ use Rattle.chebyshev.specs.definitions.Coefficients.{value_from, value}
 use Rattle.chebyshev.specs.definitions.Allows.{allows}
 use Rattle.model.specs.definitions.Models.{scale, terms, good}
 use Rattle.model.proofs.laws.GoodLaws.{value_terms}
-use Rattle.model.specs.definitions.Evaluate.{point, mapped_point, maps_exactly, growth, point_term, point_sum, point_error, value_sum, error_sum, low_bound, high_bound, Bounds, zero_bounds, evaluation_places, evaluation}
+use Rattle.model.specs.definitions.Evaluate.{point, mapped_point, maps_exactly, growth, point_term, point_sum, point_error, value_sum, error_sum, low_bound, high_bound, zero_bounds, evaluation_places, evaluation}
+use Rattle.model.specs.declared.types.Bounds.{Bounds}
 use Rattle.model.specs.definitions.Outcomes.{accepted}
 use Rattle.model.specs.definitions.Allowed.{position, AllowsAt, Allows}
 use Rattle.model.proofs.laws.PlaceLaws.{outcome_accepted}

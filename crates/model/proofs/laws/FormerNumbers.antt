@@ -17,7 +17,8 @@ use Rattle.chebyshev.specs.definitions.Coefficients.{weight, add_lists, subtract
 use Rattle.chebyshev.specs.definitions.Product.{product}
 use Rattle.model.specs.definitions.Add.{sum_model, difference_model, addition, subtraction}
 use Rattle.model.specs.definitions.Area.{words, unsigned_of, area_model}
-use Rattle.model.specs.definitions.Evaluate.{Bounds, zero_bounds, mapped_numerator, mapped_point, maps_exactly, growth, point_sum, point_error, low_bound, high_bound, evaluation}
+use Rattle.model.specs.definitions.Evaluate.{zero_bounds, mapped_numerator, mapped_point, maps_exactly, growth, point_sum, point_error, low_bound, high_bound, evaluation}
+use Rattle.model.specs.declared.types.Bounds.{Bounds}
 use Rattle.model.specs.definitions.Integrate.{numerators, halved, alternating, integral_list, integral_model, integration}
 use Rattle.model.specs.definitions.Intervals.{good_ends, extent, standard_interval, same_interval, contains}
 use Rattle.model.specs.definitions.Load.{loading}

@@ -1,11 +1,14 @@
 -- Intervals (Intervals.antt): what the tests of the ends tell, and where a point of an interval is taken.
-use Rattle.std.specs.Prelude.{◌≡◌, refl, Bool, true, false, ◌&&◌, [], ◌∷◌, ◌*◌, ◌^◌, ◌≤◌, ◌<◌, eqb, ℤ, pos, neg_ℤ, nat_abs, ◌-ℤ◌, ◌<ℤ◌}
+use borrow.Author.Tests.{not-true, not-false}
+use Rattle.std.specs.Prelude.{◌≡◌, Bool, true, false, not, ◌&&◌, ℕ, [], ◌∷◌, ◌^◌, ◌≤◌, ◌<◌, eqb, ℤ, pos, neg_ℤ, nat_abs, ◌-ℤ◌, ◌<ℤ◌}
 use Rattle.std.proofs.Common.{sym, ◌∙◌, ap, ap₂, arith, eqb-true}
 use Rattle.std.specs.Int.Signed.{lt_z, le_z}
-use Rattle.fraction.specs.definitions.Fraction.{ℚ, whole, ◌+ℚ◌, ◌-ℚ◌, -ℚ◌, ◌*ℚ◌, ◌/ℚ◌, ◌≤ℚ◌, ∣◌∣ℚ, inverse}
+use Rattle.std.specs.Ordering.{int_eq}
+use Rattle.std.proofs.lemmas.Bool.Decides.{Decides-int_eq, same_from_decides}
+use Rattle.fraction.specs.definitions.Fraction.{ℚ, whole, ◌+ℚ◌, ◌-ℚ◌, -ℚ◌, ◌*ℚ◌, ◌≤ℚ◌, ∣◌∣ℚ}
 use Rattle.ring.specs.laws.Difference.{≤_parts, <_parts}
 use Rattle.integer.proofs.laws.FractionInverse.{quotient_mul, *ℚ_cancel}
-use Rattle.fraction.proofs.laws.FractionLaws.{whole-add, *ℚ_comm, one_*ℚ}
+use Rattle.fraction.proofs.laws.FractionLaws.{whole-add, *ℚ_comm}
 use Rattle.integer.proofs.laws.FractionOrder.{ℚ_ordered, ≤ℚ_cancel, whole_neg}
 use Rattle.integer.proofs.laws.FractionRounding.{natural_positive, natural_nonzero}
 use Rattle.integer.proofs.laws.FractionSolver.{reifyℚ, solveℚ}
@@ -75,6 +78,25 @@ same_self i = rw (self i.lower, self i.upper)
   where
     self : (z : ℤ) → nat_abs (z -ℤ z) ≡ 0
     self z = omega (arith, difference z z, abs (z -ℤ z), apart (z -ℤ z))
+
+-- what the code's comparison of two intervals says
+module _ (i j : Interval) {n : Bool} (e : n ≡ not (int_eq i.lower j.lower && int_eq i.upper j.upper)) where
+  agree : (x y : ℤ) → int_eq x y ≡ eqb (nat_abs (x -ℤ y)) 0
+  agree x y =
+      same_from_decides (int_eq x y) (eqb (nat_abs (x -ℤ y)) 0) (Decides-int_eq x y) (
+        λ h. same x y (omega (arith, difference x y, abs (x -ℤ y), eqb-true (nat_abs (x -ℤ y)) 0 h)),
+        λ h. let z : nat_abs (x -ℤ y) ≡ 0 = rw h (omega (arith, difference y y, abs (y -ℤ y), apart (y -ℤ y))) in ap (λ (k : ℕ). eqb k 0) z,
+      )
+
+  compared : n ≡ not (same_interval i j)
+  unfolding same_interval
+  compared = e ∙ ap₂ (λ (a b : Bool). not (a && b)) (agree i.lower j.lower) (agree i.upper j.upper)
+
+  pub differ : n ≡ true → same_interval i j ≡ false
+  differ h = not-true (same_interval i j) (sym compared ∙ h)
+
+  pub alike : n ≡ false → same_interval i j ≡ true
+  alike h = not-false (same_interval i j) (sym compared ∙ h)
 
 -- ---- where a point is taken
 

@@ -1,6 +1,6 @@
 -- Document 02, S-24: the point p/S of an interval, taken to q/S with q = near(S·(2p−l−u)/(u−l)), lies at most 1/(2S) from where T_k is
 -- taken, and there exactly if nothing was rounded; so a value differs by at most what W grows by.
-use Rattle.std.specs.Prelude.{◌≡◌, refl, Bool, cond, List, [], ◌∷◌, map, ℕ, ◌+◌, ◌*◌, ◌^◌, ◌≤◌, ℤ, ◌-ℤ◌, ◌*ℤ◌}
+use Rattle.std.specs.Prelude.{◌≡◌, refl, Bool, cond, List, [], ◌∷◌, map, ℕ, ◌*◌, ◌^◌, ◌≤◌, ℤ, ◌-ℤ◌, ◌*ℤ◌}
 use Rattle.std.proofs.Common.{sym, ◌∙◌, ap, ap₂}
 use Rattle.std.proofs.Math.Bool.{true, false}
 use native.Mathlib.Omega.{arith}

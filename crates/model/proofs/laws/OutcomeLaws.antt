@@ -1,14 +1,14 @@
 -- Two answers of the code with one meaning are the same answer.
-use Rattle.std.specs.Prelude.{◌≡◌, refl, cond, ℕ, ◌<◌, eqb}
-use Rattle.std.proofs.Common.{sym, ◌∙◌, ap, subst, arith}
+use Rattle.std.specs.Prelude.{◌≡◌, refl, cond, ℕ, ◌<◌, eqb, Result, Ok, Err, IsOk, IfOk}
+use Rattle.std.specs.Result.{result_map_both}
+use Rattle.std.proofs.Common.{sym, ◌∙◌, ap, subst, arith, rules}
 use Rattle.model.specs.definitions.Outcomes.{Outcome, accepted, refused, number, payload, map_outcome, number_of, verdict_number, judged, outcome_of}
-use Rattle.model.specs.definitions.Evaluate.{bounds_of}
-use Rattle.model.specs.declared.types.ModelOutcome.{ModelOutcome}
-use Rattle.model.specs.declared.types.BoundsOutcome.{BoundsOutcome}
+use Rattle.model.specs.definitions.Models.{zero_model}
+use Rattle.model.specs.definitions.Evaluate.{bounds_of, zero_bounds}
+use Rattle.model.specs.declared.types.Model.{Model}
+use Rattle.model.specs.declared.types.Bounds.{Bounds}
 use Rattle.model.specs.declared.types.Refusal.{Refusal}
 use Rattle.model.specs.declared.types.Refusal.TheVariants.{ShortArea, BadModel, LargeResult, PointOutside, NotContracting, LargeResidual, HelperNotPositive, NegativeDiscriminant, BadValue, JobEnds, BytesAfterEnd, NotAResult, TooManyResults, BadSeries, NotFinite, LargeProposal, NoRadius, BadEnds, DifferentIntervals, ShortOutput}
-use Rattle.model.specs.declared.types.Verdict.{Verdict}
-use Rattle.model.specs.declared.types.Verdict.TheVariants.{Accepted, Refused}
 
 -- the refusal with a number
 abbrev named : ℕ → Refusal
@@ -79,57 +79,58 @@ number_of_positive DifferentIntervals = omega arith
 number_of_positive ShortOutput = omega arith
 
 -- only an acceptance has the number 0
-pub zero_accepted : (v : Verdict) → verdict_number v ≡ 0 → v ≡ Accepted
-zero_accepted Accepted e = refl
-zero_accepted (Refused r) e = absurd (omega (arith, e, number_of_positive r))
+pub zero_accepted : {A : Type 0} (r : Result A Refusal) → verdict_number r ≡ 0 → IsOk r
+zero_accepted (Ok a) e = search rules
+zero_accepted (Err r) e = absurd (omega (arith, e, number_of_positive r))
 
 pub number_of_injective : (r s : Refusal) → number_of r ≡ number_of s → r ≡ s
 number_of_injective r s e = sym (named_number r) ∙ ap named e ∙ named_number s
 
 module _ {A : Type 0} where
-  abbrev verdict_in : Outcome A → Verdict
-  verdict_in (accepted a) = Accepted
-  verdict_in (refused n a) = Refused (named n)
+  -- the code's answer with a meaning
+  abbrev answer_in : Outcome A → Result A Refusal
+  answer_in (accepted a) = Ok a
+  answer_in (refused n a) = Err (named n)
 
-  verdict_judged : (v : Verdict) (a : A) → verdict_in (judged v a) ≡ v
-  verdict_judged Accepted a = refl
-  verdict_judged (Refused r) a = ap Refused (named_number r)
+  answer_judged : (z : A) (r : Result A Refusal) → answer_in (judged z r) ≡ r
+  answer_judged z (Ok a) = refl
+  answer_judged z (Err r) = ap Err (named_number r)
 
-  pub payload-judged : (v : Verdict) (a : A) → payload (judged v a) ≡ a
-  payload-judged Accepted a = refl
-  payload-judged (Refused r) a = refl
+  -- the values of an answer, or z
+  abbrev pub values_or : A → Result A Refusal → A
+  values_or z (Ok a) = a
+  values_or z (Err r) = z
+
+  pub payload-judged : (z : A) (r : Result A Refusal) → payload (judged z r) ≡ values_or z r
+  payload-judged z (Ok a) = refl
+  payload-judged z (Err r) = refl
 
   -- what holds of an outcome's values holds of the values that it was made of
-  pub held_judged : (P : A → Type 0) (v : Verdict) (a : A) {o : Outcome A} → judged v a ≡ o → P (payload o) → P a
-  held_judged P v a e h = subst P (ap payload (sym e) ∙ payload-judged v a) h
+  pub held_judged : (P : A → Type 0) (z : A) (r : Result A Refusal) {o : Outcome A} → judged z r ≡ o → P (payload o) → IfOk r P
+  held_judged P z (Ok a) e h = subst P (ap payload (sym e)) h
+  held_judged P z (Err r) e h = search rules
 
   -- an outcome made of an acceptance has its values, and nothing else makes an accepted outcome
-  pub accepted_judged : (v : Verdict) (a : A) {o : Outcome A} → judged v a ≡ o → v ≡ Accepted → o ≡ accepted a
-  accepted_judged v a e h = sym e ∙ ap (λ (u : Verdict). judged u a) h
+  pub accepted_judged : (z a : A) {r : Result A Refusal} {o : Outcome A} → judged z r ≡ o → r ≡ Ok a → o ≡ accepted a
+  accepted_judged z a e h = sym e ∙ ap (λ (u : Result A Refusal). judged z u) h
 
-  pub judged_accepted : (v : Verdict) (a : A) {b : A} → judged v a ≡ accepted b → (v ≡ Accepted) × (a ≡ b)
-  judged_accepted v a e = (sym (verdict_judged v a) ∙ ap verdict_in e, sym (payload-judged v a) ∙ ap payload e)
+  pub judged_accepted : (z : A) (r : Result A Refusal) {b : A} → judged z r ≡ accepted b → r ≡ Ok b
+  judged_accepted z r e = sym (answer_judged z r) ∙ ap answer_in e
 
-  pub number-judged : (v : Verdict) (a : A) → number (judged v a) ≡ verdict_number v
-  number-judged Accepted a = refl
-  number-judged (Refused r) a = refl
+  pub number-judged : (z : A) (r : Result A Refusal) → number (judged z r) ≡ verdict_number r
+  number-judged z (Ok a) = refl
+  number-judged z (Err r) = refl
 
-  pub judged_injective : (u v : Verdict) (a b : A) → judged u a ≡ judged v b → (u ≡ v) × (a ≡ b)
-  judged_injective u v a b e = (
-    sym (verdict_judged u a) ∙ ap verdict_in e ∙ verdict_judged v b,
-    sym (payload-judged u a) ∙ ap payload e ∙ payload-judged v b,
-  )
+  pub judged_injective : (z : A) (r s : Result A Refusal) → judged z r ≡ judged z s → r ≡ s
+  judged_injective z r s e = sym (answer_judged z r) ∙ ap answer_in e ∙ answer_judged z s
 
 -- a verdict beside a part of some values
-pub judged_mapped : {A B : Type 0} (f : A → B) (v : Verdict) (a : A) → judged v (f a) ≡ map_outcome f (judged v a)
-judged_mapped f Accepted a = refl
-judged_mapped f (Refused r) a = refl
+pub judged_mapped : {A B : Type 0} (f : A → B) (z : A) (r : Result A Refusal) → judged (f z) (result_map_both f (λ e. e) r) ≡ map_outcome f (judged z r)
+judged_mapped f z (Ok a) = refl
+judged_mapped f z (Err r) = refl
 
-pub outcome_of_injective : (r s : ModelOutcome) → outcome_of r ≡ outcome_of s → r ≡ s
-outcome_of_injective r s e =
-    let (v, m) = judged_injective r.verdict s.verdict r.model s.model e in λ i. record { verdict = v i; model = m i }
+pub outcome_of_injective : (r s : Result Model Refusal) → outcome_of r ≡ outcome_of s → r ≡ s
+outcome_of_injective r s e = judged_injective zero_model r s e
 
-pub bounds_of_injective : (r s : BoundsOutcome) → bounds_of r ≡ bounds_of s → r ≡ s
-bounds_of_injective r s e =
-    let (v, b) = judged_injective r.verdict s.verdict _ _ e in
-    λ i. record { verdict = v i; low = (b i).low; high = (b i).high }
+pub bounds_of_injective : (r s : Result Bounds Refusal) → bounds_of r ≡ bounds_of s → r ≡ s
+bounds_of_injective r s e = judged_injective zero_bounds r s e

@@ -1,5 +1,5 @@
 -- Document 01, "Plain operations": evaluate at p/S; with document 02, S-24, at a point of the own interval.
-use Rattle.std.specs.Prelude.{Bool, not, cond, List, [], ◌∷◌, ℕ, zero, suc, ◌+◌, ◌*◌, ◌-◌, ◌^◌, eqb, ℤ, pos, nat_abs, ◌+ℤ◌, ◌-ℤ◌, ◌*ℤ◌}
+use Rattle.std.specs.Prelude.{Bool, not, cond, List, [], ◌∷◌, ℕ, zero, suc, ◌+◌, ◌*◌, ◌-◌, ◌^◌, eqb, ℤ, pos, nat_abs, ◌+ℤ◌, ◌-ℤ◌, ◌*ℤ◌, Result}
 use Rattle.fraction.specs.definitions.Fraction.{ℚ, ◌/1+◌}
 use Rattle.integer.specs.definitions.Rounding.{floor, up, near}
 use Rattle.chebyshev.specs.definitions.Coefficients.{lipschitz_weight}
@@ -8,7 +8,8 @@ use Rattle.model.specs.definitions.Models.{scale, terms, bad_place}
 use Rattle.model.specs.definitions.Outcomes.{Outcome, outcome, judged}
 use Rattle.model.specs.declared.types.Interval.{Interval}
 use Rattle.model.specs.declared.types.Model.{Model}
-use Rattle.model.specs.declared.types.BoundsOutcome.{BoundsOutcome}
+use Rattle.model.specs.declared.types.Bounds.{Bounds}
+use Rattle.model.specs.declared.types.Refusal.{Refusal}
 
 -- "Evaluate at p/S"
 abbrev pub point : ℤ → ℚ
@@ -60,10 +61,6 @@ low_bound a p = floor (pos 4 *ℤ value_sum a p -ℤ pos (error_sum a p)) (2 ^ 3
 unfoldable pub high_bound : Model → ℤ → ℤ
 high_bound a p = up (pos 4 *ℤ value_sum a p +ℤ pos (error_sum a p)) (2 ^ 32) +ℤ pos a.radius
 
-pub record Bounds : Type 0 where
-  pub low : ℤ
-  pub high : ℤ
-
 -- "refused evaluation gives bounds 0 and 0"
 abbrev pub zero_bounds : Bounds
 zero_bounds = record { low = pos 0; high = pos 0 }
@@ -76,5 +73,5 @@ unfoldable pub evaluation : Model → ℤ → Outcome Bounds
 evaluation a p = outcome (evaluation_places a p) (record { low = low_bound a p; high = high_bound a p }) zero_bounds
 
 -- what the code's answer means
-abbrev pub bounds_of : BoundsOutcome → Outcome Bounds
-bounds_of r = judged r.verdict (record { low = r.low; high = r.high })
+abbrev pub bounds_of : Result Bounds Refusal → Outcome Bounds
+bounds_of r = judged zero_bounds r

@@ -24,8 +24,6 @@ pub record Factors (a b : List ℤ) : Type 0 where
 
 -- two models' coefficients, to be added or subtracted
 pub record Summands (a b : List ℤ) (sign : ℤ) : Type 0 where
-  pub first_all : length a ≡ coefficient_count
-  pub second_all : length b ≡ coefficient_count
   pub first_light : weight a ≤ max_weight
   pub second_light : weight b ≤ max_weight
   pub unit : nat_abs sign ≡ 1
@@ -47,14 +45,12 @@ pub record Limited (a ea b eb : ℕ) : Type 0 where
 
 -- a model's coefficients and a point within the interval
 pub record Evaluable (degree : ℕ) (coefficients : List ℤ) (p : ℤ) : Type 0 where
-  pub all : length coefficients ≡ coefficient_count
   pub degree_fits : degree ≤ max_degree
   pub light : weight coefficients ≤ max_weight
   pub inside : nat_abs p ≤ scale
 
 -- the list 2·a_0, a_1, … of a model that has an integral, and the extent of its interval
 pub record Integrable (degree : ℕ) (doubled : List ℤ) (extent : ℕ) : Type 0 where
-  pub all : length doubled ≡ coefficient_count
   pub degree_fits : degree < max_degree
   pub light : weight doubled ≤ 2 * max_weight
   pub extent-fits : extent ≤ 2 ^ 29

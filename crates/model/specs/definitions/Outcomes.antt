@@ -1,16 +1,14 @@
 -- What an entry answers: it accepts with its values, or refuses with a number of document 01's table "Refused, and where", to
 -- which the change requests of document 02 add theirs.
-use Rattle.std.specs.Prelude.{◌≡◌, Bool, true, false, cond, List, [], ◌∷◌, ℕ}
+use Rattle.std.specs.Prelude.{◌≡◌, Bool, true, false, cond, List, [], ◌∷◌, ℕ, Result, Ok, Err}
+use Rattle.model.specs.definitions.Models.{zero_model}
 use Rattle.model.specs.declared.types.Model.{Model}
-use Rattle.model.specs.declared.types.ModelOutcome.{ModelOutcome}
 use Rattle.model.specs.declared.types.Refusal.{Refusal}
 use Rattle.model.specs.declared.types.Refusal.TheVariants.{ShortArea, BadModel, LargeResult, PointOutside}
 use Rattle.model.specs.declared.types.Refusal.TheVariants.{NotContracting, LargeResidual, HelperNotPositive}
 use Rattle.model.specs.declared.types.Refusal.TheVariants.{NegativeDiscriminant, BadValue, JobEnds, BytesAfterEnd}
 use Rattle.model.specs.declared.types.Refusal.TheVariants.{NotAResult, TooManyResults, BadSeries, NotFinite, LargeProposal}
 use Rattle.model.specs.declared.types.Refusal.TheVariants.{NoRadius, BadEnds, DifferentIntervals, ShortOutput}
-use Rattle.model.specs.declared.types.Verdict.{Verdict}
-use Rattle.model.specs.declared.types.Verdict.TheVariants.{Accepted, Refused}
 
 -- "A refused operation gives its number beside the zero model …; refused evaluation gives bounds 0 and 0. Any other number an
 -- entry answers, or a record holds, is zero on refusal too."
@@ -78,14 +76,14 @@ number_of BadEnds = 18
 number_of DifferentIntervals = 19
 number_of ShortOutput = 20
 
-abbrev pub verdict_number : Verdict → ℕ
-verdict_number Accepted = 0
-verdict_number (Refused r) = number_of r
+abbrev pub verdict_number : {A : Type 0} → Result A Refusal → ℕ
+verdict_number (Ok a) = 0
+verdict_number (Err r) = number_of r
 
--- a verdict beside values
-abbrev pub judged : {A : Type 0} → Verdict → A → Outcome A
-judged Accepted a = accepted a
-judged (Refused r) a = refused (number_of r) a
+-- the values, or the refusal beside z, the zeros in their place
+abbrev pub judged : {A : Type 0} → A → Result A Refusal → Outcome A
+judged z (Ok a) = accepted a
+judged z (Err r) = refused (number_of r) z
 
-abbrev pub outcome_of : ModelOutcome → Outcome Model
-outcome_of r = judged r.verdict r.model
+abbrev pub outcome_of : Result Model Refusal → Outcome Model
+outcome_of r = judged zero_model r

@@ -1,6 +1,6 @@
 -- The default and the converter of 02, S-27, are kept.
 use Rattle.std.specs.Prelude.{◌≡◌, refl, List, ℕ, ◌+◌}
-use Rattle.std.proofs.Common.{sym, ap, ◌∙◌}
+use Rattle.std.proofs.Common.{ap, ◌∙◌}
 use Rattle.model.proofs.laws.MultiplicationLaws as products
 use Rattle.job.specs.definitions.Bytes.{byte_at}
 use Rattle.job.proofs.laws.EditionLaws as editions

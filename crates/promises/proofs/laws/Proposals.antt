@@ -1,13 +1,10 @@
 -- The promises about made proposals are kept.
-use Rattle.std.specs.Prelude.{◌≡◌, refl, true, false, cond, List, ◌⊎◌, ℕ, ◌<◌, Float}
+use Rattle.std.specs.Prelude.{◌≡◌, refl, true, false, List, ℕ, ◌<◌, Float}
 use Rattle.std.proofs.Common.{sym, ◌∙◌, ap, subst, inl, inr, arith}
 use Rattle.std.specs.Float.Ieee.{eq, le}
-use Rattle.model.specs.declared.types.Model.{Model}
 use Rattle.proposals.specs.definitions.Values.{nought, settled_limit}
-use Rattle.proposals.specs.definitions.Rounds.{finite_round}
 use Rattle.proposals.specs.definitions.Reciprocal.{constant_list, first_value, reciprocal_rounds}
 use Rattle.proposals.specs.definitions.Endings.{start_of, iterated, Ends}
-use Rattle.proposals.specs.definitions.ExactCase.{PowerOfTwo, ExactCase}
 use Rattle.proposals.proofs.laws.BitsLaws as bits
 use Rattle.proposals.proofs.laws.EndingLaws as endings
 use Rattle.proposals.proofs.laws.ExactCase as exact
@@ -17,7 +14,6 @@ use Rattle.proposals.proofs.laws.FiniteWalk as walks
 use Rattle.proposals.proofs.laws.MakerLaws as makers
 use Rattle.proposals.proofs.laws.UnitsLaws as units
 use Rattle.proposals.proofs.laws.ValueExact as values
-use Rattle.proposals.specs.declared.types.Ending.TheVariants.{Settled, GivenUp}
 use Rattle.promises.specs.definitions.Proposals.{TwelveRounds, FiniteMaking, Units, NoRounding, MadeProposals}
 
 -- ---- rounds

@@ -1,5 +1,5 @@
 -- The report records of 02, S-30, are kept.
-use Rattle.std.specs.Prelude.{◌≡◌, refl, List, ◌∷◌, ◌++◌, ℕ, ◌+◌, ◌*◌, ◌<◌, ◌≤◌, ◌^◌, ℤ, length, take, drop}
+use Rattle.std.specs.Prelude.{◌≡◌, refl, List, ◌∷◌, ◌++◌, ℕ, ◌*◌, ◌<◌, ◌≤◌, ◌^◌, ℤ, length, take, drop}
 use Rattle.std.proofs.Common.{ap, sym, subst, ◌∙◌, arith, take_at}
 use Rattle.model.specs.definitions.Outcomes.{Outcome, payload}
 use Rattle.model.specs.declared.types.Model.{Model}

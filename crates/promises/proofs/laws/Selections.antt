@@ -1,7 +1,6 @@
 -- The promises about two proposals are kept.
 use Rattle.std.specs.Prelude.{◌≡◌, refl, Bool, true, false, cond, List, ◌⊎◌, ℕ, ltb, ℤ}
 use Rattle.std.proofs.Common.{sym, ◌∙◌, ap, inl, inr, arith, ltb-true}
-use Rattle.model.specs.definitions.Models.{make_model}
 use Rattle.model.specs.definitions.Allowed.{AllowsAt}
 use Rattle.model.specs.definitions.Outcomes.{Outcome, accepted, refused, payload}
 use Rattle.model.proofs.laws.PlaceLaws.{refused_not_accepted, mapped_accepted}

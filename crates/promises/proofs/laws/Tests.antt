@@ -1,7 +1,6 @@
 -- The promises about the tests are kept.
 use Rattle.std.specs.Prelude.{◌≡◌, refl, Bool, true, false, cond, List, [], ◌∷◌, ◌↔◌, ◌⊎◌, ℕ}
-use Rattle.std.proofs.Common.{sym, ◌∙◌, ap, subst, inl, inr}
-use Rattle.fraction.specs.definitions.Fraction.{ℚ, whole, ◌*ℚ◌, ◌≤ℚ◌}
+use Rattle.std.proofs.Common.{sym, ◌∙◌, ap, inl, inr}
 use Rattle.model.specs.definitions.Outcomes.{Outcome, accepted, refused, number, outcome, passing}
 use Rattle.model.proofs.laws.PlaceLaws.{refused_not_accepted}
 use Rattle.model.specs.declared.types.Candidate.{Candidate}
@@ -20,8 +19,8 @@ use Rattle.certificate.proofs.laws.RootTheorem as root
 use Rattle.certificate.proofs.laws.TestFits as fits
 use Rattle.certificate.proofs.laws.TightTheorem as tight
 use Rattle.certificate.specs.declared.types.RootRule.{RootRule}
-use Rattle.certificate.specs.declared.types.RootRule.TheVariants.{ByDiscriminant, ByLeastRadius}
-use Rattle.promises.specs.definitions.Tests.{GoodQuotient, GoodRoot, QuotientPasses, RootPasses, Requirement2, TighterRoots, SoundTests, GroupLengths}
+use Rattle.certificate.specs.declared.types.RootRule.TheVariants.{ByDiscriminant}
+use Rattle.promises.specs.definitions.Tests.{QuotientPasses, RootPasses, Requirement2, TighterRoots, SoundTests, GroupLengths}
 
 -- ---- what is not accepted is refused, with zeros
 

@@ -18,10 +18,11 @@ use Rattle.selection.specs.definitions.Promise.{Tightest}
 use Rattle.selection.specs.definitions.Select.{Selected, IsPart}
 use Rattle.proposals.specs.definitions.Values.{nought}
 use Rattle.proposals.specs.definitions.Rounds.{round_of}
-use Rattle.proposals.specs.definitions.Reciprocal.{Reciprocal, make_reciprocal}
-use Rattle.proposals.specs.definitions.Quotient.{Quotient}
+use Rattle.proposals.specs.definitions.Reciprocal.{make_reciprocal}
 use Rattle.proposals.specs.definitions.ExactCase.{ExactReciprocal, ExactQuotient}
 use Rattle.proposals.specs.declared.types.Ending.TheVariants.{Settled}
+use Rattle.proposals.specs.declared.types.Quotient.{Quotient}
+use Rattle.proposals.specs.declared.types.Reciprocal.{Reciprocal}
 use Rattle.promises.specs.definitions.Proposals.{power_list, power_units, MadeExactly}
 
 pub record ContractClaims : Type 0 where

@@ -1,11 +1,11 @@
 -- 02, S-27: what 255 and 0xFF mean, and the conversion of a job to the other edition.
-use Rattle.std.specs.Prelude.{◌≡◌, false, List, ◌∷◌, ◌⊎◌, ℕ, ◌+◌, ◌≤◌, ◌<◌, max, length, set, take, drop, replicate}
+use Rattle.std.specs.Prelude.{◌≡◌, List, ◌∷◌, ◌⊎◌, ℕ, ◌+◌, ◌≤◌, ◌<◌, max, length, set, take, drop, replicate}
 use Rattle.model.specs.definitions.Multiply.{multiplication}
 use Rattle.model.specs.declared.types.Model.{Model}
 use Rattle.job.specs.definitions.Bytes.{byte_at}
 use Rattle.job.specs.definitions.Decode.{kept_in, shape_of, maker_at}
 use Rattle.job.specs.definitions.Operations.{multiply, result_at, operation}
-use Rattle.job.specs.definitions.Outcomes.{JobOutcome, accepted, refused, result_count, refused_command}
+use Rattle.job.specs.definitions.Outcomes.{accepted, refused, result_count, refused_command}
 use Rattle.job.specs.definitions.Reader.{ill, job_reading, ReadsWell}
 use Rattle.job.specs.definitions.Run.{job_outcome}
 use Rattle.job.specs.declared.types.Kind.TheVariants.{Result}

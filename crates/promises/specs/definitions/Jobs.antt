@@ -2,7 +2,7 @@
 use Rattle.std.specs.Prelude.{◌≡◌, Bool, true, List, ◌↔◌, ℕ, ◌≤◌, ◌<◌, ℤ, pos, length}
 use Rattle.fraction.specs.definitions.Fraction.{ℚ, whole, ◌≤ℚ◌, ◌<ℚ◌}
 use Rattle.model.specs.definitions.Models.{good}
-use Rattle.model.specs.definitions.Outcomes.{Outcome, Passed, First}
+use Rattle.model.specs.definitions.Outcomes.{Outcome, Passed}
 use Rattle.model.specs.definitions.Allowed.{Allows, OnInterval}
 use Rattle.model.specs.definitions.Evaluate.{point}
 use Rattle.model.specs.declared.types.Candidate.{Candidate}
@@ -19,7 +19,7 @@ use Rattle.job.specs.definitions.Outcomes.{JobOutcome, accepted, refused}
 use Rattle.job.specs.definitions.Run.{job_outcome}
 use Rattle.job.specs.definitions.Order.{RefusesAt, EndsWith, Meets}
 use Rattle.job.specs.definitions.Work.{stored_result, models_in, area_places, check_outcome, check_needing, work_after, work_needing}
-use Rattle.job.specs.definitions.Requirement.{Made, Box, Lies, Permitted, Results, Requirement3}
+use Rattle.job.specs.definitions.Requirement.{Made, Box, Lies, Permitted, Requirement3}
 use Rattle.job.specs.definitions.ExactValues.{Exact, value_by, Follows, FormedFrom, Chosen}
 use Rattle.job.specs.definitions.FormedBoxes.{Formed}
 

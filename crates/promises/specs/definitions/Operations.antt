@@ -1,6 +1,6 @@
 -- 01, "Plain operations", with 02, S-5, S-8 and S-24: what the answers of add, subtract, multiply, integrate and evaluate mean.
 -- What they are stands in the contracts of the entries, as equations.
-use Rattle.std.specs.Prelude.{◌≡◌, true, List, map, ◌↔◌, ℕ, ◌+◌, ◌*◌, ◌≤◌, ◌<◌, ℤ, pos, ◌+ℤ◌, ◌-ℤ◌, ◌*ℤ◌, length, get_or}
+use Rattle.std.specs.Prelude.{◌≡◌, true, List, map, ◌↔◌, ℕ, ◌+◌, ◌*◌, ◌<◌, ℤ, pos, ◌+ℤ◌, ◌-ℤ◌, ◌*ℤ◌, length, get_or}
 use Rattle.fraction.specs.definitions.Fraction.{ℚ, whole, ◌+ℚ◌, ◌-ℚ◌, -ℚ◌, ◌*ℚ◌, ◌/ℚ◌, ◌≤ℚ◌, ∣◌∣ℚ}
 use Rattle.integer.specs.definitions.FractionRing.{ℚ_ring}
 use Rattle.ring.specs.definitions.Integer.{ℤ_ring}
@@ -20,7 +20,8 @@ use Rattle.model.specs.definitions.Load.{loading}
 use Rattle.model.specs.definitions.Add.{addition, subtraction}
 use Rattle.model.specs.definitions.Multiply.{product_list, product_visits, multiplication}
 use Rattle.model.specs.definitions.Integrate.{exact_integral, integration}
-use Rattle.model.specs.definitions.Evaluate.{Bounds, point, evaluation}
+use Rattle.model.specs.definitions.Evaluate.{point, evaluation}
+use Rattle.model.specs.declared.types.Bounds.{Bounds}
 use Rattle.model.specs.declared.types.Interval.{Interval}
 use Rattle.model.specs.declared.types.Model.{Model}
 

@@ -15,13 +15,14 @@ use Rattle.proposals.specs.definitions.Product.{product}
 use Rattle.proposals.specs.definitions.Rounds.{round_of, two_less, improved, change_from, finite_round}
 use Rattle.proposals.specs.definitions.Reciprocal.{constant_list, first_value, reciprocal_rounds, values_of}
 use Rattle.proposals.specs.definitions.Reciprocal.{make_reciprocal, refused_reciprocal, reciprocal_proposal}
-use Rattle.proposals.specs.definitions.Quotient.{Quotient, quotient_proposal}
+use Rattle.proposals.specs.definitions.Quotient.{quotient_proposal}
 use Rattle.proposals.specs.definitions.Units.{signed, units_of, candidate_in}
 use Rattle.proposals.specs.definitions.ExactCase.{Over}
 use Rattle.proposals.specs.definitions.Bits.{sign_bit, bits_size}
 use Rattle.proposals.specs.definitions.Endings.{change_in, start_of, iterated}
 use Rattle.proposals.specs.definitions.Finite.{all_products_finite, StatesFinite, differences}
 use Rattle.proposals.specs.declared.types.Ending.TheVariants.{Settled, GivenUp}
+use Rattle.proposals.specs.declared.types.Quotient.{Quotient}
 
 -- ---- "until settled, for at most 12 rounds"
 

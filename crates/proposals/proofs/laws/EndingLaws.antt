@@ -1,5 +1,5 @@
 -- How the rounds end (Rounds.antt): after how many, and what holds of the last one.
-use Rattle.std.specs.Prelude.{◌≡◌, Bool, true, false, cond, List, ◌⊎◌, Float}
+use Rattle.std.specs.Prelude.{◌≡◌, Bool, true, false, cond, List, Float}
 use Rattle.std.proofs.Math.Path.{refl, ap}
 use Rattle.std.proofs.Common.{sym, ◌∙◌, true≢false, eq-or-lt_of_le}
 use Rattle.std.proofs.Math.Logic.{inl, inr}
@@ -11,7 +11,7 @@ use Rattle.proposals.specs.definitions.Rounds.{next_round, finite_round, made_of
 use Rattle.proposals.specs.definitions.Reciprocal.{first_value, reciprocal_rounds}
 use Rattle.proposals.specs.definitions.Endings.{change_in, start_of, iterated, settles, Ends}
 use Rattle.proposals.specs.declared.types.Round.{Round}
-use Rattle.proposals.specs.declared.types.Made.{Made}
+use Rattle.proposals.specs.definitions.Rounds.{Made}
 use Rattle.proposals.specs.declared.types.Ending.TheVariants.{Settled, GivenUp}
 
 apart : (x y : Float) → GivenUp x ≡ Settled y → ⊥

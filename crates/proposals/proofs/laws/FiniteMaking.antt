@@ -19,7 +19,7 @@ use Rattle.proposals.proofs.laws.FiniteWalk.{state_finite}
 use Rattle.proposals.proofs.laws.FiniteLaws.{passes, walk_finite, product_finite, length_two_less, length-product, round_finite, round_differences_finite}
 use Rattle.proposals.proofs.laws.EndingLaws.{every_round_finite, reciprocal_ends}
 use Rattle.proposals.specs.declared.types.Round.{Round}
-use Rattle.proposals.specs.declared.types.Made.{Made}
+use Rattle.proposals.specs.definitions.Rounds.{Made}
 use Rattle.proposals.specs.declared.types.Ending.{Ending}
 use Rattle.proposals.specs.declared.types.Ending.TheVariants.{Settled, GivenUp}
 

@@ -1,5 +1,5 @@
 -- What is not finite in a walk of pairs, a product of two elements or a sum, shows in the list that the walk ends with.
-use Rattle.std.specs.Prelude.{◌≡◌, Bool, true, ◌&&◌, List, [], ◌∷◌, map, ◌++◌, ℕ, zero, suc, ◌+◌, ◌≤◌, ◌<◌, T, Float}
+use Rattle.std.specs.Prelude.{◌≡◌, List, [], ◌∷◌, map, ◌++◌, ℕ, zero, suc, ◌+◌, ◌≤◌, ◌<◌, T, Float}
 use Rattle.std.proofs.Common.{arith}
 use Rattle.std.proofs.Math.ListN.{length}
 use Rattle.std.specs.Float.{binary64}

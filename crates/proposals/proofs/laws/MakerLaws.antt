@@ -1,6 +1,6 @@
 -- What the makers answer, by what code finds: a list in units (Units.antt) is refused or goes on.
 use borrow.Author.Tests.{lt-ltb, le-ltb}
-use Rattle.std.specs.Prelude.{◌≡◌, Bool, false, ◌&&◌, cond, ℕ, ◌≤◌, ◌<◌, ◌^◌, T, ltb, ℤ}
+use Rattle.std.specs.Prelude.{◌≡◌, Bool, false, ◌&&◌, cond, ℕ, ◌≤◌, ◌<◌, ◌^◌, T, ltb, ℤ, Result, Ok, Err}
 use Rattle.std.proofs.Math.Path.{refl, ap, subst}
 use Rattle.std.proofs.Common.{sym, ◌∙◌}
 use Rattle.std.proofs.Math.Bool.{true}
@@ -10,27 +10,23 @@ use Rattle.std.specs.Float.{binary64}
 use Rattle.chebyshev.specs.definitions.Coefficients.{weight}
 use Rattle.model.specs.definitions.Intervals.{same_interval}
 use Rattle.model.specs.definitions.Models.{fault, good, max_weight}
-use Rattle.model.specs.definitions.Outcomes.{Outcome, accepted, refused, passing, number_of, judged}
+use Rattle.model.specs.definitions.Outcomes.{Outcome, accepted, refused, passing, number_of}
 use Rattle.model.proofs.laws.OutcomeLaws.{judged_injective}
 use Rattle.model.specs.declared.types.Model.{Model}
 use Rattle.model.specs.declared.types.Candidate.{Candidate}
 use Rattle.model.specs.declared.types.Refusal.{Refusal}
-use Rattle.model.specs.declared.types.Verdict.{Verdict}
-use Rattle.model.specs.declared.types.Verdict.TheVariants.{Accepted, Refused}
 use Rattle.proposals.specs.definitions.Values.{nought, one, all_finite}
 use Rattle.proposals.specs.definitions.Product.{product}
-use Rattle.proposals.specs.definitions.Rounds.{rounds, round_of, made_of}
+use Rattle.proposals.specs.definitions.Rounds.{Made, rounds, round_of, made_of, found_finite}
+use Rattle.proposals.specs.declared.types.FiniteRounds.{FiniteRounds}
+use Rattle.model.specs.declared.types.Refusal.TheVariants.{NotFinite}
 use Rattle.proposals.specs.definitions.Units.{units_of, candidate_in, zero_candidate, in_units, in_units_of}
-use Rattle.proposals.specs.definitions.Reciprocal.{values_of, first_value, constant_list, zero_round, reciprocal_rounds, make_reciprocal, refused_reciprocal, reciprocal_proposal, reciprocal_of}
+use Rattle.proposals.specs.definitions.Reciprocal.{values_of, first_value, constant_list, zero_round, reciprocal_rounds, Reciprocal, make_reciprocal, refused_reciprocal, reciprocal_proposal, reciprocal_of}
 use Rattle.proposals.specs.definitions.Quotient.{Quotient, quotient_record, make_quotient, refused_quotient, quotient_proposal, quotient_of}
 use Rattle.proposals.specs.definitions.Endings.{change_in}
 use Rattle.proposals.specs.definitions.InnerContracts.{limited_units}
 use Rattle.proposals.proofs.laws.UnitsLaws.{limited_list, weight_over, weight_within}
 use Rattle.proposals.proofs.laws.RoundsLaws.{FiniteIn, rounds_finite, rounds_change}
-use Rattle.proposals.specs.declared.types.Made.{Made}
-use Rattle.proposals.specs.declared.types.CandidateOutcome.{CandidateOutcome}
-use Rattle.proposals.specs.declared.types.ReciprocalOutcome.{ReciprocalOutcome}
-use Rattle.proposals.specs.declared.types.QuotientOutcome.{QuotientOutcome}
 use Rattle.proposals.specs.declared.types.Ending.TheVariants.{GivenUp}
 
 -- ---- a list in units: u is the list that code has, with sizes cut at 2^29, and t its weight
@@ -76,12 +72,12 @@ abbrev pub then_units : {A : Type 0} → (Candidate → Outcome A) → A → Out
 then_units k z (accepted c) = k c
 then_units k z (refused n c) = refused n z
 
-module _ {A : Type 0} (k : Candidate → Outcome A) (z : A) (v : Verdict) (c : Candidate) (o : Outcome Candidate) (e : judged v c ≡ o) where
-  pub units_go_on : v ≡ Accepted → k c ≡ then_units k z o
-  units_go_on a = ap (λ u. then_units k z (judged u c)) (sym a) ∙ ap (then_units k z) e
+module _ {A : Type 0} (k : Candidate → Outcome A) (z : A) (o : Outcome Candidate) where
+  pub units_go_on : (c : Candidate) → accepted c ≡ o → k c ≡ then_units k z o
+  units_go_on c e = ap (then_units k z) e
 
-  pub units_stop : (r : Refusal) → v ≡ Refused r → refused (number_of r) z ≡ then_units k z o
-  units_stop r a = ap (λ u. then_units k z (judged u c)) (sym a) ∙ ap (then_units k z) e
+  pub units_stop : (c : Candidate) (r : Refusal) → refused (number_of r) c ≡ o → refused (number_of r) z ≡ then_units k z o
+  units_stop c r e = ap (then_units k z) e
 
 -- a list that is finite
 finite_units : {A : Type 0} (k : Candidate → Outcome A) (z : A) (v : List Float) → all_finite v ≡ true
@@ -167,18 +163,33 @@ pub not_finite_before_weight : (f g : Model) → good f ≡ true → good g ≡ 
 unfolding quotient_proposal passing
 not_finite_before_weight f g bf bg same h = rw (bf, bg, same, h)
 
+-- ---- what code has of the rounds
+
+module _ (m : Made) where
+  abbrev kept : FiniteRounds
+  kept = record { ending = m.ending; round = m.round }
+
+  pub found : (r : FiniteRounds) → Ok r ≡ found_finite m → made_of true r.ending r.round ≡ m
+  found r e = go m.finite refl e
+    where
+      go : (b : Bool) → m.finite ≡ b → Ok r ≡ cond b (Ok kept) (Err NotFinite) → made_of true r.ending r.round ≡ m
+      go true f e = let h : r ≡ kept = cc in λ i. record { finite = sym f i; ending = (h i).ending; round = (h i).round }
+      go false f e = absurd (cc)
+
+  pub not_found : (e : Refusal) → Err e ≡ found_finite m → (m.finite ≡ false) × (number_of e ≡ 15)
+  not_found e h = go m.finite refl h
+    where
+      go : (b : Bool) → m.finite ≡ b → Err e ≡ cond b (Ok kept) (Err NotFinite) → (m.finite ≡ false) × (number_of e ≡ 15)
+      go true f h = absurd (cc)
+      go false f h = let k : e ≡ NotFinite = cc in (f, ap number_of k)
+
 -- ---- no two answers of code have one meaning
 
-pub in_units_of_injective : (r s : CandidateOutcome) → in_units_of r ≡ in_units_of s → r ≡ s
-in_units_of_injective r s e =
-    let (v, c) = judged_injective r.verdict s.verdict r.candidate s.candidate e in λ i. record { verdict = v i; candidate = c i }
+pub in_units_of_injective : (r s : Result Candidate Refusal) → in_units_of r ≡ in_units_of s → r ≡ s
+in_units_of_injective r s e = judged_injective zero_candidate r s e
 
-pub reciprocal_of_injective : (r s : ReciprocalOutcome) → reciprocal_of r ≡ reciprocal_of s → r ≡ s
-reciprocal_of_injective r s e =
-    let (v, m) = judged_injective r.verdict s.verdict _ _ e in
-    λ i. record { verdict = v i; ending = (m i).ending; round = (m i).round; w = (m i).w }
+pub reciprocal_of_injective : (r s : Result Reciprocal Refusal) → reciprocal_of r ≡ reciprocal_of s → r ≡ s
+reciprocal_of_injective r s e = judged_injective refused_reciprocal r s e
 
-pub quotient_of_injective : (r s : QuotientOutcome) → quotient_of r ≡ quotient_of s → r ≡ s
-quotient_of_injective r s e =
-    let (v, m) = judged_injective r.verdict s.verdict _ _ e in
-    λ i. record { verdict = v i; ending = (m i).ending; recorded = (m i).recorded; h = (m i).h; w = (m i).w }
+pub quotient_of_injective : (r s : Result Quotient Refusal) → quotient_of r ≡ quotient_of s → r ≡ s
+quotient_of_injective r s e = judged_injective refused_quotient r s e

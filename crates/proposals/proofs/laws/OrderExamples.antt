@@ -1,6 +1,6 @@
 -- Closed values in which the order shows: of the factors, in a bit; of the areas; of the refusals 15 and 16. Definition and code
 -- cannot both have another.
-use Rattle.std.specs.Prelude.{◌≡◌, refl, true, false, List, [], ◌∷◌, ◌++◌, map, ℕ, ◌*◌, ◌^◌, ℤ, pos, negsuc, replicate, Float}
+use Rattle.std.specs.Prelude.{◌≡◌, refl, true, false, List, [], ◌∷◌, ◌++◌, ℕ, ◌*◌, ◌^◌, ℤ, pos, negsuc, replicate, Float}
 use Rattle.std.proofs.Common.{sym, ap}
 use Rattle.std.specs.Float.{fin}
 use Rattle.std.specs.Float.Ieee.{round, add, mul, div, sub, neg, sum, lt, le, eq, of_int}

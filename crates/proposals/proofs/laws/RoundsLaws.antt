@@ -10,7 +10,7 @@ use Rattle.proposals.specs.definitions.Values.{nought, two, settled_limit, diffe
 use Rattle.proposals.specs.definitions.Rounds.{two_less, change_from, next_round, finite_round, made_of, rounds}
 use Rattle.proposals.specs.definitions.Endings.{change_in}
 use Rattle.proposals.specs.declared.types.Round.{Round}
-use Rattle.proposals.specs.declared.types.Made.{Made}
+use Rattle.proposals.specs.definitions.Rounds.{Made}
 use Rattle.proposals.specs.declared.types.Ending.TheVariants.{Settled, GivenUp}
 
 pub two_less-set : (c : List Float) → set (map (sub binary64 nought) c) 0 (sub binary64 two (get_or c 0 nan)) ≡ two_less c
@@ -20,6 +20,17 @@ two_less-set (x ∷ c) = refl
 
 -- ---- the change
 
+-- a turn takes the first of what is left of both lists, until nothing is left
+pub change_turn : (d x y : Float) {u v : Float} {a a' b b' : List Float} → a ≡ u ∷ a' → b ≡ v ∷ b' → x ≡ difference u v → y ≡ greater d x
+    → change_from y a' b' ≡ change_from d a b
+unfolding change_from
+change_turn d x y ea eb ex ey = rw (ea, eb, ey, ex)
+
+pub change_none : (d : Float) (a b : List Float) → a ≡ [] → change_from d a b ≡ d
+unfolding change_from
+change_none d a b e = rw e
+
+-- the same by places
 change_step : (d : Float) (a b : List Float) (k : ℕ) → k < length a → k < length b
     → change_from d (drop k a) (drop k b) ≡ change_from (greater d (difference (get_or a k nan) (get_or b k nan))) (drop (k + 1) a) (drop (k + 1) b)
 unfolding change_from

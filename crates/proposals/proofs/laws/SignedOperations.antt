@@ -1,7 +1,7 @@
 -- Operations on a float of either sign, by any fraction ±a / c that it equals: the exact result, rounded once (ValueOperations.antt
 -- has those without sign). A number with the sign of minus is not zero.
 use borrow.Author.Tests.{lt-ltb, le-ltb}
-use Rattle.std.specs.Prelude.{◌≡◌, refl, Bool, ℕ, ◌+◌, ◌-◌, ◌*◌, ◌^◌, ◌≤◌, ◌<◌, ltb, ℤ, pos, Float}
+use Rattle.std.specs.Prelude.{◌≡◌, refl, Bool, ℕ, ◌+◌, ◌-◌, ◌*◌, ◌≤◌, ◌<◌, ℤ, pos, Float}
 use Rattle.std.proofs.Common.{sym, ◌∙◌, subst, mul-pos, lit<}
 use Rattle.std.proofs.Math.Path.{ap}
 use Rattle.std.proofs.Math.Bool.{true, false}
@@ -12,7 +12,7 @@ use Rattle.std.specs.Float.Ieee.Fits.{down_pos}
 use Rattle.std.specs.Float.Ieee.Exact.{HasValue}
 use Rattle.std.specs.Float.Ieee.Scale.{round_same}
 use Rattle.std.specs.Float.Ieee.Positive.{first_pos}
-use Rattle.proposals.specs.definitions.Values.{nought, two}
+use Rattle.proposals.specs.definitions.Values.{nought}
 use Rattle.proposals.specs.definitions.Product.{half}
 use Rattle.proposals.proofs.laws.ValueOperations.{product_crossed, add-nought, nought-add}
 

@@ -6,7 +6,7 @@ use Rattle.proposals.specs.definitions.Values.{nought, one, settled_limit}
 use Rattle.proposals.specs.definitions.Rounds.{round_of, next_round, finite_round}
 use Rattle.proposals.specs.definitions.Reciprocal.{constant_list, first_value}
 use Rattle.proposals.specs.declared.types.Round.{Round}
-use Rattle.proposals.specs.declared.types.Made.{Made}
+use Rattle.proposals.specs.definitions.Rounds.{Made}
 use Rattle.proposals.specs.declared.types.Ending.{Ending}
 use Rattle.proposals.specs.declared.types.Ending.TheVariants.{Settled, GivenUp}
 

@@ -1,9 +1,10 @@
 -- "A maker of quotients forms f times w likewise, its record keeping w."
-use Rattle.std.specs.Prelude.{◌&&◌, List, [], ◌∷◌, map, replicate, Float}
+use Rattle.std.specs.Prelude.{◌&&◌, List, [], ◌∷◌, map, replicate, Float, Result}
 use Rattle.model.specs.definitions.Models.{coefficient_count, bad_place, different_place}
 use Rattle.model.specs.definitions.Outcomes.{Outcome, outcome, judged}
 use Rattle.model.specs.declared.types.Model.{Model}
 use Rattle.model.specs.declared.types.Candidate.{Candidate}
+use Rattle.model.specs.declared.types.Refusal.{Refusal}
 use Rattle.proposals.specs.definitions.Values.{nought, all_finite}
 use Rattle.proposals.specs.definitions.Product.{product}
 use Rattle.proposals.specs.definitions.Units.{units_of, candidate_in, zero_candidate, not_finite_place, weight_place}
@@ -12,19 +13,13 @@ use Rattle.proposals.specs.declared.types.Round.{Round}
 use Rattle.proposals.specs.declared.types.Ending.{Ending}
 use Rattle.proposals.specs.declared.types.Ending.TheVariants.{GivenUp}
 use Rattle.proposals.specs.declared.types.QuotientRecord.{QuotientRecord}
-use Rattle.proposals.specs.declared.types.QuotientOutcome.{QuotientOutcome}
+pub use Rattle.proposals.specs.declared.types.Quotient.{Quotient}
 
 -- "its record keeping w": f·w, and the round with w
 abbrev pub quotient_record : List Float → Round → QuotientRecord
 quotient_record q r = record { quotient = q; round = r }
 
 -- what a maker of quotients makes: the outcome beside the record, and both lists in units
-pub record Quotient : Type 0 where
-  pub ending : Ending
-  pub recorded : QuotientRecord
-  pub h : Candidate
-  pub w : Candidate
-
 abbrev pub make_quotient : Ending → QuotientRecord → Candidate → Candidate → Quotient
 make_quotient e r h w = record { ending = e; recorded = r; h = h; w = w }
 
@@ -47,5 +42,5 @@ quotient_proposal f g =
 
 -- ---- what the code's answers mean
 
-abbrev pub quotient_of : QuotientOutcome → Outcome Quotient
-quotient_of r = judged r.verdict (make_quotient r.ending r.recorded r.h r.w)
+abbrev pub quotient_of : Result Quotient Refusal → Outcome Quotient
+quotient_of r = judged refused_quotient r

@@ -1,20 +1,20 @@
 -- "Add a maker of reciprocal proposals in f64": what it answers. Nothing of it is promised but these numbers: "only the ordinary
 -- test vouches for" a proposal.
-use Rattle.std.specs.Prelude.{false, cond, List, [], ◌∷◌, map, replicate, get_or, Float}
+use Rattle.std.specs.Prelude.{false, cond, List, [], ◌∷◌, map, replicate, get_or, Float, Result}
 use Rattle.std.specs.Float.{nan, binary64}
 use Rattle.std.specs.Float.Ieee.{div, eq}
 use Rattle.model.specs.definitions.Models.{coefficient_count, bad_place}
 use Rattle.model.specs.definitions.Outcomes.{Outcome, outcome, judged}
 use Rattle.model.specs.declared.types.Model.{Model}
 use Rattle.model.specs.declared.types.Candidate.{Candidate}
+use Rattle.model.specs.declared.types.Refusal.{Refusal}
 use Rattle.proposals.specs.definitions.Values.{nought, one, value_of}
-use Rattle.proposals.specs.definitions.Rounds.{round_of, made_of, max_rounds, rounds}
+use Rattle.proposals.specs.definitions.Rounds.{Made, round_of, made_of, max_rounds, rounds}
 use Rattle.proposals.specs.definitions.Units.{units_of, candidate_in, zero_candidate, not_finite_place, weight_place}
 use Rattle.proposals.specs.declared.types.Round.{Round}
-use Rattle.proposals.specs.declared.types.Made.{Made}
+pub use Rattle.proposals.specs.declared.types.Reciprocal.{Reciprocal}
 use Rattle.proposals.specs.declared.types.Ending.{Ending}
 use Rattle.proposals.specs.declared.types.Ending.TheVariants.{GivenUp}
-use Rattle.proposals.specs.declared.types.ReciprocalOutcome.{ReciprocalOutcome}
 
 -- the constant x
 unfoldable pub constant_list : Float → List Float
@@ -40,11 +40,6 @@ abbrev pub values_of : Model → List Float
 values_of g = map value_of g.coefficients
 
 -- what a maker of reciprocals makes: the outcome beside the record, and w in units
-pub record Reciprocal : Type 0 where
-  pub ending : Ending
-  pub round : Round
-  pub w : Candidate
-
 abbrev pub make_reciprocal : Ending → Round → Candidate → Reciprocal
 make_reciprocal e r w = record { ending = e; round = r; w = w }
 
@@ -63,5 +58,5 @@ reciprocal_proposal g =
 
 -- ---- what the code's answers mean
 
-abbrev pub reciprocal_of : ReciprocalOutcome → Outcome Reciprocal
-reciprocal_of r = judged r.verdict (make_reciprocal r.ending r.round r.w)
+abbrev pub reciprocal_of : Result Reciprocal Refusal → Outcome Reciprocal
+reciprocal_of r = judged refused_reciprocal r

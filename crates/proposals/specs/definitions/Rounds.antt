@@ -1,12 +1,14 @@
 -- "w becomes w times (2 − g·w), until settled, for at most 12 rounds."
-use Rattle.std.specs.Prelude.{Bool, true, false, ◌&&◌, cond, List, [], ◌∷◌, map, ℕ, zero, suc, Float}
+use Rattle.std.specs.Prelude.{Bool, true, false, ◌&&◌, cond, List, [], ◌∷◌, map, ℕ, zero, suc, Float, Result, Ok, Err}
 use Rattle.std.specs.Float.{binary64}
 use Rattle.std.specs.Float.Ieee.{sub, le}
 use Rattle.std.specs.Float.Ieee.Scale.{finite}
 use Rattle.proposals.specs.definitions.Values.{nought, two, settled_limit, difference, greater, all_finite}
 use Rattle.proposals.specs.definitions.Product.{product}
 use Rattle.proposals.specs.declared.types.Round.{Round}
-use Rattle.proposals.specs.declared.types.Made.{Made}
+use Rattle.proposals.specs.declared.types.FiniteRounds.{FiniteRounds}
+use Rattle.model.specs.declared.types.Refusal.{Refusal}
+use Rattle.model.specs.declared.types.Refusal.TheVariants.{NotFinite}
 use Rattle.proposals.specs.declared.types.Ending.{Ending}
 use Rattle.proposals.specs.declared.types.Ending.TheVariants.{Settled, GivenUp}
 
@@ -40,6 +42,11 @@ unfoldable pub finite_round : Round → Bool
 finite_round r = all_finite r.coefficients && finite r.change
 
 -- what comes of the rounds: whether they are finite (if not, number 15 is due), how they ended, and the last round
+pub record Made : Type 0 where
+  pub finite : Bool
+  pub ending : Ending
+  pub round : Round
+
 abbrev pub made_of : Bool → Ending → Round → Made
 made_of b e r = record { finite = b; ending = e; round = r }
 
@@ -55,3 +62,7 @@ rounds (suc n) g r =
     cond (finite_round s)
     (cond (le s.change settled_limit) (made_of true (Settled s.change) s) (rounds n g s))
     (made_of false (GivenUp s.change) s)
+
+-- what the code has of them
+abbrev pub found_finite : Made → Result FiniteRounds Refusal
+found_finite m = cond m.finite (Ok (record { ending = m.ending; round = m.round })) (Err NotFinite)

@@ -1,5 +1,5 @@
 -- "Turning an f64 into units is exact work on its bits: nearest whole number to value times S, ties to even."
-use Rattle.std.specs.Prelude.{Bool, true, false, not, List, [], ◌∷◌, map, ℕ, ◌*◌, ltb, ℤ, pos, neg_ℤ, Float}
+use Rattle.std.specs.Prelude.{Bool, true, false, not, List, [], ◌∷◌, map, ℕ, ◌*◌, ltb, ℤ, pos, neg_ℤ, Float, Result}
 use Rattle.std.specs.Float.{nan, inf, fin}
 use Rattle.std.specs.Float.Ieee.{up, down}
 use Rattle.integer.specs.definitions.Rounding.{near}
@@ -8,8 +8,8 @@ use Rattle.chebyshev.specs.definitions.Coefficients.{weight}
 use Rattle.model.specs.definitions.Models.{scale, max_degree, max_weight, coefficient_count}
 use Rattle.model.specs.definitions.Outcomes.{Outcome, outcome, judged}
 use Rattle.model.specs.declared.types.Candidate.{Candidate}
+use Rattle.model.specs.declared.types.Refusal.{Refusal}
 use Rattle.proposals.specs.definitions.Values.{all_finite}
-use Rattle.proposals.specs.declared.types.CandidateOutcome.{CandidateOutcome}
 
 -- n with the sign of a number that is negative or not
 abbrev pub signed : Bool → ℕ → ℤ
@@ -52,5 +52,5 @@ in_units v =
 
 -- ---- what the code's answers mean
 
-abbrev pub in_units_of : CandidateOutcome → Outcome Candidate
-in_units_of r = judged r.verdict r.candidate
+abbrev pub in_units_of : Result Candidate Refusal → Outcome Candidate
+in_units_of r = judged zero_candidate r

@@ -1,12 +1,11 @@
 -- The search for the least radius: up to v = ⌊(S−m)·S/(4·M)⌋ what satisfies stays so as r grows, from v + 1 on as r falls; so
 -- bisection up to v, and then v + 1, is enough.
-use Rattle.std.specs.Prelude.{◌≡◌, ℕ, ◌+◌, ◌*◌, ◌-◌, ◌/◌, ◌^◌, ◌≤◌, ◌<◌}
+use Rattle.std.specs.Prelude.{◌≡◌, ℕ, ◌+◌, ◌*◌, ◌-◌, ◌/◌, ◌^◌, ◌≤◌, ◌<◌, Some, None}
 use Rattle.std.proofs.Common.{subst, arith, mul-le-mul, mul-le-mul_left, mul-le-mul_right, le-div_iff_mul-le}
 use Rattle.std.proofs.Math.Decide.{dec_le}
 use Rattle.model.specs.definitions.Models.{scale}
 use Rattle.radius.specs.definitions.LeastRadius.{RadiusSatisfies, least_radius}
 use Rattle.radius.proofs.laws.LeastLaws.{least_is, least_missing}
-use Rattle.radius.specs.declared.types.FoundRadius.TheVariants.{Found, Missing}
 
 -- ---- every number of the test is below 2^61, formed as (2·M·r)·r + b·S² and (S−m)·S·r
 
@@ -60,18 +59,18 @@ module _ (M m b : ℕ) where
     below = λ k g e. f (falls M ((scale - m) * scale) (b * (scale * scale)) k mid (omega arith) (omega (arith, mul-le-mul_left (4 * M) l)) e);
   }
 
-  pub bracket_end : (low high : ℕ) → Bracket M m b low high → high ≤ low → high ≤ scale → least_radius M m b ≡ Found low
+  pub bracket_end : (low high : ℕ) → Bracket M m b low high → high ≤ low → high ≤ scale → least_radius M m b ≡ Some low
   bracket_end low high w l h =
       let e : high ≡ low = omega (arith, w.ordered) in
       least_is M m b low (record { within = omega arith; satisfies = rw (← e) w.high_satisfies; least = w.below })
 
   -- ---- the answers without a loop
 
-  pub large_displacement : scale < b → least_radius M m b ≡ Missing
+  pub large_displacement : scale < b → least_radius M m b ≡ None
   large_displacement h =
       (least_missing M m b).1 (λ r l f. let g : scale - m ≤ scale = omega arith in absurd (omega (arith, mul-le-mul g l)))
 
-  pub no_displacement : b ≡ 0 → least_radius M m b ≡ Found 0
+  pub no_displacement : b ≡ 0 → least_radius M m b ≡ Some 0
   no_displacement e =
       least_is M m b 0 (record { within = omega arith; satisfies = omega arith; least = λ k l. absurd (omega arith) })
 
@@ -80,12 +79,12 @@ module _ (M m b : ℕ) where
     below_next : ¬ RadiusSatisfies M m b v → (k : ℕ) → k < v + 1 → ¬ RadiusSatisfies M m b k
     below_next f k l e = f (falls M ((scale - m) * scale) (b * (scale * scale)) k v (omega arith) at_v e)
 
-    pub next_found : ¬ RadiusSatisfies M m b v → v < scale → RadiusSatisfies M m b (v + 1) → least_radius M m b ≡ Found (v + 1)
+    pub next_found : ¬ RadiusSatisfies M m b v → v < scale → RadiusSatisfies M m b (v + 1) → least_radius M m b ≡ Some (v + 1)
     next_found f l g = least_is M m b (v + 1) (record { within = omega arith; satisfies = g; least = below_next f })
 
     -- and where v is the greatest with 4·M·v ≤ (S−m)·S and v + 1 does not satisfy either, nothing does
     pub next_missing : (scale - m) * scale < 4 * M * (v + 1) → ¬ RadiusSatisfies M m b v → ¬ RadiusSatisfies M m b (v + 1)
-        → least_radius M m b ≡ Missing
+        → least_radius M m b ≡ None
     next_missing beyond f g = (least_missing M m b).1 (λ r l e. pick r e (dec_le (v + 1) r))
       where
         pick : (r : ℕ) → RadiusSatisfies M m b r → ¬ Dec (v + 1 ≤ r)
@@ -93,7 +92,7 @@ module _ (M m b : ℕ) where
         pick r e (no h) = below_next f r (omega arith) e
 
   -- where v is S or more, nothing satisfies if S does not
-  pub scale_missing : 4 * M * scale ≤ (scale - m) * scale → ¬ RadiusSatisfies M m b scale → least_radius M m b ≡ Missing
+  pub scale_missing : 4 * M * scale ≤ (scale - m) * scale → ¬ RadiusSatisfies M m b scale → least_radius M m b ≡ None
   scale_missing h f =
       (least_missing M m b).1 (λ r l e. f (falls M ((scale - m) * scale) (b * (scale * scale)) r scale l h e))
 

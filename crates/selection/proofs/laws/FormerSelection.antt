@@ -1,21 +1,15 @@
 -- Document 02, S-24: of f and g on the interval −S..S the selection is the former one, whatever the scratch and the proposals.
-use Rattle.std.specs.Prelude.{◌≡◌, cond, List, ℕ, ltb, ℤ, length, drop}
+use Rattle.std.specs.Prelude.{◌≡◌, cond, List, ℕ, ltb, ℤ, length}
 use Rattle.std.proofs.Math.Path.{ap}
 use Rattle.std.proofs.Common.{ap₂}
-use Rattle.model.specs.definitions.Area.{area_candidate}
 use Rattle.model.specs.definitions.Intervals.{standard_interval}
 use Rattle.model.specs.definitions.Outcomes.{Outcome, refused, map_outcome}
 use Rattle.model.specs.declared.types.Model.{Model}
-use Rattle.certificate.specs.definitions.Tests.{Certificate, zero_certificate}
-use Rattle.certificate.proofs.laws.FormerTests.{former_quotient, quotient_former}
+use Rattle.certificate.specs.definitions.Tests.{zero_certificate}
+use Rattle.certificate.proofs.laws.FormerTests.{quotient_former}
+use Rattle.selection.proofs.laws.FormerProposal.{former_proposal}
 use Rattle.selection.specs.definitions.Proposal.{proposed_answer, proposed_helper, result_radius, proposal_needing}
 use Rattle.selection.specs.definitions.Select.{Selected, tighter, selection}
-
--- "A proposal is 68 numbers, degree and 33 coefficients for h and then for w"; "A shorter one fails with 1, by itself"; a test
--- needs a scratch of 16
-unfoldable pub former_proposal : ℕ → Model → Model → List ℤ → Outcome Certificate
-former_proposal len f g s =
-    cond (ltb (length s) 68) (refused 1 zero_certificate) (former_quotient 16 len f g (area_candidate s) (area_candidate (drop 34 s)))
 
 -- "an entry that tests both"
 abbrev pub former_selection : ℕ → Model → Model → List ℤ → List ℤ → Outcome Selected

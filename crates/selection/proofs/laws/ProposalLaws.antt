@@ -1,20 +1,20 @@
 -- One proposal: where it or the scratch is short, where it passes, and what a test that passes says of its coefficients.
-use Rattle.std.specs.Prelude.{◌≡◌, Bool, List, ℕ, ◌≤◌, ◌<◌, ltb, ℤ, length, take, drop}
+use Rattle.std.specs.Prelude.{◌≡◌, Bool, List, Result, Ok, Err, IfOk, ℕ, ◌≤◌, ◌<◌, ltb, ℤ, length, take, drop}
+use Rattle.std.specs.Result.{result_map_both}
 use Rattle.std.proofs.Math.Path.{refl, ap}
 use Rattle.std.proofs.Common.{sym, ◌∙◌, arith, ltb-true, ltb-false, le-ltb, lt-ltb}
 use Rattle.std.proofs.Math.Bool.{true, false, cond}
 use Rattle.model.specs.definitions.Models.{product_size, make_model, zero_model}
 use Rattle.model.specs.definitions.Area.{candidate_size, area_candidate}
 use Rattle.model.proofs.laws.AreaLaws.{candidate_front}
-use Rattle.model.specs.definitions.Outcomes.{accepted, refused, map_outcome, judged}
+use Rattle.model.specs.definitions.Outcomes.{Outcome, accepted, refused, map_outcome, judged}
 use Rattle.model.proofs.laws.PlaceLaws.{refused_not_accepted}
-use Rattle.model.proofs.laws.OutcomeLaws.{accepted_judged, judged_mapped}
 use Rattle.model.specs.definitions.Allowed.{AllowsAt}
 use Rattle.model.specs.declared.types.Model.{Model}
 use Rattle.model.specs.declared.types.Candidate.{Candidate}
-use Rattle.model.specs.declared.types.Verdict.TheVariants.{Accepted}
-use Rattle.certificate.specs.definitions.Tests.{scratch_size, Certificate, zero_certificate, test_of}
-use Rattle.certificate.specs.declared.types.TestOutcome.{TestOutcome}
+use Rattle.model.specs.declared.types.Refusal.{Refusal}
+use Rattle.certificate.specs.definitions.Tests.{scratch_size, Certificate, zero_certificate, refused_test, test_of}
+use Rattle.certificate.specs.declared.types.Certificate.{Certificate as CodeCertificate}
 use Rattle.certificate.specs.definitions.Quotient.{quotient_test, quotient_model}
 use Rattle.certificate.specs.definitions.Promise.{QuotientAllowed}
 use Rattle.certificate.proofs.laws.GroupTheorem.{quotient_as_65, quotient_below_16}
@@ -61,16 +61,26 @@ module _ (len : ℕ) (f g : Model) (s : List ℤ) where
 
   -- the code's candidates are read from two parts of the proposal
   pub test_read : (h w : Candidate) → proposal_size ≤ length s → h ≡ area_candidate (take candidate_size s)
-      → w ≡ area_candidate (take candidate_size (drop candidate_size s)) → (t : TestOutcome) → test_of t ≡ quotient_test len f g h w
-      → test_of t ≡ proposal_test len f g s
-  test_read h w long eh ew t et =
+      → w ≡ area_candidate (take candidate_size (drop candidate_size s)) → {o : Outcome Certificate} → o ≡ quotient_test len f g h w
+      → o ≡ proposal_test len f g s
+  test_read h w long eh ew e =
       let i = eh ∙ candidate_front candidate_size s (omega arith) in
       let j = ew ∙ candidate_front candidate_size (drop candidate_size s) (omega arith) in
-      et ∙ (λ k. quotient_test len f g (i k) (j k)) ∙ sym (proposal_long long)
+      e ∙ (λ k. quotient_test len f g (i k) (j k)) ∙ sym (proposal_long long)
 
   -- and its radius from the test's result
-  pub proposal_read : (t : TestOutcome) → test_of t ≡ proposal_test len f g s → judged t.verdict t.model.radius ≡ proposal_radius len f g s
-  proposal_read t e = judged_mapped result_radius t.verdict _ ∙ ap (map_outcome result_radius) e
+  pub proposal_read : (t : Result CodeCertificate Refusal) → test_of t ≡ proposal_test len f g s
+      → judged 0 (result_map_both (λ (c : CodeCertificate). c.model.radius) (λ (r : Refusal). r) t) ≡ proposal_radius len f g s
+  unfolding zero_model
+  proposal_read (Ok c) e = ap (map_outcome result_radius) e
+  proposal_read (Err r) e = ap (map_outcome result_radius) e
+
+  pub passed_radius : (c : Certificate) → accepted c ≡ proposal_test len f g s → accepted (result_radius c) ≡ proposal_radius len f g s
+  passed_radius c e = ap (map_outcome result_radius) e
+
+  pub refused_radius : (n : ℕ) → refused_test n ≡ proposal_test len f g s → refused n 0 ≡ proposal_radius len f g s
+  unfolding zero_model
+  refused_radius n e = ap (map_outcome result_radius) e
 
 -- ---- a proposal that passes
 
@@ -111,6 +121,7 @@ module _ (len : ℕ) (f g : Model) (s : List ℤ) where
       part_allowed (proposal_result len f g s passes) (quotient_allowed len f g (proposed_answer s) (proposed_helper s) (test_passes len f g s passes))
 
   -- of the code's test, from what is promised of its result
-  pub proposal_promised : (t : TestOutcome) → test_of t ≡ proposal_test len f g s → (t.verdict ≡ Accepted → QuotientAllowed f g t.model)
-      → t.verdict ≡ Accepted → QuotientAllowed f g (part_model (proposed_answer s).coefficients t.model.radius f.interval)
-  proposal_promised t e promise a = part_allowed (proposal_result len f g s (accepted_judged t.verdict _ e a)) (promise a)
+  pub proposal_promised : (t : Result CodeCertificate Refusal) → test_of t ≡ proposal_test len f g s → IfOk t (λ c. QuotientAllowed f g c.model)
+      → IfOk t (λ c. QuotientAllowed f g (part_model (proposed_answer s).coefficients c.model.radius f.interval))
+  proposal_promised (Ok c) e promise = part_allowed (proposal_result len f g s (sym e)) promise
+  proposal_promised (Err r) e promise = tt

@@ -1,5 +1,5 @@
 -- What a selection tells of the two proposals, what the lent numbers mean, and how long the scratch must be.
-use Rattle.std.specs.Prelude.{◌≡◌, refl, ◌⊎◌, Bool, true, false, cond, List, ℕ, ◌≤◌, ◌<◌, min, eqb, ltb, ℤ}
+use Rattle.std.specs.Prelude.{◌≡◌, refl, ◌⊎◌, Bool, true, false, cond, List, ℕ, ◌≤◌, ◌<◌, min, eqb, ltb, ℤ, Result, Ok, Err}
 use Rattle.std.proofs.Common.{sym, ◌∙◌, ap, inl, inr, ⊎_elim, arith, ltb-true, ltb-false, le-ltb, lt-ltb, eqb-true}
 use Rattle.std.proofs.Math.Path.{ap₂}
 use Rattle.model.specs.definitions.Models.{product_size, zero_model}
@@ -7,14 +7,14 @@ use Rattle.model.specs.definitions.Outcomes.{Outcome, accepted, refused, number,
 use Rattle.model.proofs.laws.PlaceLaws.{refused_not_accepted}
 use Rattle.model.proofs.laws.OutcomeLaws.{judged_injective, number_of_injective}
 use Rattle.model.specs.declared.types.Model.{Model}
+use Rattle.model.specs.declared.types.Refusal.{Refusal}
 use Rattle.certificate.specs.definitions.Tests.{scratch_size}
 use Rattle.selection.specs.definitions.Proposal.{result_radius, proposal_of}
-use Rattle.selection.specs.definitions.Select.{Selected, make_selected, tighter, selection, selection_needing, selection_of, selected_of}
+use Rattle.selection.specs.definitions.Select.{Selected, make_selected, tighter, selection, selection_needing, selected_by, selection_of, selected_of}
 use Rattle.selection.specs.definitions.Promise.{Tightest}
 use Rattle.selection.proofs.laws.ProposalLaws.{proposal_as_65, proposal_below_16}
-use Rattle.selection.specs.declared.types.ProposalOutcome.{ProposalOutcome}
-use Rattle.selection.specs.declared.types.Selection.{Selection}
-use Rattle.selection.specs.declared.types.Selection.TheVariants.{First, Second, Neither}
+use Rattle.selection.specs.declared.types.Chosen.{Chosen}
+use Rattle.selection.specs.declared.types.Chosen.TheVariants.{First, Second}
 
 -- ---- the cases, as the code meets them
 
@@ -107,20 +107,20 @@ selected_of_injective n c e m d r h =
       ap (λ (s : Selected). s.radius) p,
     )
 
-pub proposal_of_injective : (r s : ProposalOutcome) → proposal_of r ≡ proposal_of s → r ≡ s
-proposal_of_injective r s e =
-    let (v, x) = judged_injective r.verdict s.verdict r.radius s.radius e in λ i. record { verdict = v i; radius = x i }
+pub proposal_of_injective : (r s : Result ℕ Refusal) → proposal_of r ≡ proposal_of s → r ≡ s
+proposal_of_injective r s e = judged_injective 0 r s e
 
-pub selection_of_injective : (r s : Selection) → selection_of r ≡ selection_of s → r ≡ s
-selection_of_injective (First e) (First d) h = ap (λ (o : Outcome Selected). First (payload o).radius) h
-selection_of_injective (First e) (Second d) h = absurd (omega (arith, ap (λ (o : Outcome Selected). (payload o).chosen) h))
-selection_of_injective (First e) (Neither v) h = absurd (refused_not_accepted (sym h))
-selection_of_injective (Second e) (First d) h = absurd (omega (arith, ap (λ (o : Outcome Selected). (payload o).chosen) h))
-selection_of_injective (Second e) (Second d) h = ap (λ (o : Outcome Selected). Second (payload o).radius) h
-selection_of_injective (Second e) (Neither v) h = absurd (refused_not_accepted (sym h))
-selection_of_injective (Neither v) (First d) h = absurd (refused_not_accepted h)
-selection_of_injective (Neither v) (Second d) h = absurd (refused_not_accepted h)
-selection_of_injective (Neither v) (Neither u) h = ap Neither (number_of_injective v u (ap number h))
+selected_by_injective : (a b : Chosen) → selected_by a ≡ selected_by b → a ≡ b
+selected_by_injective (First e) (First d) h = ap (λ (s : Selected). First s.radius) h
+selected_by_injective (First e) (Second d) h = absurd (omega (arith, ap (λ (s : Selected). s.chosen) h))
+selected_by_injective (Second e) (First d) h = absurd (omega (arith, ap (λ (s : Selected). s.chosen) h))
+selected_by_injective (Second e) (Second d) h = ap (λ (s : Selected). Second s.radius) h
+
+pub selection_of_injective : (r s : Result Chosen Refusal) → selection_of r ≡ selection_of s → r ≡ s
+selection_of_injective (Ok a) (Ok b) h = ap Ok (selected_by_injective a b (ap payload h))
+selection_of_injective (Ok a) (Err u) h = absurd (refused_not_accepted (sym h))
+selection_of_injective (Err v) (Ok b) h = absurd (refused_not_accepted h)
+selection_of_injective (Err v) (Err u) h = ap Err (number_of_injective v u (ap number h))
 
 -- ---- the scratch
 

@@ -1,12 +1,12 @@
 -- Document 02, S-14: the test of one proposal.
-use Rattle.std.specs.Prelude.{cond, List, ℕ, ltb, ℤ, length, drop}
+use Rattle.std.specs.Prelude.{cond, List, ℕ, ltb, ℤ, length, drop, Result}
 use Rattle.model.specs.definitions.Area.{candidate_size, area_candidate}
 use Rattle.model.specs.definitions.Outcomes.{Outcome, refused, map_outcome, judged}
 use Rattle.model.specs.declared.types.Model.{Model}
 use Rattle.model.specs.declared.types.Candidate.{Candidate}
+use Rattle.model.specs.declared.types.Refusal.{Refusal}
 use Rattle.certificate.specs.definitions.Tests.{scratch_size, Certificate, zero_certificate}
 use Rattle.certificate.specs.definitions.Quotient.{quotient_needing}
-use Rattle.selection.specs.declared.types.ProposalOutcome.{ProposalOutcome}
 
 -- "A proposal is 68 numbers, degree and 33 coefficients for h and then for w"
 abbrev pub proposal_size : ℕ
@@ -39,5 +39,5 @@ abbrev pub proposal_radius : ℕ → Model → Model → List ℤ → Outcome �
 proposal_radius len f g s = radius_needing scratch_size len f g s
 
 -- what the code's answer means
-abbrev pub proposal_of : ProposalOutcome → Outcome ℕ
-proposal_of r = judged r.verdict r.radius
+abbrev pub proposal_of : Result ℕ Refusal → Outcome ℕ
+proposal_of r = judged 0 r

@@ -1,13 +1,14 @@
 -- Document 02, S-14: the tighter of two proposals, and "the tighter proposal's coefficients as that part of the caller's own
 -- numbers, with its radius".
-use Rattle.std.specs.Prelude.{◌≡◌, cond, List, [], ℕ, ◌+◌, eqb, ltb, ℤ}
+use Rattle.std.specs.Prelude.{◌≡◌, cond, List, [], ℕ, ◌+◌, eqb, ltb, ℤ, Result, Ok, Err}
 use Rattle.std.specs.Borrow.{Bor}
 use Rattle.model.specs.definitions.Outcomes.{Outcome, accepted, refused, number_of}
 use Rattle.model.specs.declared.types.Model.{Model}
+use Rattle.model.specs.declared.types.Refusal.{Refusal}
 use Rattle.certificate.specs.definitions.Tests.{scratch_size}
 use Rattle.selection.specs.definitions.Proposal.{proposed_answer, radius_needing}
-use Rattle.selection.specs.declared.types.Selection.{Selection}
-use Rattle.selection.specs.declared.types.Selection.TheVariants.{First, Second, Neither}
+use Rattle.selection.specs.declared.types.Chosen.{Chosen}
+use Rattle.selection.specs.declared.types.Chosen.TheVariants.{First, Second}
 
 -- ---- the selection
 
@@ -35,10 +36,13 @@ abbrev pub selection : ℕ → Model → Model → List ℤ → List ℤ → Out
 selection len f g first second = selection_needing scratch_size len f g first second
 
 -- what the code's answer means
-abbrev pub selection_of : Selection → Outcome Selected
-selection_of (First e) = accepted (make_selected 1 e)
-selection_of (Second d) = accepted (make_selected 2 d)
-selection_of (Neither v) = refused (number_of v) (make_selected 0 0)
+abbrev pub selected_by : Chosen → Selected
+selected_by (First e) = make_selected 1 e
+selected_by (Second d) = make_selected 2 d
+
+abbrev pub selection_of : Result Chosen Refusal → Outcome Selected
+selection_of (Ok c) = accepted (selected_by c)
+selection_of (Err v) = refused (number_of v) (make_selected 0 0)
 
 -- what the lent numbers mean: 0 beside the chosen proposal and its radius, or a refusal's number beside both
 abbrev pub selected_of : ℕ → ℕ → ℕ → Outcome Selected

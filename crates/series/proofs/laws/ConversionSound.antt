@@ -1,5 +1,5 @@
 -- Document 02, S-3: "Each converted model allows the series' exact value at every fraction from −1 to 1." And it is a good model.
-use Rattle.std.specs.Prelude.{◌≡◌, refl, true, List, [], ◌∷◌, ℕ, zero, suc, ◌+◌, ◌-◌, ◌≤◌, ℤ, pos, length, take, drop, replicate}
+use Rattle.std.specs.Prelude.{◌≡◌, refl, true, List, [], ◌∷◌, ℕ, zero, suc, ◌+◌, ◌-◌, ◌≤◌, ℤ, pos, length, take, drop, replicate, Result, Ok, Err, IfOk}
 use Rattle.std.proofs.Common.{sym, ◌∙◌, ap, ap₂, subst, arith, length-take, take_all}
 use Rattle.std.proofs.Math.Path.{subst⁻¹}
 use Rattle.std.proofs.lemmas.Bool.{not-false}
@@ -20,12 +20,10 @@ use Rattle.model.proofs.laws.IntervalLaws.{within}
 use Rattle.model.proofs.laws.StandardInterval.{standard_ends, position_standard, on_standard}
 use Rattle.model.specs.definitions.Allowed.{position, AllowsAt, Allows}
 use Rattle.model.proofs.laws.PlaceLaws.{outcome_accepted}
-use Rattle.model.proofs.laws.OutcomeLaws.{accepted_judged}
 use Rattle.model.proofs.laws.RoundingPassLaws.{rounding_value, rounded-length}
 use Rattle.model.proofs.laws.ValueLaws.{value_at, value_at_add, value_at_scale, value_at_append_zeros, scale_nonzero}
 use Rattle.model.specs.declared.types.Model.{Model}
-use Rattle.model.specs.declared.types.ModelOutcome.{ModelOutcome}
-use Rattle.model.specs.declared.types.Verdict.TheVariants.{Accepted}
+use Rattle.model.specs.declared.types.Refusal.{Refusal}
 use Rattle.series.specs.definitions.Table.{expansion_unit, expansion_row}
 use Rattle.series.specs.definitions.Convert.{series_terms, good_series, expanded_from, expanded, series_model, conversion_places, conversion}
 use Rattle.series.specs.definitions.SeriesValue.{power, series_from, series_value}
@@ -109,11 +107,10 @@ conversion_sound s {m} e x above below =
     let at_x = subst⁻¹ (λ r. AllowsAt r x v) p.1 (series_sound s (not-false (good_series s) p.0.0) x near) in
     subst⁻¹ (λ i. AllowsAt m (position i x) v) (conversion_interval s e) (subst⁻¹ (λ y. AllowsAt m y v) (position_standard x) at_x)
 
--- both, of the code's model where its verdict is an acceptance
-pub series_allowed : (s : Series) (r : ModelOutcome) → outcome_of r ≡ conversion s → r.verdict ≡ Accepted → SeriesAllowed s r.model
-series_allowed s r e a =
-    let given = accepted_judged r.verdict r.model e a in
-    record { value = conversion_sound s given; interval = conversion_interval s given }
+-- both, of the code's model where it answers one
+pub series_allowed : (s : Series) (r : Result Model Refusal) → outcome_of r ≡ conversion s → IfOk r (λ m. SeriesAllowed s m)
+series_allowed s (Ok m) e = record { value = conversion_sound s (sym e); interval = conversion_interval s (sym e) }
+series_allowed s (Err r) e = tt
 
 -- the promise put to use
 pub allowed_series : {s : Series} {m : Model} → SeriesAllowed s m → (x : ℚ) → (-ℚ whole (pos 1)) ≤ℚ x → x ≤ℚ whole (pos 1)

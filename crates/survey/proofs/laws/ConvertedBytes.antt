@@ -1,5 +1,5 @@
 -- Which bytes a conversion leaves alone, and what commands two jobs hold whose bytes agree.
-use Rattle.std.specs.Prelude.{◌≡◌, refl, Bool, true, false, cond, ◌≢◌, List, ◌∷◌, length, set, ℤ}
+use Rattle.std.specs.Prelude.{◌≡◌, refl, Bool, true, false, cond, ◌≢◌, List, ◌∷◌, length, ℤ}
 use Rattle.std.proofs.Common.{ap, ap₂, ◌∙◌, arith, length-set, get_or-set_other}
 use Prim.Native.Nat.{ℕ, zero, suc, ◌+◌, ◌*◌, ◌≤◌, ◌<◌}
 use Rattle.model.specs.definitions.Intervals.{make_interval}

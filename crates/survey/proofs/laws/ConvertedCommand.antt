@@ -1,27 +1,25 @@
 -- One command of a converted job: it reads as well as the source's, and its operation gives the same.
-use Rattle.std.specs.Prelude.{◌≡◌, Bool, true, false, not, cond, ◌&&◌, List, [], ◌∷◌, ◌++◌, ℕ, zero, suc, ◌+◌, ◌*◌, ◌-◌, ◌≤◌, ◌<◌, leb, ltb, eqb, length, set}
+use Rattle.std.specs.Prelude.{◌≡◌, Bool, true, false, not, cond, ◌&&◌, List, [], ◌∷◌, ℕ, ◌+◌, ◌≤◌, leb, ltb, eqb, length}
 use Rattle.std.proofs.Math.Path.{refl, ap, ap₂}
-use Rattle.std.proofs.Common.{sym, subst, ◌∙◌, true≢false, arith, eqb-true, ne_eqb, le-ltb, ltb-false}
-use Rattle.std.proofs.lemmas.Bool.{eqb-false}
+use Rattle.std.proofs.Common.{subst, ◌∙◌, true≢false, arith, ne_eqb, le-ltb}
 use Rattle.std.proofs.Math.Seq.{get_or-set_same}
 use Rattle.model.specs.definitions.Intervals.{standard_interval}
 use Rattle.model.specs.definitions.Models.{max_degree}
-use Rattle.model.specs.definitions.Outcomes.{Outcome, Passed, passing, outcome}
+use Rattle.model.specs.definitions.Outcomes.{Passed, outcome}
 use Rattle.model.specs.definitions.Multiply.{bad_kept, kept_degree, product_model, multiplication_places}
 use Rattle.model.proofs.laws.MultiplicationLaws.{kept_is, kept_within}
 use Rattle.model.proofs.laws.PlaceLaws.{passing_passed}
 use Rattle.model.specs.declared.types.Interval.{Interval}
 use Rattle.model.specs.declared.types.Model.{Model}
-use Rattle.certificate.specs.definitions.Tests.{Certificate, zero_certificate}
+use Rattle.certificate.specs.definitions.Tests.{zero_certificate}
 use Rattle.job.specs.definitions.Bytes.{byte_at, unsigned_at, block_at, interval_at}
 use Rattle.job.specs.definitions.Operations.{Maker, load, add, subtract, multiply, quotient, root, result_at, names_bad, maker_places, operation, untested}
-use Rattle.job.specs.definitions.Decode.{command_bytes, kind_in, edition_of, kept_byte, operands_for, maker_at, layout_for, Command, edition, result, finish, unknown, command_at}
+use Rattle.job.specs.definitions.Decode.{command_bytes, kind_in, edition_of, kept_byte, operands_for, maker_at, layout_for, command_at}
 use Rattle.job.specs.definitions.Reading.{max_results, bad_kind, bad_values, bad_names, makes_result, is_end, reading_places}
 use Rattle.job.specs.definitions.Step.{performed, command}
 use Rattle.job.specs.declared.types.Operation.{Operation}
 use Rattle.job.specs.declared.types.Operation.TheVariants.{Load, LoadOn, Add, Subtract, Multiply, Quotient, Root}
 use Rattle.job.specs.declared.types.Kind.{Kind}
-use Rattle.job.specs.declared.types.Kind.TheVariants.{End, Edition, Result, Unknown}
 use Rattle.survey.specs.definitions.Degrees.{degree_at, degrees_after}
 use Rattle.survey.specs.definitions.Editions.{other_edition, maker_converted, command_converted, convert_from}
 use Rattle.survey.proofs.laws.DegreeLaws.{degrees_in, degree_at_lem, Small, KeptGood}

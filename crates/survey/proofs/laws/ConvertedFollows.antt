@@ -1,10 +1,10 @@
 -- A command of the converted job: it is of the source's kind, and reading takes it as it took the source's.
-use Rattle.std.specs.Prelude.{◌≡◌, refl, Bool, true, false, List, [], ◌∷◌, ◌++◌, ℕ, ◌+◌, ◌≤◌, ◌<◌, length, set}
-use Rattle.std.proofs.Common.{sym, ap, ◌∙◌, true≢false, arith, ltb-false, length-set, get_or-set_same, get_or-set_other}
+use Rattle.std.specs.Prelude.{◌≡◌, refl, false, List, [], ◌∷◌, ◌++◌, ℕ, ◌+◌, ◌≤◌, length, set}
+use Rattle.std.proofs.Common.{ap, ◌∙◌, true≢false, arith, ltb-false, length-set, get_or-set_same, get_or-set_other}
 use Rattle.model.specs.definitions.Outcomes.{Passed}
 use Rattle.job.specs.definitions.Bytes.{byte_at}
 use Rattle.job.specs.definitions.Operations.{Maker, names_bad}
-use Rattle.job.specs.definitions.Decode.{command_bytes, kind_in, maker_at, layout_for, operands_for, command_at}
+use Rattle.job.specs.definitions.Decode.{command_bytes, kind_in, maker_at, layout_for, operands_for}
 use Rattle.job.specs.definitions.Reading.{bad_values}
 use Rattle.job.specs.declared.types.Operation.{Operation}
 use Rattle.job.specs.declared.types.Operation.TheVariants.{Load, LoadOn, Add, Subtract, Multiply, Quotient, Root}

@@ -1,7 +1,6 @@
 -- What a caller holds after an accepted conversion.
-use Rattle.std.specs.Prelude.{◌≡◌, refl, Bool, true, false, cond, List, ◌++◌, ℕ, leb, length, take, drop, replicate}
-use Rattle.std.proofs.Common.{sym, ap, subst, ◌∙◌, arith, leb-true, take_at, drop_at}
-use Rattle.job.specs.definitions.Decode.{Command}
+use Rattle.std.specs.Prelude.{◌≡◌, refl, Bool, true, false, cond, List, ℕ, leb, length, take, drop, replicate}
+use Rattle.std.proofs.Common.{sym, ap, subst, ◌∙◌, arith, take_at, drop_at}
 use Rattle.job.specs.definitions.Outcomes.{JobOutcome, accepted, refused}
 use Rattle.job.specs.definitions.Reader.{JobReading, well, ill, job_reading, ReadsWell}
 use Rattle.survey.specs.definitions.Editions.{converted, ConvertedJob, conversion_by, edition_conversion, output_by, output_after}

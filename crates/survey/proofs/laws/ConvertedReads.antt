@@ -1,15 +1,13 @@
 -- A converted job reads well, so that it can be converted back.
 use Rattle.std.specs.Prelude.{◌≡◌, List, [], ◌∷◌, ◌++◌, length}
 use Rattle.std.proofs.Math.Path.{refl}
-use Rattle.std.proofs.Common.{sym, ap, subst, ◌∙◌, true≢false, arith, length-append}
+use Rattle.std.proofs.Common.{ap, subst, ◌∙◌, true≢false, arith, length-append}
 use Prim.Native.Nat.{ℕ, zero, suc, ◌+◌}
 use Rattle.model.specs.definitions.Outcomes.{Passed}
 use Rattle.model.proofs.laws.PlaceLaws.{passing_passed}
-use Rattle.job.specs.definitions.Operations.{Maker}
 use Rattle.job.specs.definitions.Decode.{maker_at, Command, result, command_at}
 use Rattle.job.specs.definitions.Reading.{reading_places}
-use Rattle.job.specs.definitions.Reader.{JobReading, well, ill, read_on, read_from, job_reading, ReadsWell}
-use Rattle.job.specs.declared.types.Operation.{Operation}
+use Rattle.job.specs.definitions.Reader.{well, read_on, read_from, job_reading, ReadsWell}
 use Rattle.job.specs.declared.types.Kind.{Kind}
 use Rattle.job.specs.declared.types.Kind.TheVariants.{End, Edition, Result, Unknown}
 use Rattle.survey.specs.definitions.Degrees.{maker_degree}
@@ -17,7 +15,7 @@ use Rattle.survey.specs.definitions.Editions.{convert_from, converted}
 use Rattle.survey.proofs.laws.DegreeLaws.{Small, small_none, small_more, degree_small}
 use Rattle.survey.proofs.laws.ConvertedBytes.{convert_length}
 use Rattle.survey.proofs.laws.ConvertedCommand.{next_for, places_for, kind_at, Copied}
-use Rattle.survey.proofs.laws.ConvertedFollows.{edition_copied, maker_copied, by, Follows, kept, follows}
+use Rattle.survey.proofs.laws.ConvertedFollows.{edition_copied, maker_copied, by, kept, follows}
 use Rattle.survey.proofs.laws.ConvertedSame.{job_copied, none_left, source_reads}
 
 read_by : (J : List ℕ) (f k : ℕ) (cs : List Command) (at : ℕ) (kind : Kind) → kind_at J at ≡ kind → Passed (places_for kind J k (length cs) at)

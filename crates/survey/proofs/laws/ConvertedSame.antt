@@ -5,13 +5,13 @@ use Rattle.std.proofs.Common.{ap, subst, ◌∙◌, true≢false, arith, length-
 use mathlib.Core.List.{List, [], ◌∷◌, ◌++◌}
 use Prim.Native.Nat.{ℕ, zero, suc, ◌+◌}
 use Rattle.model.specs.definitions.Outcomes.{Outcome, Passed}
-use Rattle.model.proofs.laws.PlaceLaws.{passing_passed, passing_unrefused}
+use Rattle.model.proofs.laws.PlaceLaws.{passing_unrefused}
 use Rattle.model.specs.declared.types.Model.{Model}
 use Rattle.certificate.specs.definitions.Tests.{Certificate}
 use Rattle.job.specs.definitions.Operations.{Maker, operation}
 use Rattle.job.specs.definitions.Decode.{maker_at, Command, result, command_at}
 use Rattle.job.specs.definitions.Reading.{reading_places, command_read, next_at}
-use Rattle.job.specs.definitions.Reader.{JobReading, well, ill, read_on, read_from, job_reading, ReadsWell}
+use Rattle.job.specs.definitions.Reader.{JobReading, well, ill, read_on, read_from, job_reading}
 use Rattle.job.specs.definitions.Step.{resulting, command}
 use Rattle.job.specs.definitions.Run.{onward, run, job_outcome}
 use Rattle.job.specs.declared.types.Operation.{Operation}
@@ -21,7 +21,7 @@ use Rattle.survey.specs.definitions.Degrees.{maker_degree}
 use Rattle.survey.specs.definitions.Editions.{maker_converted, convert_from, converted}
 use Rattle.survey.proofs.laws.DegreeLaws.{degrees_in, degrees_more, Small, small_none, small_more, KeptGood, degree_small, operation_degree}
 use Rattle.survey.proofs.laws.ConvertedBytes.{convert_length}
-use Rattle.survey.proofs.laws.ConvertedCommand.{next_for, places_for, kind_at, command_by, stated, Copied, operation_stated}
+use Rattle.survey.proofs.laws.ConvertedCommand.{next_for, places_for, kind_at, command_by, Copied, operation_stated}
 use Rattle.survey.proofs.laws.ConvertedFollows.{edition_copied, maker_copied, by, Follows, kept, maker_is, follows}
 
 pub ill_not_well : (n k : ℕ) (cs : List Command) → ¬ (ill n k ≡ well cs)

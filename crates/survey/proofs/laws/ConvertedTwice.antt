@@ -1,14 +1,13 @@
 -- A job that was converted: its edition, its kept degrees, and its conversion.
 use Rattle.std.proofs.Math.Path.{◌≡◌, refl, ap, subst}
-use Rattle.std.proofs.Common.{sym, ap₂, ◌∙◌, true≢false, inl, inr, arith, length-append}
-use Rattle.std.specs.Prelude.{Bool, true, not, cond, ◌&&◌, ◌⊎◌, eqb}
+use Rattle.std.proofs.Common.{sym, ap₂, ◌∙◌, true≢false, inl, inr, arith}
+use Rattle.std.specs.Prelude.{Bool, true, not, ◌&&◌, ◌⊎◌, eqb}
 use Rattle.std.proofs.Math.Bool.{false}
 use mathlib.Core.List.{List, [], ◌∷◌, ◌++◌}
 use Prim.Native.Nat.{ℕ, zero, suc, ◌+◌, ◌≤◌, ◌<◌}
 use borrow.Author.Tests.{eqb-true, not-false, ltb-false}
 use Rattle.std.proofs.Math.ListN.{length, set, length-set}
 use Rattle.std.proofs.Math.Seq.{get_or-set_same, get_or-set_other}
-use Rattle.model.specs.definitions.Models.{max_degree}
 use Rattle.model.specs.definitions.Multiply.{kept_degree}
 use Rattle.model.specs.definitions.Outcomes.{Passed}
 use Rattle.model.proofs.laws.MultiplicationLaws.{kept_is, kept_within}

@@ -1,11 +1,11 @@
 -- The degrees that the commands tell are those that the results have.
-use Rattle.std.specs.Prelude.{◌≡◌, refl, Bool, true, false, List, [], ◌∷◌, ◌++◌, map, ℕ, zero, suc, ◌+◌, ◌≤◌, min, max, length, get_or}
-use Rattle.std.proofs.Common.{sym, ap, ◌∙◌, arith}
+use Rattle.std.specs.Prelude.{◌≡◌, refl, true, false, List, [], ◌∷◌, ◌++◌, map, ℕ, zero, suc, ◌≤◌, length}
+use Rattle.std.proofs.Common.{ap, arith}
 use Rattle.std.proofs.lemmas.Bool.{not-false}
 use Rattle.model.specs.definitions.Models.{max_degree, zero_model, good}
-use Rattle.model.specs.definitions.Outcomes.{Outcome, accepted, passing, Passed}
+use Rattle.model.specs.definitions.Outcomes.{accepted, Passed}
 use Rattle.model.specs.definitions.Add.{sum_model, difference_model}
-use Rattle.model.specs.definitions.Multiply.{bad_kept, kept_degree, product_model}
+use Rattle.model.specs.definitions.Multiply.{bad_kept, product_model}
 use Rattle.model.proofs.laws.ModelLaws.{good_is}
 use Rattle.model.proofs.laws.MultiplicationLaws.{kept_within}
 use Rattle.model.proofs.laws.PlaceLaws.{outcome_accepted}

@@ -1,25 +1,25 @@
 -- The numbers that the conversion answers are small: a command is at most 33, and a job that reads well has at most 8,488 bytes, "the
 -- first of which must be a load".
 use Rattle.std.specs.Prelude.{◌≡◌, refl, Bool, cond, ◌⊎◌, eqb, leb, length}
-use Rattle.std.proofs.Common.{sym, ap, subst, ◌∙◌, true≢false, inl, inr, eqb-true, leb-false, ltb-false, length-append}
+use Rattle.std.proofs.Common.{sym, subst, true≢false, inl, inr, eqb-true, leb-false, ltb-false, length-append}
 use Rattle.std.proofs.Math.Bool.{true, false}
 use mathlib.Core.List.{List, [], ◌∷◌, ◌++◌}
-use Prim.Native.Nat.{ℕ, zero, suc, ◌+◌, ◌*◌, ◌≤◌, ◌<◌, min}
+use Prim.Native.Nat.{ℕ, zero, suc, ◌+◌, ◌*◌, ◌≤◌, min}
 use native.Mathlib.Omega.{arith}
-use Rattle.std.proofs.lemmas.Bool.{eqb-false, not-false}
+use Rattle.std.proofs.lemmas.Bool.{not-false}
 use Rattle.model.specs.definitions.Outcomes.{Passed, First, passing}
 use Rattle.model.proofs.laws.PlaceLaws.{passing_passed, passing_first, first_or_passed}
 use Rattle.job.specs.definitions.Bytes.{byte_at}
 use Rattle.job.specs.definitions.Operations.{names_bad}
 use Rattle.job.proofs.laws.CommandLaws.{both_below}
-use Rattle.job.specs.definitions.Decode.{Command, edition, result, finish, unknown, operands_for, maker_at, command_at}
-use Rattle.job.specs.definitions.Reading.{max_results, reading_places, command_read, next_at}
+use Rattle.job.specs.definitions.Decode.{Command, result, operands_for, maker_at, command_at}
+use Rattle.job.specs.definitions.Reading.{max_results, reading_places}
 use Rattle.job.specs.definitions.Reader.{JobReading, well, ill, read_on, read_from, job_reading}
 use Rattle.job.specs.declared.types.Operation.{Operation}
 use Rattle.job.specs.declared.types.Operation.TheVariants.{Load, LoadOn, Add, Subtract, Multiply, Quotient, Root}
 use Rattle.job.specs.declared.types.Kind.{Kind}
 use Rattle.job.specs.declared.types.Kind.TheVariants.{End, Edition, Result, Unknown}
-use Rattle.job.specs.definitions.Outcomes.{JobOutcome, accepted, refused, refused_command, result_count}
+use Rattle.job.specs.definitions.Outcomes.{accepted, refused, refused_command, result_count}
 use Rattle.survey.specs.definitions.Editions.{edition_conversion, conversion_by}
 use Rattle.survey.proofs.laws.ConvertedCommand.{next_for, places_for, kind_at}
 

@@ -1,11 +1,11 @@
 -- What the entry of the conversion answers and leaves.
-use Rattle.std.specs.Prelude.{◌≡◌, Bool, true, false, cond, List, [], ◌∷◌, ◌++◌, ℕ, ◌+◌, ◌≤◌, ◌<◌, length, take, drop}
+use Rattle.std.specs.Prelude.{◌≡◌, List, ◌++◌, ℕ, ◌≤◌, ◌<◌, length, drop}
 use Rattle.std.proofs.Math.Path.{refl, ap}
 use Rattle.std.proofs.Common.{sym, ap₂, ◌∙◌, arith, le-leb, length-append, length-drop, drop_at}
 use Rattle.std.proofs.lemmas.Bool.{lt-leb}
 use Rattle.std.proofs.Math.ListN.{replicate}
 use Rattle.job.specs.definitions.Decode.{Command}
-use Rattle.job.specs.definitions.Outcomes.{JobOutcome, accepted, refused}
+use Rattle.job.specs.definitions.Outcomes.{accepted, refused}
 use Rattle.job.specs.definitions.Reader.{JobReading, well, ill, job_reading}
 use Rattle.survey.specs.definitions.Editions.{converted, edition_conversion, conversion_by, output_by, output_after}
 use Rattle.survey.specs.definitions.InnerContracts.{reading_outcome, short_output}

@@ -1,13 +1,14 @@
 -- What inner functions ask of their callers and answer to them. The contracts of the entries do not speak of this.
-use Rattle.std.specs.Prelude.{◌≡◌, false, ◌&&◌, ◌||◌, List, ℕ, ◌+◌, ◌≤◌, ◌<◌, leb, length}
+use Rattle.std.specs.Prelude.{◌≡◌, false, ◌&&◌, ◌||◌, List, ℕ, ◌+◌, ◌≤◌, ◌<◌, Option, None, Some, leb, length}
 use Rattle.job.specs.definitions.Bytes.{byte_at}
 use Rattle.job.specs.definitions.Operations.{names_bad}
-use Rattle.job.specs.definitions.Decode.{operands_for, layout_for, maker_at, command_at}
+use Rattle.job.specs.definitions.Decode.{operands_for, layout_for, maker_at, Command, edition, result, finish, unknown, command_at}
 use Rattle.job.specs.definitions.Outcomes.{JobOutcome, accepted, refused}
 use Rattle.job.specs.definitions.Reading.{max_results, bad_names, makes_result}
 use Rattle.job.specs.definitions.Reader.{JobReading, well, ill}
 use Rattle.job.specs.declared.types.Operation.{Operation}
 use Rattle.job.specs.declared.types.Kind.{Kind}
+use Rattle.survey.specs.definitions.Degrees.{maker_degree}
 
 -- ---- one command
 
@@ -28,13 +29,25 @@ pub record TellsDegree (op : Operation) (job : List ℕ) (at : ℕ) (ds : List �
 
 -- ---- the walk over the commands
 
--- a command that was read, as the walk needs it: the code's list holds `count` degrees
+-- a command that was read, after results of the degrees ds
+pub record Converting (kind : Kind) (job : List ℕ) (at : ℕ) (ds : List ℕ) : Type 0 where
+  pub names : bad_names (command_at kind job at) (length ds) ≡ false
+  pub room : at + 1 + (layout_for kind).width ≤ length job
+
+-- the same of a list that holds `count` degrees at its front
 pub record Advancing (kind : Kind) (job : List ℕ) (at : ℕ) (list : List ℕ) (count : ℕ) : Type 0 where
   pub names : bad_names (command_at kind job at) count ≡ false
   pub space : (makes_result kind && leb max_results count) ≡ false
   pub room : at + 1 + (layout_for kind).width ≤ length job
   pub few : count ≤ max_results
   pub long : length list ≡ max_results
+
+-- the degree of the result that a command makes
+abbrev pub degree_made : Command → List ℕ → Option ℕ
+degree_made edition ds = None
+degree_made (result m) ds = Some (maker_degree m ds)
+degree_made finish ds = None
+degree_made unknown ds = None
 
 -- what the walk answers: of a job that reads well the count of its results
 abbrev pub reading_outcome : JobReading → JobOutcome ℕ

@@ -17,22 +17,13 @@ use Rattle.certificate.specs.definitions.Groups.{group}
 use Rattle.certificate.specs.definitions.InnerContracts.{residual_list}
 use Rattle.certificate.proofs.laws.ResidualLaws.{weight_residual}
 use Rattle.certificate.proofs.residual.group_residual.Goals as goal
-use Rattle.certificate.proofs.residual.group_residual.Lts
-use Rattle.certificate.proofs.residual.group_residual.Reads
-use Rattle.certificate.proofs.residual.group_residual.Tie
-
-abbrev Start : Type 0
-Start = Lts.Start Tie.the-claims Reads.Pre Reads.Post
 
 weight-group : (n start : ℕ) (l : List ℤ) → weight (group n start l) ≤ weight l
 weight-group n start l = omega (arith, weight-take n (drop start l), weight-drop start l)
 
 module _ (c : goal.After-window) where
-  abbrev s : Start
-  s = c.before.before.before.before.before
-
   abbrev n : ℕ
-  n = length s.args.part.now
+  n = length c.args.part.now
 
   -- the group of C
   abbrev G : List ℤ
@@ -42,45 +33,45 @@ module _ (c : goal.After-window) where
   abbrev own : List ℤ
   own = c.window.result.now
 
-  G-is : G ≡ group n s.args.start (product ℤ_ring product_size s.args.a.now s.args.b.now)
+  G-is : G ≡ group n c.args.start (product ℤ_ring product_size c.args.a.now c.args.b.now)
   G-is =
-      let e : min n (product_size - s.args.start) ≡ n = omega (arith, s.requires.2) in
+      let e : min n (product_size - c.args.start) ≡ n = omega (arith, c.requires.2) in
       c.form.ensures
-      ∙ sym (product-group ℤ_ring product_size n s.args.start s.args.a.now s.args.b.now
-      ∙ ap (λ (m : ℕ). places_from ℤ_ring m s.args.start s.args.a.now s.args.b.now) e)
+      ∙ sym (product-group ℤ_ring product_size n c.args.start c.args.a.now c.args.b.now
+      ∙ ap (λ (m : ℕ). places_from ℤ_ring m c.args.start c.args.a.now c.args.b.now) e)
 
   length-G : length G ≡ n
   length-G = c.form.auto.part
 
-  own_is : own ≡ group n s.args.start s.args.f.now
-  own_is = c.window.ensures ∙ ap (λ (m : ℕ). group m s.args.start s.args.f.now) length-G
+  own_is : own ≡ group n c.args.start c.args.f.now
+  own_is = c.window.ensures ∙ ap (λ (m : ℕ). group m c.args.start c.args.f.now) length-G
 
   own-short : length own ≤ length G
-  own-short = omega (arith, ap length own_is, length-take n (drop s.args.start s.args.f.now), length-G)
+  own-short = omega (arith, ap length own_is, length-take n (drop c.args.start c.args.f.now), length-G)
 
   weights : weight G + 2 * scale * weight own < 2 ^ 63
   weights =
-      let p = product ℤ_ring product_size s.args.a.now s.args.b.now in
+      let p = product ℤ_ring product_size c.args.a.now c.args.b.now in
       omega (
         arith,
         ap weight G-is,
-        weight-group n s.args.start p,
-        weight-product product_size s.args.a.now s.args.b.now,
-        s.requires.0.weights,
+        weight-group n c.args.start p,
+        weight-product product_size c.args.a.now c.args.b.now,
+        c.requires.0.weights,
         ap weight own_is,
-        weight-group n s.args.start s.args.f.now,
-        s.requires.1.weight-fits,
+        weight-group n c.args.start c.args.f.now,
+        c.requires.1.weight-fits,
       )
 
-pub weight-requires : goal.weight-requires
-weight-requires c =
+pub weigh-requires : goal.weigh-requires
+weigh-requires c =
     let d = c.before.before in omega (arith, ap weight c.subtract.ensures, weight_residual (G d) (own d), weights d)
 
 pub returns : goal.returns
 returns c =
     let d = c.before.before.before in
     let w = d in
-    c.weight.ensures ∙ ap weight (c.subtract.ensures ∙ ap₂ residual_list (G-is w) (own_is w))
+    c.weigh.ensures ∙ ap weight (c.subtract.ensures ∙ ap₂ residual_list (G-is w) (own_is w))
 
 pub subtract-requires : goal.subtract-requires
 subtract-requires c = (own-short c, weights c)

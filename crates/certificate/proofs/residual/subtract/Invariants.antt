@@ -1,6 +1,5 @@
 -- `residual::subtract` meets its contract.
 use mathlib.Core.List.{List}
-use Prim.Native.Nat.{◌-◌}
 use lib.IntN.{ℤ}
 use lib.ListN.{length, take}
 use Rattle.integer.proofs.laws.Filling.{Filling}
@@ -13,6 +12,3 @@ changed part f = residual_list (take (length f) part) f
 
 abbrev pub invariant-loop-k : goal.invariant-loop-k
 invariant-loop-k l = Filling (changed l.initial.part l.f) l.initial.part l.part 0 (length l.f) l.k
-
-abbrev pub decreases-loop-k : goal.decreases-loop-k
-decreases-loop-k l = length l.f - l.k

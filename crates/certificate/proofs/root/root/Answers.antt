@@ -1,44 +1,37 @@
 -- `root::root` meets its contract.
 use mathlib.Core.Path.{sym, ◌∙◌, ap}
-use lib.ListN.{length}
-use Rattle.model.specs.definitions.Outcomes.{number_of}
-use Rattle.certificate.specs.definitions.InnerContracts.{reach_of}
-use Rattle.certificate.specs.definitions.Promise.{RootAllowed}
-use Rattle.certificate.proofs.laws.PromiseLaws.{test_promised, root_allowed}
-use Rattle.certificate.proofs.laws.RootStages.{root_reached_is, root_refused_is, root_last}
+use Rattle.std.proofs.Common.{length}
+use Rattle.certificate.proofs.Refusing.{test_refused}
+use Rattle.model.specs.definitions.Outcomes.{accepted, number_of}
+use Rattle.certificate.proofs.laws.PromiseLaws.{root_allowed}
+use Rattle.certificate.proofs.laws.RootStages.{root_reached_is, root_refused_is, root_rule_refused, root_rule_passed}
 use Rattle.certificate.proofs.root.root.Goals as goal
 
-pub root_result-requires : goal.root_result-requires
-root_result-requires c =
+pub returns-in_err-numbers-clause-result_value : goal.returns-in_err-numbers-clause-result_value
+returns-in_err-numbers-clause-result_value c =
     let a = c.args in
-    let at = c.in-Reached in
-    let n = length a.scratch.now in
-    let reached = root_reached_is n a.f a.h a.w at.weight at.m at.n at.b (sym c.root_numbers-numbers.ensures.result_value ∙ ap reach_of at.is) in
-    root_last n a.f a.h a.w at.weight at.m at.n at.b reached
+    test_refused c.from_residual.result _ c.from_residual.ensures
+    ∙ sym (root_refused_is (length a.scratch.now) a.f a.h a.w a.rule (number_of c.in_err-numbers.field-0.0) (sym c.in_err-numbers.ensures.result_value))
 
-pub returns-in-Refused : goal.returns-in-Refused
-returns-in-Refused c =
-    let r = c.root_numbers-numbers in
+pub returns-in_err-radius-clause-result_value : goal.returns-in_err-radius-clause-result_value
+returns-in_err-radius-clause-result_value c =
     let a = c.args in
-    let n = length a.scratch.now in
-    let e =
-    c.refused.ensures
-    ∙ sym (root_refused_is n a.f a.h a.w a.rule (number_of c.in-Refused.refusal) (sym r.ensures.result_value ∙ ap reach_of c.in-Refused.is)) in
-    record {
-      result_value = e;
-      scratch_after = r.ensures.scratch_after;
-      root_allowed = test_promised (RootAllowed a.f) c.refused.result e (λ _ p. root_allowed a.rule n a.f a.h a.w p);
-    }
+    let k = c.in_ok-numbers.numbers in
+    let reached = root_reached_is (length a.scratch.now) a.f a.h a.w k.weight k.contraction k.residual k.displacement (sym c.in_ok-numbers.ensures.result_value) in
+    let r = c.from_residual-in_err-radius in
+    test_refused r.result _ r.ensures ∙ sym (root_rule_refused (length a.scratch.now) a.f a.h a.w a.rule reached (sym c.in_err-radius.ensures))
 
-pub returns-in-Reached : goal.returns-in-Reached
-returns-in-Reached c =
+pub returns-clause-result_value : goal.returns-clause-result_value
+returns-clause-result_value c =
     let a = c.args in
-    let at = c.in-Reached in
+    let k = c.in_ok-numbers.numbers in
+    let reached = root_reached_is (length a.scratch.now) a.f a.h a.w k.weight k.contraction k.residual k.displacement (sym c.in_ok-numbers.ensures.result_value) in
+    ap accepted c.new.ensures ∙ sym (root_rule_passed (length a.scratch.now) a.f a.h a.w a.rule reached c.in_ok-radius.radius (sym c.in_ok-radius.ensures))
+
+pub returns-clause-root_allowed : goal.returns-clause-root_allowed
+returns-clause-root_allowed c =
+    let a = c.args in
     let n = length a.scratch.now in
-    let reached = root_reached_is n a.f a.h a.w at.weight at.m at.n at.b (sym c.root_numbers-numbers.ensures.result_value ∙ ap reach_of at.is) in
-    let e = c.root_result.ensures ∙ sym (reached.last a.rule) in
-    record {
-      result_value = e;
-      scratch_after = c.root_numbers-numbers.ensures.scratch_after;
-      root_allowed = test_promised (RootAllowed a.f) c.root_result.result e (λ _ p. root_allowed a.rule n a.f a.h a.w p);
-    }
+    let k = c.in_ok-numbers.numbers in
+    let reached = root_reached_is n a.f a.h a.w k.weight k.contraction k.residual k.displacement (sym c.in_ok-numbers.ensures.result_value) in
+    root_allowed a.rule n a.f a.h a.w (root_rule_passed n a.f a.h a.w a.rule reached c.in_ok-radius.radius (sym c.in_ok-radius.ensures) ∙ ap accepted (sym c.new.ensures))

@@ -1,8 +1,8 @@
--- `root::total` meets its contract. The loop's invariant in rest form: what is summed and the sum of what is left is the
--- whole sum; k coefficients sum to at most k·2^31.
+-- `root::total` meets its contract.
+use Rattle.std.proofs.Common.{rules}
 use mathlib.Core.Path.{◌≡◌, sym, ◌∙◌, ap}
 use mathlib.Core.List.{List}
-use Prim.Native.Nat.{ℕ, ◌+◌, ◌*◌, ◌-◌, ◌^◌, ◌≤◌, ◌<◌}
+use Prim.Native.Nat.{ℕ, ◌+◌, ◌*◌, ◌^◌, ◌≤◌, ◌<◌}
 use native.Mathlib.Omega.{arith}
 use native.Mathlib.Numerals.{add-one}
 use lib.IntN.{ℤ, pos, nat_abs, ◌+ℤ◌, +ℤ_assoc, +ℤ_idr}
@@ -12,14 +12,9 @@ use mir.Syntax.{w32, w64}
 use mir.Val.{SFits, to_z}
 use mir.Facts.{to_z-of_z}
 use Rattle.ring.specs.laws.Parts.{abs, apart, abs-add}
-use Rattle.integer.proofs.laws.Machine.{within, abs-fits, fits_widens}
+use Rattle.integer.proofs.laws.Machine.{within, abs-fits}
 use Rattle.chebyshev.specs.definitions.Coefficients.{coefficient_sum}
 use Rattle.certificate.proofs.root.total.Goals as goal
-use Rattle.certificate.proofs.root.total.Lts
-use Rattle.certificate.proofs.root.total.Reads
-
-abbrev At-loop-k : Type 0
-At-loop-k = Lts.At-loop Reads.Pre Reads.Post goal.the-invariant-loop-k goal.the-decreases-loop-k
 
 sum_step : (a : List ℤ) (k : ℕ) → k < length a → coefficient_sum (drop k a) ≡ get_or a k (pos 0) +ℤ coefficient_sum (drop (k + 1) a)
 unfolding coefficient_sum
@@ -29,39 +24,47 @@ sum-end : (a : List ℤ) (k : ℕ) → length a ≤ k → coefficient_sum (drop 
 unfolding coefficient_sum
 sum-end a k h = rw drop_of_length-le
 
-module _ (c : goal.After-sum-1) where
-  abbrev l : At-loop-k
-  l = c.before.before
-
+module _ (c : goal.After-from-sum) where
   abbrev cs : List ℤ
-  cs = l.args.coefficients.now
+  cs = c.args.coefficients.now
+
+  abbrev k : ℕ
+  k = c.loop-x.x-index
 
   abbrev s : ℤ
-  s = to_z w64 l.loop-k.sum-bits
+  s = to_z w64 c.loop-x.sum-bits
 
   abbrev x : ℤ
-  x = get_or cs l.loop-k.k (pos 0)
+  x = c.from-sum.result
 
-  fits-x : SFits w32 x
-  fits-x = record { sfits = c.sum-1.given }
+  fits_element : SFits w32 (get_or cs k (pos 0))
+  fits_element = search rules
 
-  small : nat_abs (s +ℤ x) ≤ (l.loop-k.k + 1) * 2 ^ 31
-  small = omega (arith, abs-add s x, abs x, apart x, within w32 x fits-x, l.loop-k.invariant)
+  x_is : x ≡ get_or cs k (pos 0)
+  x_is = c.from-sum.ensures ∙ to_z-of_z fits_element
+
+  fits-x : SFits w64 x
+  fits-x = record { sfits = c.from-sum.type_inv }
+
+  small : nat_abs (s +ℤ x) ≤ (k + 1) * 2 ^ 31
+  small = omega (arith, abs-add s x, ap nat_abs x_is, abs (get_or cs k (pos 0)), apart (get_or cs k (pos 0)), within w32 (get_or cs k (pos 0)) fits_element, c.loop-x.invariant.small)
 
   fits-s : SFits w64 (s +ℤ x)
   fits-s = abs-fits w64 (s +ℤ x) (omega (arith, small))
 
-pub loop-k-preserved : goal.loop-k-preserved
-loop-k-preserved c =
-    let k = (l c).loop-k.k in
-    simp (to_z-of_z (fits-x c), to_z-of_z (fits_widens (fits-x c)), to_z-of_z (fits-s c)) (
-      omega arith,
-      +ℤ_assoc (s c) (x c) (coefficient_sum (drop (k + 1) (cs c))) ∙ ap (λ z. s c +ℤ z) (sym (sum_step (cs c) k (omega (arith, (l c).requires)))) ∙ (l c).loop-k.invariant.1,
-      small c,
-    )
+  rest : (s +ℤ x) +ℤ coefficient_sum (drop (k + 1) cs) ≡ coefficient_sum cs
+  rest =
+      +ℤ_assoc s x (coefficient_sum (drop (k + 1) cs))
+      ∙ ap (λ z. s +ℤ z) (ap (λ t. t +ℤ coefficient_sum (drop (k + 1) cs)) x_is ∙ sym (sum_step cs k (omega arith)))
+      ∙ c.loop-x.invariant.rest
+
+pub loop-x-preserved : goal.loop-x-preserved
+loop-x-preserved c = simp (to_z-of_z (fits-x c), to_z-of_z (fits-s c)) (record { rest = rest c; small = small c })
 
 pub returns : goal.returns
 returns c =
-    let l = c.before in
-    let z = to_z w64 l.loop-k.sum-bits in
-    sym (+ℤ_idr z) ∙ ap (λ t. z +ℤ t) (sym (sum-end l.args.coefficients.now l.loop-k.k (omega (arith, l.requires)))) ∙ l.loop-k.invariant.1
+    let z = to_z w64 c.loop-x.sum-bits in
+    sym (+ℤ_idr z) ∙ ap (λ t. z +ℤ t) (sym (sum-end c.args.coefficients.now c.loop-x.x-index (omega arith))) ∙ c.loop-x.invariant.rest
+
+pub overflow_add-sum : goal.overflow_add-sum
+overflow_add-sum c = simp (to_z-of_z (fits-x c)) (fits-s c)

@@ -1,30 +1,25 @@
--- `bytes::read_coefficients` meets its contract: a turn writes one more of the 33 numbers.
-use Rattle.std.proofs.Common.{rules}
-use mathlib.Core.Path.{◌≡◌, ap, sym, ◌∙◌}
-use Prim.Native.Nat.{◌+◌, ◌*◌, ◌-◌}
-use native.Mathlib.Omega.{arith}
-use lib.IntN.{pos}
+-- `bytes::read_coefficients` meets its contract.
+use Rattle.std.proofs.Common.{rules, arith, sym, ◌∙◌, pos, ◌≢◌, ◌<◌, length, length-set, below_more, get_or-set_other, get_or-set_same}
 use mir.Syntax.{w32}
+use mir.Val.{SFits}
 use mir.Facts.{to_z-of_z}
-use Rattle.model.specs.definitions.Models.{coefficient_count}
-use Rattle.integer.proofs.laws.Filling.{begins, turn}
-use Rattle.job.specs.definitions.Bytes.{signed, unsigned_at}
+use Rattle.std.proofs.lemmas.List.{ext_get_or}
 use Rattle.job.proofs.ByteLaws.{length-signeds_at, get_d_signeds_at}
 use Rattle.job.proofs.bytes.read_coefficients.Goals as goal
 
-pub loop-k-init : goal.loop-k-init
-loop-k-init c =
-    let g = c.args in
-    (search rules, begins _ _ 0 coefficient_count (length-signeds_at g.s.now g.i coefficient_count) (search rules))
-
 pub loop-k-preserved : goal.loop-k-preserved
 loop-k-preserved c =
-    let l = c.loop-k in
+    let fits : SFits w32 c.read_signed.result = search rules in
+    let before : c.loop-k.k < length c.loop-k.coefficients = omega arith in
+    record {
+      long = length-set _ _ _ ∙ c.loop-k.invariant.long;
+      read = below_more _ _
+          (λ j h. let ne : j ≢ c.loop-k.k = omega arith in rw get_or-set_other (c.loop-k.invariant.read j h))
+          (rw get_or-set_same (simp to_z-of_z c.read_signed.ensures));
+    }
+
+pub returns : goal.returns
+returns c =
     let g = c.args in
-    let v : c.to_signed.result ≡ signed (unsigned_at g.s.now (g.i + 4 * l.k)) =
-    c.to_signed.ensures ∙ ap signed c.read_unsigned.ensures in (
-      l.invariant.0,
-      rw (to_z-of_z {w = w32} {z = c.to_signed.result} (search rules))
-          (turn l.k c.to_signed.result (pos 0) l.invariant.1 (omega arith) (omega arith)
-          (v ∙ sym (get_d_signeds_at g.s.now g.i coefficient_count l.k (pos 0) (omega arith)))),
-    )
+    ext_get_or (pos 0) c.loop-k.coefficients _ (c.loop-k.invariant.long ∙ sym (length-signeds_at g.s.now g.i 33))
+    (λ j h. c.loop-k.invariant.read j (omega arith) ∙ sym (get_d_signeds_at g.s.now g.i 33 j (pos 0) (omega arith)))

@@ -1,7 +1,7 @@
 -- `add::combine` meets its contract. The loop fills the list a + sign·b from the front and sums its weight.
 use mathlib.Core.Path.{◌≡◌}
 use mathlib.Core.List.{List}
-use Prim.Native.Nat.{ℕ, ◌+◌, ◌-◌}
+use Prim.Native.Nat.{ℕ, ◌+◌}
 use lib.IntN.{ℤ}
 use lib.ListN.{drop}
 use Rattle.ring.specs.definitions.Integer.{ℤ_ring}
@@ -20,6 +20,3 @@ pub record Walked (z start out : List ℤ) (total i : ℕ) : Type 0 where
 
 abbrev pub invariant-loop-i : goal.invariant-loop-i
 invariant-loop-i l = Walked (sum l.a l.b l.sign) l.initial.coefficients l.coefficients l.weight l.i
-
-abbrev pub decreases-loop-i : goal.decreases-loop-i
-decreases-loop-i l = 33 - l.i

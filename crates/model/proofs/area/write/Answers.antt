@@ -1,15 +1,6 @@
--- `area::write` meets its contract: the coefficients are copied into the part lent on, then the degree and the radius.
-use Rattle.std.proofs.Common.{rules}
+-- `area::write` meets its contract: the degree, the coefficients copied into the part lent on, then the radius and the ends.
+use Rattle.std.proofs.Common.{rules, arith, ◌≡◌, ap, ◌∙◌, List, [], ◌∷◌, ◌++◌, ℕ, zero, suc, ◌+◌, ℤ, pos, length, set, drop, length-drop, w32, FitsSigned, to_z-of_z}
 use borrow.Rule.Slice.PartMut.{put_mid}
-use mathlib.Core.Path.{◌≡◌, ap, ◌∙◌}
-use mathlib.Core.List.{List, [], ◌∷◌, ◌++◌}
-use Prim.Native.Nat.{ℕ, zero, suc, ◌+◌}
-use native.Mathlib.Omega.{arith}
-use lib.IntN.{ℤ, pos}
-use lib.ListN.{length, set, drop, length-drop}
-use mir.Syntax.{w32}
-use mir.Val.{SFits}
-use mir.Facts.{to_z-of_z}
 use mir.ValLaws.{to_z_pos}
 use Rattle.model.specs.definitions.Models.{coefficient_count}
 use Rattle.model.proofs.area.write.Goals as goal
@@ -19,9 +10,9 @@ set-behind [] b n k v e = ap (λ (j : ℕ). set b j v) (omega arith)
 set-behind (c ∷ a) b zero k v e = absurd (omega arith)
 set-behind (c ∷ a) b (suc n) k v e = ap (λ (z : List ℤ). c ∷ z) (set-behind a b n k v (omega arith))
 
--- n numbers written behind the first of n + 4 places, then a first one and three behind
+-- a first number and n numbers behind it in n + 4 places, then three more
 written : (o cs : List ℤ) (d r l u : ℤ) (n : ℕ) → length cs ≡ n → length o ≡ n + 4
-    → set (set (set (set (put_mid 1 n o cs) 0 d) (1 + n) r) (2 + n) l) (3 + n) u ≡ d ∷ (cs ++ (r ∷ l ∷ u ∷ []))
+    → set (set (set (put_mid 1 n (set o 0 d) cs) (1 + n) r) (2 + n) l) (3 + n) u ≡ d ∷ (cs ++ (r ∷ l ∷ u ∷ []))
 written [] cs d r l u n hc ho = absurd (omega arith)
 written (x ∷ o) cs d r l u n hc ho = go (drop n o) (rw length-drop (omega arith))
   where
@@ -38,7 +29,7 @@ written (x ∷ o) cs d r l u n hc ho = go (drop n o) (rw length-drop (omega arit
 pub returns : goal.returns
 returns c =
     let a = c.args in
-    let lower : SFits w32 a.m.interval.lower = search rules in
-    let upper : SFits w32 a.m.interval.upper = search rules in
-    rw (c.copy.ensures, to_z_pos w32 a.m.degree (omega arith), to_z_pos w32 a.m.radius (omega arith), to_z-of_z lower, to_z-of_z upper)
+    let lower : FitsSigned w32 a.m.interval.lower = search rules in
+    let upper : FitsSigned w32 a.m.interval.upper = search rules in
+    rw (c.copy_from_slice.ensures.after, to_z_pos w32 a.m.degree (omega arith), to_z_pos w32 a.m.radius (omega arith), to_z-of_z lower, to_z-of_z upper)
     (written a.area.now a.m.coefficients (pos a.m.degree) (pos a.m.radius) a.m.interval.lower a.m.interval.upper coefficient_count (search rules) (omega arith))

@@ -1,9 +1,8 @@
 -- `evaluate::evaluate` meets its contract: the tests are those of the definition, and V, W and the bounds fit 64 bits
 -- (EvaluationBounds.antt).
-use Rattle.std.proofs.Common.{rules}
 use mathlib.Core.Path.{◌≡◌, refl, sym, ◌∙◌, ap}
 use mathlib.Core.Bool.{true}
-use Prim.Native.Nat.{ℕ, ◌+◌, ◌*◌, ◌^◌}
+use Prim.Native.Nat.{ℕ, ◌+◌, ◌^◌}
 use native.Mathlib.Omega.{arith}
 use lib.IntN.{ℤ, pos, ◌+ℤ◌, ◌-ℤ◌, ◌*ℤ◌}
 use mir.Syntax.{w64}
@@ -14,8 +13,9 @@ use Rattle.integer.specs.definitions.Rounding.{floor, up}
 use Rattle.model.specs.definitions.Intervals.{contains}
 use Rattle.model.specs.definitions.Models.{terms, good}
 use Rattle.model.specs.definitions.Outcomes.{accepted, passing}
+use Rattle.model.proofs.Refusing.{passed_up}
 use Rattle.model.proofs.laws.ModelLaws.{good_ends_lem}
-use Rattle.model.specs.definitions.Evaluate.{mapped_point, maps_exactly, growth, point_sum, point_error, error_sum, evaluation}
+use Rattle.model.specs.definitions.Evaluate.{mapped_point, maps_exactly, growth, point_sum, point_error, error_sum, zero_bounds, evaluation}
 use Rattle.model.proofs.laws.EvaluationLaws.{evaluation_accepted, errors_are}
 use Rattle.model.specs.declared.types.Model.{Model}
 use Rattle.model.proofs.EvaluationBounds.{fits_mapped, evaluable, Sums, error_small, error_word, radius_word, fits_value, fits_fourfold, fits_below, fits_above, low, high}
@@ -39,10 +39,10 @@ module _ (m : After-map_point-mapped) where
   p = m.args.p
 
   passed : good a ≡ true
-  passed = sym m.is_good.ensures ∙ m.if-is_good.true
+  passed = m.in_ok-checked_weight.ensures.ok.0
 
   inside : contains a.interval p ≡ true
-  inside = sym (simp (to_z-of_z m.ranges.p) at m.contains.ensures) ∙ m.if-contains.true
+  inside = sym (simp (to_z-of_z m.ranges.p) at m.contains.ensures) ∙ m.if-not-contains.false
 
   abbrev q : ℤ
   q = m.map_point-mapped.result.point
@@ -103,8 +103,8 @@ overflow_sub-low c = let n = sums (k₁ c) in simp (to_z-of_z (fits-floor c), ra
 pub overflow_add-high : goal.overflow_add-high
 overflow_add-high c = let n = sums (k₂ c) in simp (to_z-of_z (fits-up c), radius_word n) (high n _ (up_is c)).0
 
-pub returns-then-contains : goal.returns-then-contains
-returns-then-contains u =
+pub returns : goal.returns
+returns u =
     let n = sums (k₂ u) in
     let (Fits-low, low-is) = low n _ (floor-is u.before) in
     let (fits-high, high_is) = high n _ (up_is u) in
@@ -112,21 +112,22 @@ returns-then-contains u =
     simp (to_z-of_z (fits-floor u.before), to_z-of_z (fits-up u), radius_word n, to_z-of_z Fits-low, to_z-of_z fits-high, evaluation_accepted (a c) (p c) (passed c) n.inside)
     (λ i. accepted (record { low = low-is i; high = high_is i }))
 
-pub returns-else-contains : goal.returns-else-contains
+pub returns-then-not-contains : goal.returns-then-not-contains
 unfolding evaluation passing
-returns-else-contains c =
-    rw (sym c.is_good.ensures ∙ c.if-is_good.true, sym (simp (to_z-of_z c.ranges.p) at c.contains.ensures) ∙ c.if-contains.false)
+returns-then-not-contains c =
+    rw (c.in_ok-checked_weight.ensures.ok.0, sym (simp (to_z-of_z c.ranges.p) at c.contains.ensures) ∙ c.if-not-contains.true)
 
-pub returns-else-is_good : goal.returns-else-is_good
+pub returns-in_err-checked_weight : goal.returns-in_err-checked_weight
 unfolding evaluation passing
-returns-else-is_good c = rw (c.fault_of.ensures, sym c.is_good.ensures ∙ c.if-is_good.false)
+returns-in_err-checked_weight c =
+    rw (passed_up zero_bounds c.from_residual.result c.in_err-checked_weight.field-0.0 c.from_residual.ensures, c.in_err-checked_weight.ensures.err.0, c.in_err-checked_weight.ensures.err.1)
 
 pub map_point-mapped-requires : goal.map_point-mapped-requires
-map_point-mapped-requires c = good_ends_lem c.args.a (sym c.is_good.ensures ∙ c.if-is_good.true)
+map_point-mapped-requires c = good_ends_lem c.args.a c.in_ok-checked_weight.ensures.ok.0
 
 pub point_sums-sums-requires : goal.point_sums-sums-requires
 point_sums-sums-requires k = let m = k.before.before.before in
-    simp (to_z-of_z (fits-q m)) (evaluable (a m) (passed m) (p m) (q m) (inside m) (point_is m) (search rules))
+    simp (to_z-of_z (fits-q m)) (evaluable (a m) (passed m) (p m) (q m) (inside m) (point_is m))
 
 pub overflow_mul-value : goal.overflow_mul-value
 overflow_mul-value d = let n = summed d.before.before.before _ refl in simp (to_z-of_z (fits_value n)) (fits_fourfold n)

@@ -11,6 +11,3 @@ abbrev pub invariant-loop-k : goal.invariant-loop-k
 invariant-loop-k l =
     (l.wide ≡ ltb (4 * scale) l.extent)
     × Walk l.extent (take (suc l.degree) l.doubled) l.coefficients l.weight l.first l.above l.here l.k
-
-abbrev pub decreases-loop-k : goal.decreases-loop-k
-decreases-loop-k l = l.k

@@ -1,18 +1,15 @@
 -- `load::load` meets its contract.
-use mathlib.Core.Path.{sym, ◌∙◌, ap}
-use Prim.Native.Nat.{ℕ}
 use Rattle.model.specs.definitions.Models.{zero_model}
-use Rattle.model.specs.definitions.Outcomes.{refused, passing}
+use Rattle.model.specs.definitions.Outcomes.{passing}
 use Rattle.model.specs.definitions.Load.{loading}
+use Rattle.model.proofs.Refusing.{passed_up}
 use Rattle.model.proofs.load.load.Goals as goal
 
-pub returns-then-is_good : goal.returns-then-is_good
+pub returns-in_err-checked_weight : goal.returns-in_err-checked_weight
 unfolding loading passing
-returns-then-is_good c = rw (sym c.is_good.ensures ∙ c.if-is_good.true)
+returns-in_err-checked_weight c =
+    rw (passed_up zero_model c.from_residual.result c.in_err-checked_weight.field-0.0 c.from_residual.ensures, c.in_err-checked_weight.ensures.err.0, c.in_err-checked_weight.ensures.err.1)
 
-pub returns-else-is_good : goal.returns-else-is_good
+pub returns : goal.returns
 unfolding loading passing
-returns-else-is_good c =
-    c.refused.ensures
-    ∙ ap (λ (n : ℕ). refused n zero_model) c.fault_of.ensures
-    ∙ rw (sym c.is_good.ensures ∙ c.if-is_good.false)
+returns c = rw c.in_ok-checked_weight.ensures.ok.0

@@ -2,7 +2,7 @@
 -- weight, of all coefficients and of those beyond the degree n, is the whole of it.
 use mathlib.Core.Path.{◌≡◌}
 use mathlib.Core.List.{List}
-use Prim.Native.Nat.{ℕ, suc, ◌+◌, ◌-◌, ◌*◌, ◌^◌, ◌≤◌, max}
+use Prim.Native.Nat.{ℕ, suc, ◌+◌, ◌*◌, ◌^◌, ◌≤◌, max}
 use lib.IntN.{ℤ}
 use lib.ListN.{drop}
 use Rattle.chebyshev.specs.definitions.Coefficients.{weight}
@@ -14,7 +14,4 @@ left-beyond n i cs = weight (drop (max i (suc n)) cs)
 
 abbrev pub invariant-loop-i : goal.invariant-loop-i
 invariant-loop-i l =
-    (l.i ≤ 33) × (l.total + weight (drop l.i l.coefficients) ≡ weight l.coefficients) × (l.beyond + left-beyond l.n l.i l.coefficients ≡ left-beyond l.n 0 l.coefficients) × (l.total ≤ l.i * 2 ^ 32) × (l.beyond ≤ l.total)
-
-abbrev pub decreases-loop-i : goal.decreases-loop-i
-decreases-loop-i l = 33 - l.i
+    (l.total + weight (drop l.i l.coefficients) ≡ weight l.coefficients) × (l.beyond + left-beyond l.n l.i l.coefficients ≡ left-beyond l.n 0 l.coefficients) × (l.total ≤ l.i * 2 ^ 32) × (l.beyond ≤ l.total)

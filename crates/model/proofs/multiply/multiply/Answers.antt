@@ -1,64 +1,54 @@
 -- `multiply::multiply` meets its contract: the tests in the order of the definition's places.
-use borrow.Author.Tests.{not-true, not-false}
 use mathlib.Core.Path.{◌≡◌, sym, ◌∙◌, ap}
-use mathlib.Core.Bool.{true, false}
+use mathlib.Core.Bool.{false}
 use Prim.Native.Nat.{ℕ}
 use native.Mathlib.Omega.{arith}
 use Rattle.model.specs.definitions.InnerContracts.{unless_large}
-use Rattle.model.specs.definitions.Models.{good}
-use Rattle.model.specs.definitions.Intervals.{same_interval}
+use Rattle.model.specs.definitions.Models.{zero_model}
 use Rattle.model.specs.definitions.Outcomes.{passing}
 use Rattle.model.specs.definitions.Multiply.{bad_kept, product_model, multiplication}
+use Rattle.model.proofs.Refusing.{passed_up}
+use Rattle.model.proofs.laws.IntervalLaws.{differ, alike}
 use Rattle.model.proofs.laws.MultiplicationLaws.{kept_within, multiplication_of_good}
 use Rattle.model.proofs.laws.ModelLaws.{good_is}
 use Rattle.model.proofs.multiply.multiply.Goals as goal
 
-pub returns-then-not-first : goal.returns-then-not-first
+pub returns-in_err-weight_a : goal.returns-in_err-weight_a
 unfolding multiplication passing
-returns-then-not-first c =
-    let m = c.measure-first in
-    rw (c.refused.ensures, c.fault_of.ensures, ← m.ensures.0, not-true m.result.good c.if-not-first.true)
+returns-in_err-weight_a c =
+    rw (passed_up zero_model c.from_residual.result c.in_err-weight_a.field-0.0 c.from_residual.ensures, c.in_err-weight_a.ensures.err.0, c.in_err-weight_a.ensures.err.1)
 
-pub returns-then-not-second : goal.returns-then-not-second
+pub returns-in_err-weight_b : goal.returns-in_err-weight_b
 unfolding multiplication passing
-returns-then-not-second c =
-    let m = c.measure-second in
-    let p : good c.args.a ≡ true = sym c.measure-first.ensures.0 ∙ not-false c.measure-first.result.good c.if-not-first.false in
-    rw (c.refused-then-not-second.ensures, c.fault_of-then-not-second.ensures, p, ← m.ensures.0, not-true m.result.good c.if-not-second.true)
+returns-in_err-weight_b c =
+    rw (passed_up zero_model c.from_residual-in_err-weight_b.result c.in_err-weight_b.field-0.0 c.from_residual-in_err-weight_b.ensures, c.in_ok-weight_a.ensures.ok.0, c.in_err-weight_b.ensures.err.0, c.in_err-weight_b.ensures.err.1)
 
-pub returns-then-not-is_same : goal.returns-then-not-is_same
+pub returns-then-ne : goal.returns-then-ne
 unfolding multiplication passing
-returns-then-not-is_same c =
-    let p : good c.args.a ≡ true = sym c.measure-first.ensures.0 ∙ not-false c.measure-first.result.good c.if-not-first.false in
-    let q : good c.args.b ≡ true = sym c.measure-second.ensures.0 ∙ not-false c.measure-second.result.good c.if-not-second.false in
-    rw (c.refused-then-not-is_same.ensures, p, q, ← c.is_same.ensures, c.if-not-is_same.true)
+returns-then-ne c =
+    rw (c.in_ok-weight_a.ensures.ok.0, c.in_ok-weight_b.ensures.ok.0, differ c.args.a.interval c.args.b.interval c.ne.ensures c.if-ne.true)
 
 pub returns-then-is_bad_kept : goal.returns-then-is_bad_kept
 unfolding multiplication passing
 returns-then-is_bad_kept c =
-    let p : good c.args.a ≡ true = sym c.measure-first.ensures.0 ∙ not-false c.measure-first.result.good c.if-not-first.false in
-    let q : good c.args.b ≡ true = sym c.measure-second.ensures.0 ∙ not-false c.measure-second.result.good c.if-not-second.false in
-    rw (c.refused-then-is_bad_kept.ensures, p, q, ← c.is_same.ensures, c.if-not-is_same.false, ← c.is_bad_kept.ensures, c.if-is_bad_kept.true)
+    rw (c.in_ok-weight_a.ensures.ok.0, c.in_ok-weight_b.ensures.ok.0, alike c.args.a.interval c.args.b.interval c.ne.ensures c.if-ne.false, ← c.is_bad_kept.ensures, c.if-is_bad_kept.true)
 
-pub multiply_good-product-requires : goal.multiply_good-product-requires
-multiply_good-product-requires c =
-    let p : good c.args.a ≡ true = sym c.measure-first.ensures.0 ∙ not-false c.measure-first.result.good c.if-not-first.false in
-    let q : good c.args.b ≡ true = sym c.measure-second.ensures.0 ∙ not-false c.measure-second.result.good c.if-not-second.false in
+pub multiply_good-requires : goal.multiply_good-requires
+multiply_good-requires c =
+    let (p, first) = c.in_ok-weight_a.ensures.ok in
+    let (q, second) = c.in_ok-weight_b.ensures.ok in
     let h : bad_kept c.args.kept ≡ false = sym c.is_bad_kept.ensures ∙ c.if-is_bad_kept.false in
     record {
       first_good = p;
       second_good = q;
-      first_weight = c.measure-first.ensures.1;
-      second_weight = c.measure-second.ensures.1;
+      first_weight = first;
+      second_weight = second;
       kept_fits = omega (arith, c.kept_degree-degree.ensures, kept_within c.args.kept c.args.a.degree c.args.b.degree h (good_is c.args.a p).degree_fits (good_is c.args.b q).degree_fits);
     }
 
 pub returns : goal.returns
 returns c =
-    let p : good c.args.a ≡ true = sym c.measure-first.ensures.0 ∙ not-false c.measure-first.result.good c.if-not-first.false in
-    let q : good c.args.b ≡ true = sym c.measure-second.ensures.0 ∙ not-false c.measure-second.result.good c.if-not-second.false in
-    let s : same_interval c.args.a.interval c.args.b.interval ≡ true = sym c.is_same.ensures ∙ c.if-not-is_same.false in
     let h : bad_kept c.args.kept ≡ false = sym c.is_bad_kept.ensures ∙ c.if-is_bad_kept.false in
-    c.multiply_good-product.ensures.outcome_value
+    c.multiply_good.ensures.outcome_value
     ∙ ap (λ (n : ℕ). unless_large (product_model n c.args.a c.args.b)) c.kept_degree-degree.ensures
-    ∙ multiplication_of_good c.args.kept c.args.a c.args.b p q s h
+    ∙ multiplication_of_good c.args.kept c.args.a c.args.b c.in_ok-weight_a.ensures.ok.0 c.in_ok-weight_b.ensures.ok.0 (alike c.args.a.interval c.args.b.interval c.ne.ensures c.if-ne.false) h

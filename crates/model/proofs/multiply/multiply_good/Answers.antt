@@ -1,6 +1,6 @@
 -- `multiply::multiply_good` meets its contract.
 use Rattle.std.proofs.Common.{rules}
-use mathlib.Core.Path.{◌≡◌, sym, ◌∙◌, ap}
+use mathlib.Core.Path.{◌≡◌, ◌∙◌, ap}
 use Prim.Native.Nat.{suc, ◌+◌, ◌*◌}
 use native.Mathlib.Omega.{arith}
 use native.Mathlib.Numerals.{add-one}
@@ -16,14 +16,8 @@ use Rattle.model.proofs.laws.GoodLaws.{weight-product_list}
 use Rattle.model.proofs.laws.MultiplicationLaws.{kept_is, radius_loss, walk_rounded, product_formed}
 use Rattle.model.proofs.laws.RoundingPassLaws.{rounded_loss}
 use Rattle.model.specs.declared.types.Model.{Model}
-use Rattle.model.proofs.multiply.multiply_good.Goals.{then-kept-top, else-kept-top}
+use Rattle.model.proofs.multiply.multiply_good.Goals.{After-round_product-product}
 use Rattle.model.proofs.multiply.multiply_good.Goals as goal
-use Rattle.model.proofs.multiply.multiply_good.Lts
-use Rattle.model.proofs.multiply.multiply_good.Reads
-use Rattle.model.proofs.multiply.multiply_good.Tie
-
-abbrev After-round_product-product : Type 0
-After-round_product-product = Lts.After-round_product Tie.the-claims Reads.Pre Reads.Post Tie.handed_clauses
 
 -- the terms of a good model, of which there are as many as its degree says
 terms_length : (m : Model) → Good m → length m.coefficients ≡ 33 → length (take (m.degree + 1) m.coefficients) ≡ m.degree + 1
@@ -32,21 +26,15 @@ terms_length m h l = length-take-le (m.degree + 1) m.coefficients (omega (arith,
 pub overflow_add-top : goal.overflow_add-top
 overflow_add-top c = omega (arith, good_is c.args.a c.requires.first_good, good_is c.args.b c.requires.second_good)
 
-pub slice_bounds-first-end : goal.slice_bounds-first-end
-slice_bounds-first-end c =
+pub shared_ref_as_front-round_product : goal.shared_ref_as_front-round_product
+shared_ref_as_front-round_product c =
     let l : length c.args.a.coefficients ≡ 33 = search rules in
     omega (arith, good_is c.args.a c.requires.first_good, l)
 
-pub slice_bounds-round_product-end : goal.slice_bounds-round_product-end
-slice_bounds-round_product-end c = sym (terms_length c.args.a (good_is c.args.a c.requires.first_good) (search rules))
-
-pub slice_bounds-second-end : goal.slice_bounds-second-end
-slice_bounds-second-end c =
+pub shared_ref_as_front-round_product-2 : goal.shared_ref_as_front-round_product-2
+shared_ref_as_front-round_product-2 c =
     let l : length c.args.b.coefficients ≡ 33 = search rules in
     omega (arith, good_is c.args.b c.requires.second_good, l)
-
-pub slice_bounds-round_product-end-2 : goal.slice_bounds-round_product-end-2
-slice_bounds-round_product-end-2 c = sym (terms_length c.args.b (good_is c.args.b c.requires.second_good) (search rules))
 
 pub round_product-product-requires-clause-factors : goal.round_product-product-requires-clause-factors
 round_product-product-requires-clause-factors c =
@@ -61,13 +49,8 @@ radius_loss-requires c = omega (arith, c.requires, good_is c.args.a c.requires.f
 
 -- the walk, and the list C that it formed, rounded
 module _ (c : After-round_product-product) where
-  degree-is : c.if-kept-top.degree ≡ product_degree c.args.kept c.args.a c.args.b
-  degree-is =
-      let e = kept_is c.args.kept c.args.a.degree c.args.b.degree c.requires.kept_fits in
-      elim c.if-kept-top.branch [
-        | then-kept-top w ↦ omega (arith, e, w.degree-is, w.if-kept-top.true)
-        | else-kept-top w ↦ omega (arith, e, w.degree-is, w.if-kept-top.false)
-      ]
+  degree-is : c.min-degree.result ≡ product_degree c.args.kept c.args.a c.args.b
+  degree-is = omega (arith, kept_is c.args.kept c.args.a.degree c.args.b.degree c.requires.kept_fits, c.min-degree.ensures)
 
   walked :
       RoundedFrom (2 * scale) (product_list c.args.a c.args.b) (suc (product_degree c.args.kept c.args.a c.args.b)) c.round_product-product.result.rounded
@@ -76,13 +59,14 @@ module _ (c : After-round_product-product) where
 
 pub overflow_add-loss : goal.overflow_add-loss
 overflow_add-loss c =
-    omega (arith, c.radius_loss.ensures.1, rounded_loss (2 * scale) (omega arith) (product_list c.args.a c.args.b) _ c.round_product-product.result.rounded (walked c.before.before.before.before.before.before.before).0, weight-product_list c.args.a c.args.b c.requires.first_good c.requires.second_good)
+    let at = (goal.at.overflow_add-loss c).After-round_product-product in
+    omega (arith, c.radius_loss.ensures.1, rounded_loss (2 * scale) (omega arith) (product_list c.args.a c.args.b) _ c.round_product-product.result.rounded (walked at).0, weight-product_list c.args.a c.args.b c.requires.first_good c.requires.second_good)
 
 pub returns : goal.returns
 returns c =
-    let at = c.before.before.before.before.before.before.before.before.before in
+    let at = (goal.at.returns c).After-round_product-product in
     let p = c.round_product-product.result.rounded in
     let n : c.radius_loss.result ≡ radius_loss c.args.a c.args.b = c.radius_loss.ensures.0 ∙ (λ t. 2 * (c.requires.first_weight t * c.args.b.radius + c.requires.second_weight t * c.args.a.radius + c.args.a.radius * c.args.b.radius)) in
-    let e : c.up_unsigned.result ≡ upℕ (p.loss + radius_loss c.args.a c.args.b) (2 * scale) = c.up_unsigned.ensures ∙ ap (λ m. upℕ (p.loss + m) (2 * scale)) n in
+    let e : c.up_unsigned-radius.result ≡ upℕ (p.loss + radius_loss c.args.a c.args.b) (2 * scale) = c.up_unsigned-radius.ensures ∙ ap (λ m. upℕ (p.loss + m) (2 * scale)) n in
     let o = c.formed-outcome.ensures ∙ (λ t. formed_outcome (degree-is at t) p.coefficients p.weight (e t) c.args.a.interval) ∙ product_formed c.args.kept c.args.a c.args.b p (walked at).0 in
     record { outcome_value = o; visits_value = (walked at).1 }

@@ -1,14 +1,7 @@
 -- `products::add_products` meets its contract. The loop's invariant in rest form, as for a term: the terms that are left,
 -- visited after the i · length b pairs that were, give all terms added to the list as it came.
-use mathlib.Core.Path.{◌≡◌, refl, sym, ◌∙◌, ap}
-use mathlib.Core.List.{List}
-use Prim.Native.Nat.{ℕ, ◌+◌, ◌-◌, ◌*◌, ◌<◌, ◌≤◌}
-use native.Mathlib.Omega.{arith}
+use Rattle.std.proofs.Common.{rules, arith, ◌≡◌, sym, ◌∙◌, ap, List, ℕ, ◌+◌, ◌*◌, ◌<◌, ◌≤◌, ℤ, pos, nat_abs, length, get_or, drop, w32, FitsSigned}
 use native.Mathlib.Nat.{mul-le-mul, le_refl}
-use lib.IntN.{ℤ, pos, nat_abs}
-use lib.ListN.{length, get_or, drop}
-use mir.Syntax.{w32}
-use mir.Val.{SFits}
 use mir.Facts.{to_z-of_z}
 use Rattle.ring.specs.definitions.Integer.{ℤ_ring}
 use Rattle.integer.proofs.laws.Machine.{fits_widens}
@@ -20,15 +13,7 @@ use Rattle.chebyshev.proofs.laws.ProductLaws.{length_add_term, term_counted, ter
 use Rattle.chebyshev.proofs.laws.ProductWeight.{weight_add_term}
 use Rattle.model.proofs.products.add_products.Invariants.{Walked}
 use Rattle.model.proofs.products.add_products.Goals as goal
-use Rattle.model.proofs.products.add_products.Lts
-use Rattle.model.proofs.products.add_products.Reads
-use Rattle.model.proofs.products.add_products.Tie
-
-abbrev After-add_term-visits : Type 0
-After-add_term-visits = Lts.After-add_term Tie.the-claims Reads.Pre Reads.Post goal.the-invariant-loop-i goal.the-decreases-loop-i Tie.handed_clauses
-
-abbrev At-loop-i : Type 0
-At-loop-i = Lts.At-loop Tie.the-claims Reads.Pre Reads.Post goal.the-invariant-loop-i goal.the-decreases-loop-i Tie.handed_clauses
+use Rattle.model.proofs.products.add_products.Goals.{After-add_term-visits}
 
 part : (a b : List ℤ) (i : ℕ) → i < length a → weight (drop i a) * weight b ≡ nat_abs (get_or a i (pos 0)) * weight b + weight (drop (i + 1) a) * weight b
 part a b i h = omega (arith, ap (λ (n : ℕ). n * weight b) (weight_step a i h))
@@ -39,7 +24,6 @@ walk : (c₀ a b c : List ℤ) (visits i : ℕ) → Walked c₀ a b c visits i �
 walk c₀ a b c visits i w h d r e =
     let x = get_or a i (pos 0) in
     let list : d ≡ (add_term ℤ_ring (c, 0) x i 0 b).0 = ap (λ v. v.0) e in record {
-      within = omega arith;
       size = ap length list ∙ length_add_term ℤ_ring (c, 0) x i 0 b ∙ w.size;
       count = omega (arith, w.count, term_visits ℤ_ring (c, 0) x i 0 b, ap (λ v. v.1) e);
       rest =
@@ -49,54 +33,28 @@ walk c₀ a b c visits i w h d r e =
       bound = omega (arith, w.bound, ap weight list, weight_add_term (c, 0) x i 0 b, part a b i h);
     }
 
-pub loop-i-init : goal.loop-i-init
-loop-i-init c = record { within = omega arith; size = refl; count = omega arith; rest = refl; bound = omega arith }
-
--- at the loop's head
-module _ (l : At-loop-i) where
-  abbrev s : goal.Start
-  s = l.before
-
-  abbrev a : List ℤ
-  a = s.args.a.now
-
-  abbrev b : List ℤ
-  b = s.args.b.now
-
-  abbrev i : ℕ
-  i = l.loop-i.i
-
--- in a turn
-module _ (c : goal.After-add_term-arg-in-loop-i-1) where
-  abbrev l : At-loop-i
-  l = c.before.before.before
-
-  fits-x : SFits w32 (get_or (a l) (i l) (pos 0))
-  fits-x = record { sfits = c.add_term-arg-in-loop-i-1.given }
-
 pub add_term-visits-requires : goal.add_term-visits-requires
 add_term-visits-requires c =
-    let k = l c in
-    simp (to_z-of_z (fits-x c), to_z-of_z (fits_widens (fits-x c)))
-    (omega (arith, k.loop-i.invariant, part (a k) (b k) (i k) (omega arith), (s k).requires))
+    let a = c.args.a.now in
+    let fits-x : FitsSigned w32 (get_or a c.loop-i.i (pos 0)) = search rules in
+    simp (to_z-of_z fits-x, to_z-of_z (fits_widens fits-x)) (omega (arith, c.loop-i.invariant, part a c.args.b.now c.loop-i.i (omega arith), c.requires))
 
 -- after a turn
-turned : (c : After-add_term-visits)
-    → let k = l c.before in Walked (s k).args.c.now (a k) (b k) c.add_term-visits.new.c (k.loop-i.visits + c.add_term-visits.result) (i k + 1)
+turned : (c : After-add_term-visits) → Walked c.args.c.now c.args.a.now c.args.b.now c.add_term-visits.new.c (c.loop-i.visits + c.add_term-visits.result) (c.loop-i.i + 1)
 turned c =
-    let k = l c.before in
-    walk (s k).args.c.now (a k) (b k) k.loop-i.c k.loop-i.visits (i k) k.loop-i.invariant (omega arith) c.add_term-visits.new.c c.add_term-visits.result
-    (simp (to_z-of_z (fits-x c.before), to_z-of_z (fits_widens (fits-x c.before))) at c.add_term-visits.ensures)
+    let a = c.args.a.now in
+    let fits-x : FitsSigned w32 (get_or a c.loop-i.i (pos 0)) = search rules in
+    walk c.args.c.now a c.args.b.now c.loop-i.c c.loop-i.visits c.loop-i.i c.loop-i.invariant (omega arith) c.add_term-visits.new.c c.add_term-visits.result
+    (simp (to_z-of_z fits-x, to_z-of_z (fits_widens fits-x)) at c.add_term-visits.ensures)
 
 pub overflow_add-visits : goal.overflow_add-visits
-overflow_add-visits c =
-    let k = l c.before.before in
-    let h : i k + 1 ≤ length (a k) = omega arith in
-    omega (arith, (turned c.before).count, mul-le-mul h (le_refl (length (b k))), (s k).requires)
-
-pub returns : goal.returns
-returns c = let k = c.before in
-    let e : i k ≡ length (a k) = omega (arith, k.loop-i.invariant.within) in record { result_after = sym (terms_end ℤ_ring (k.loop-i.c, k.loop-i.visits) (i k) (a k) (b k) (omega arith)) ∙ k.loop-i.invariant.rest; value = k.loop-i.invariant.count ∙ ap (λ (n : ℕ). n * length (b k)) e }
+overflow_add-visits k =
+    let c = (goal.at.overflow_add-visits k).After-add_term-visits in
+    let h : c.loop-i.i + 1 ≤ length c.args.a.now = omega arith in
+    omega (arith, (turned c).count, mul-le-mul h (le_refl (length c.args.b.now)), c.requires)
 
 pub loop-i-preserved : goal.loop-i-preserved
-loop-i-preserved c = turned c.before
+loop-i-preserved k = turned (goal.at.loop-i-preserved k).After-add_term-visits
+
+pub returns-clause-result_after : goal.returns-clause-result_after
+returns-clause-result_after c = sym (terms_end ℤ_ring (c.loop-i.c, c.loop-i.visits) c.loop-i.i c.args.a.now c.args.b.now (omega arith)) ∙ c.loop-i.invariant.rest

@@ -1,150 +1,118 @@
 -- `round::round` meets its contract: a turn is that of the walk (RoundingWalk.antt). A rounded number is written only where the
 -- weight so far is within its limit, so it fits.
-use mathlib.Core.Path.{◌≡◌, refl, sym, ◌∙◌, ap, ap₂}
-use Prim.Native.Nat.{ℕ, ◌+◌, ◌-◌, ◌^◌, ◌<◌, ◌≤◌}
-use lib.IntN.{ℤ, pos, nat_abs, ◌-ℤ◌, ◌*ℤ◌}
-use lib.Seq.{length-take-le, get_or-take, take_all}
-use mir.Syntax.{w64, w32}
-use mir.Val.{SFits, to_z, of_z}
-use Rattle.std.proofs.Common.{List, arith, length, get_or, take, drop, set, length-drop, to_z-of_z}
+use Rattle.std.proofs.Common.{arith, ◌≡◌, refl, ◌∙◌, ap, ap₂, List, ℕ, ◌+◌, ◌-◌, ◌^◌, ◌<◌, ◌≤◌, ℤ, pos, nat_abs, ◌-ℤ◌, ◌*ℤ◌, length, get_or, take, drop, set, length-drop, w64, w32, FitsSigned, to_z, of_z, to_z-of_z}
+use lib.Seq.{length-take-le, take_all}
 use Rattle.integer.proofs.laws.Machine.{abs-fits, is_positive, above_one, positive_is}
 use Rattle.chebyshev.specs.definitions.Coefficients.{weight}
-use Rattle.chebyshev.proofs.laws.Weight.{weight_at, weight-drop, weight_split}
+use Rattle.chebyshev.proofs.laws.Weight.{weight_at, weight-take, weight-drop, weight_split}
 use Rattle.model.specs.definitions.Models.{max_weight}
+use Rattle.model.specs.definitions.InnerContracts.{Roundable}
 use Rattle.model.proofs.laws.RoundingPassLaws.{rounded_at, loss_at, loss_small, product_small}
 use Rattle.model.proofs.RoundingWalk.{Walk, begins, turn, ends, small}
-use Rattle.model.proofs.round.round.Goals.{then-weight-le-MAX_WEIGHT, else-weight-le-MAX_WEIGHT}
 use Rattle.model.proofs.round.round.Goals as goal
-use Rattle.model.proofs.round.round.Lts
-use Rattle.model.proofs.round.round.Reads
-use Rattle.model.proofs.round.round.Tie
-
-abbrev At-loop-k : Type 0
-At-loop-k = Lts.At-loop Tie.the-claims Reads.Pre Reads.Post goal.the-invariant-loop-k goal.the-decreases-loop-k
-
-abbrev Start : Type 0
-Start = Lts.Start Tie.the-claims Reads.Pre Reads.Post goal.the-invariant-loop-k goal.the-decreases-loop-k
+use Rattle.model.proofs.round.round.Goals.{After-near-q, then-weight-le-MAX_WEIGHT, else-weight-le-MAX_WEIGHT}
 
 -- the list and its kept numbers
-module _ (s : Start) where
-  abbrev n : ℕ
-  n = s.args.kept
+module _ {all : List ℤ} {n : ℕ} {u : ℤ} (pre : Roundable all n u) where
+  unit-is : u ≡ pos (nat_abs u)
+  unit-is = positive_is u (is_positive u (above_one u pre.divides).0)
 
-  abbrev all : List ℤ
-  all = s.args.c.now
-
-  abbrev cs : List ℤ
-  cs = take n all
-
-  -- the divisor, as the loop has it
-  abbrev u : ℤ
-  u = to_z w64 (of_z w64 s.args.unit)
-
-  abbrev d : ℕ
-  d = nat_abs u
-
-  same-unit : u ≡ s.args.unit
-  same-unit = to_z-of_z s.ranges.unit
-
-  unit-is : u ≡ pos d
-  unit-is = positive_is u (rw same-unit (is_positive s.args.unit (above_one s.args.unit s.requires.divides).0))
-
-  two : 2 ≤ d
-  two = rw same-unit (above_one s.args.unit s.requires.divides).1
-
-  cs-length : length cs ≡ n
-  cs-length = length-take-le n all s.requires.there
+  two : 2 ≤ nat_abs u
+  two = (above_one u pre.divides).1
 
   -- what is lent to `weigh`
   rest-is : take (length all - n) (drop n all) ≡ drop n all
   rest-is = take_all (length all - n) (drop n all) (omega (arith, length-drop n all))
 
-  bounded : {out : List ℤ} {total loss k : ℕ} → Walk d cs (weight (drop n all)) out total loss k → (total < 2 ^ 62) × (loss < 2 ^ 62)
-  bounded w = let h = small two w in omega (arith, weight_split n all, s.requires.light)
+  bounded : {out : List ℤ} {total loss k : ℕ} → Walk (nat_abs u) (take n all) (weight (drop n all)) out total loss k → (total < 2 ^ 62) × (loss < 2 ^ 62)
+  bounded w = let h = small two w in omega (arith, weight_split n all, pre.light)
+
+  light : (k : ℕ) → nat_abs (get_or (take n all) k (pos 0)) < 2 ^ 62
+  light k = omega (arith, weight_at (take n all) k, weight-take n all, pre.light)
+
+pub weigh-loss-requires : goal.weigh-loss-requires
+weigh-loss-requires c = rw (rest-is c.requires) (omega (arith, weight-drop c.args.kept c.args.c.now, c.requires))
 
 pub loop-k-init : goal.loop-k-init
 loop-k-init c =
-    let s = c.before.before in
-    rw (rw (rest-is s) at c.weigh-loss.ensures) (begins (d s) (cs s) (weight (drop (n s) (all s))) (omega (arith, cs-length s, s.requires)))
+    rw (to_z-of_z c.ranges.unit, rw (rest-is c.requires) at c.weigh-loss.ensures)
+    (begins (nat_abs c.args.unit) (take c.args.kept c.args.c.now) (weight (drop c.args.kept c.args.c.now)) (omega (arith, length-take-le c.args.kept c.args.c.now c.requires.there, c.requires)))
 
 -- in a turn, with q rounded
-module _ (c : goal.After-near-q) where
-  abbrev l : At-loop-k
-  l = c.before.before.before
+module _ (c : After-near-q) where
+  abbrev u : ℤ
+  u = c.args.unit
 
-  abbrev s : Start
-  s = l.before.before.before
+  abbrev cs : List ℤ
+  cs = take c.args.kept c.args.c.now
 
   abbrev k : ℕ
-  k = l.loop-k.k
+  k = c.loop-k.k
 
   abbrev x : ℤ
-  x = get_or (all s) k (pos 0)
+  x = get_or cs k (pos 0)
 
   abbrev q : ℤ
   q = c.near-q.result
 
-  fits-x : SFits w64 x
-  fits-x = abs-fits w64 x (omega (arith, weight_at (all s) k, s.requires.light))
+  fits-u : FitsSigned w64 u
+  fits-u = c.ranges.unit
 
-  q_is : q ≡ rounded_at (d s) x
-  q_is = rw (to_z-of_z fits-x) at c.near-q.ensures
+  fits-x : FitsSigned w64 x
+  fits-x = abs-fits w64 x (omega (arith, light c.requires k))
 
-  fits-q : SFits w64 q
+  q_is : q ≡ rounded_at (nat_abs u) x
+  q_is = rw (to_z-of_z fits-x, to_z-of_z fits-u) at c.near-q.ensures
+
+  fits-q : FitsSigned w64 q
   fits-q = record { sfits = c.near-q.type_inv }
 
-  fits-product : SFits w64 (u s *ℤ q)
-  fits-product = abs-fits w64 (u s *ℤ q) (omega (arith, ap (λ (z : ℤ). nat_abs (u s *ℤ z)) q_is, product_small (d s) (two s) x, ap (λ (z : ℤ). nat_abs (z *ℤ rounded_at (d s) x)) (unit-is s), weight_at (all s) k, s.requires.light))
+  fits-product : FitsSigned w64 (u *ℤ q)
+  fits-product =
+      abs-fits w64 (u *ℤ q) (omega (arith, ap (λ (z : ℤ). nat_abs (u *ℤ z)) q_is, product_small (nat_abs u) (two c.requires) x, ap (λ (z : ℤ). nat_abs (z *ℤ rounded_at (nat_abs u) x)) (unit-is c.requires), light c.requires k))
 
-  loss_is : nat_abs (x -ℤ u s *ℤ q) ≡ loss_at (d s) x
-  loss_is = ap₂ (λ (y z : ℤ). nat_abs (x -ℤ y *ℤ z)) (unit-is s) q_is
+  loss_is : nat_abs (x -ℤ u *ℤ q) ≡ loss_at (nat_abs u) x
+  loss_is = ap₂ (λ (y z : ℤ). nat_abs (x -ℤ y *ℤ z)) (unit-is c.requires) q_is
 
-  fits-loss : SFits w64 (x -ℤ u s *ℤ q)
-  fits-loss = abs-fits w64 (x -ℤ u s *ℤ q) (omega (arith, loss_is, loss_small (d s) (two s) x, weight_at (all s) k, s.requires.light))
+  fits-loss : FitsSigned w64 (x -ℤ u *ℤ q)
+  fits-loss = abs-fits w64 (x -ℤ u *ℤ q) (omega (arith, loss_is, loss_small (nat_abs u) (two c.requires) x, light c.requires k))
 
-  after : (m n : ℕ) (out : List ℤ) → m ≡ nat_abs q → n ≡ loss_at (d s) x → (l.loop-k.weight + m ≤ max_weight → out ≡ set l.loop-k.coefficients k q)
-      → Walk (d s) (cs s) (weight (drop s.args.kept (all s))) out (l.loop-k.weight + m) (l.loop-k.loss + n) (k + 1)
+  -- as the code has it
+  lost : nat_abs (to_z w64 (of_z w64 (to_z w64 (of_z w64 x) -ℤ to_z w64 (of_z w64 (to_z w64 (of_z w64 u) *ℤ to_z w64 (of_z w64 q)))))) ≡ loss_at (nat_abs u) x
+  lost = simp (to_z-of_z fits-x, to_z-of_z fits-q, to_z-of_z fits-u, to_z-of_z fits-product, to_z-of_z fits-loss) loss_is
+
+  after : (m n : ℕ) (out : List ℤ) → m ≡ nat_abs q → n ≡ loss_at (nat_abs u) x → (c.loop-k.weight + m ≤ max_weight → out ≡ set c.loop-k.coefficients k q)
+      → Walk (nat_abs u) cs (weight (drop c.args.kept c.args.c.now)) out (c.loop-k.weight + m) (c.loop-k.loss + n) (k + 1)
   after m n out =
-      turn x q m n out (two s) l.loop-k.invariant (omega (arith, cs-length s)) (sym (get_or-take s.args.kept (all s) k (pos 0) (omega arith))) q_is
-
-lost : (m : goal.After-magnitude-loss) → m.magnitude-loss.result ≡ loss_at (d (s m.before)) (x m.before)
-lost m = let c = m.before in (simp (to_z-of_z (fits-x c), to_z-of_z (fits-q c), to_z-of_z (fits-product c), to_z-of_z (fits-loss c)) at m.magnitude-loss.ensures) ∙ loss_is c
-
-module _ (r : goal.After-magnitude-weight) where
-  abbrev c : goal.After-near-q
-  c = r.before.before
-
-  size_is : r.magnitude-weight.result ≡ nat_abs (q c)
-  size_is = rw (to_z-of_z (fits-q c)) at r.magnitude-weight.ensures
-
-  narrows : (l c).loop-k.weight + r.magnitude-weight.result ≤ max_weight → SFits w32 (q c)
-  narrows h = abs-fits w32 (q c) (omega (arith, size_is))
-
-pub overflow_add-weight : goal.overflow_add-weight
-overflow_add-weight r = let c = c r in omega (arith, (bounded (s c) (after c r.magnitude-weight.result r.before.magnitude-loss.result _ (size_is r) (lost r.before) (λ _. refl))).0)
-
-pub loop-k-preserved : goal.loop-k-preserved
-loop-k-preserved j =
-    let r = j.before in
-    after (c r) r.magnitude-weight.result r.before.magnitude-loss.result j.if-weight-le-MAX_WEIGHT.coefficients (size_is r) (lost r.before)
-    (λ h. elim j.if-weight-le-MAX_WEIGHT.branch [
-      | then-weight-le-MAX_WEIGHT w ↦ w.coefficients-is ∙ simp (to_z-of_z (fits-q (c r)), to_z-of_z (narrows r h))
-      | else-weight-le-MAX_WEIGHT w ↦ absurd (omega (arith, w.if-weight-le-MAX_WEIGHT.false))
-    ])
-
-pub returns : goal.returns
-returns c =
-    let s = c.before.before.before.before in
-    rw (same-unit s) at (ends (all s) (n s) s.requires.there c.before.loop-k.invariant (omega arith))
-
-pub weigh-loss-requires : goal.weigh-loss-requires
-weigh-loss-requires c = let s = c.before in rw (rest-is s) (omega (arith, weight-drop (n s) (all s), s.requires))
+      turn x q m n out (two c.requires) (rw (to_z-of_z fits-u) at c.loop-k.invariant) (omega (arith, length-take-le c.args.kept c.args.c.now c.requires.there)) refl q_is
 
 pub overflow_mul-unit : goal.overflow_mul-unit
-overflow_mul-unit c = simp (to_z-of_z (fits-q c)) (fits-product c)
+overflow_mul-unit c = let t = (goal.at.overflow_mul-unit c).After-near-q in simp (to_z-of_z (fits-u t), to_z-of_z (fits-q t)) (fits-product t)
 
 pub overflow_sub-exact : goal.overflow_sub-exact
-overflow_sub-exact c = simp (to_z-of_z (fits-x c), to_z-of_z (fits-q c), to_z-of_z (fits-product c)) (fits-loss c)
+overflow_sub-exact c = let t = (goal.at.overflow_sub-exact c).After-near-q in simp (to_z-of_z (fits-u t), to_z-of_z (fits-x t), to_z-of_z (fits-q t), to_z-of_z (fits-product t)) (fits-loss t)
 
 pub overflow_add-loss : goal.overflow_add-loss
-overflow_add-loss m = let c = m.before in omega (arith, (bounded (s c) (after c (nat_abs (q c)) m.magnitude-loss.result _ refl (lost m) (λ _. refl))).1)
+overflow_add-loss c =
+    let t = (goal.at.overflow_add-loss c).After-near-q in
+    omega (arith, (bounded c.requires (after t (nat_abs (q t)) c.unsigned_abs-loss.result _ refl (c.unsigned_abs-loss.ensures.value ∙ lost t) (λ _. refl))).1)
+
+pub overflow_add-weight : goal.overflow_add-weight
+overflow_add-weight c =
+    let t = (goal.at.overflow_add-weight c).After-near-q in
+    let size = rw (to_z-of_z (fits-q t)) at c.unsigned_abs-weight.ensures.value in
+    omega (arith, (bounded c.requires (after t c.unsigned_abs-weight.result c.unsigned_abs-loss.result _ size (c.unsigned_abs-loss.ensures.value ∙ lost t) (λ _. refl))).0)
+
+pub loop-k-preserved : goal.loop-k-preserved
+loop-k-preserved c =
+    let t = (goal.at.loop-k-preserved c).After-near-q in
+    let m = c.unsigned_abs-weight.result in
+    let size : m ≡ nat_abs (q t) = rw (to_z-of_z (fits-q t)) at c.unsigned_abs-weight.ensures.value in
+    let narrow : c.loop-k.weight + m ≤ max_weight → FitsSigned w32 (q t) = λ h. abs-fits w32 (q t) (omega (arith, size)) in
+    rw (to_z-of_z (fits-u t)) (after t m c.unsigned_abs-loss.result c.if-weight-le-MAX_WEIGHT.coefficients size (c.unsigned_abs-loss.ensures.value ∙ lost t) (λ h. elim c.if-weight-le-MAX_WEIGHT.branch [
+      | then-weight-le-MAX_WEIGHT w ↦ w.coefficients-is ∙ simp (to_z-of_z (fits-q t), to_z-of_z (narrow h))
+      | else-weight-le-MAX_WEIGHT w ↦ absurd (omega (arith, w.if-weight-le-MAX_WEIGHT.false))
+    ]))
+
+pub returns : goal.returns
+returns c = ends c.args.c.now c.args.kept c.requires.there (rw (to_z-of_z c.ranges.unit) at c.loop-k.invariant) (omega (arith, length-take-le c.args.kept c.args.c.now c.requires.there))

@@ -1,6 +1,5 @@
 -- `product::add_multiple` meets its contract: what is left of b, added from place k on, gives the whole pass.
 use mathlib.Core.Path.{◌≡◌}
-use Prim.Native.Nat.{◌-◌}
 use lib.ListN.{length, drop}
 use lib.Ieee.{binary64, add, mul}
 use Rattle.chebyshev.specs.definitions.Passes.{add_from_by}
@@ -9,6 +8,3 @@ use Rattle.proposals.proofs.product.add_multiple.Given as goal
 abbrev pub invariant-loop-k : goal.invariant-loop-k
 invariant-loop-k l =
     (length l.c ≡ length l.initial.c) × (add_from_by (add binary64) (mul binary64) l.c l.x l.k (drop l.k l.b) ≡ add_from_by (add binary64) (mul binary64) l.initial.c l.x 0 l.b)
-
-abbrev pub decreases-loop-k : goal.decreases-loop-k
-decreases-loop-k l = length l.initial.c - l.k

@@ -1,13 +1,11 @@
 -- `rounds::largest_change` meets its contract: the places that are left give the rest of the change.
 use mathlib.Core.Path.{◌≡◌}
-use Prim.Native.Nat.{◌-◌, ◌≤◌}
-use lib.ListN.{drop}
+use lib.ListN.{length}
 use Rattle.proposals.specs.definitions.Values.{nought}
 use Rattle.proposals.specs.definitions.Rounds.{change_from}
 use Rattle.proposals.proofs.rounds.largest_change.Given as goal
 
-abbrev pub invariant-loop-k : goal.invariant-loop-k
-invariant-loop-k l = (l.k ≤ 33) × (change_from l.change (drop l.k l.a) (drop l.k l.b) ≡ change_from nought l.a l.b)
-
-abbrev pub decreases-loop-k : goal.decreases-loop-k
-decreases-loop-k l = 33 - l.k
+abbrev pub invariant-loop-x : goal.invariant-loop-x
+invariant-loop-x l =
+    (length l.x-iterator.a.rest.now ≡ length l.x-iterator.b.rest.now)
+    × (change_from l.change l.x-iterator.a.rest.now l.x-iterator.b.rest.now ≡ change_from nought l.fn.a l.fn.b)

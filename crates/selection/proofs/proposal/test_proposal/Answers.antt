@@ -1,24 +1,30 @@
 -- `proposal::test_proposal` meets its contract.
-use mathlib.Core.Path.{sym, ap}
 use native.Mathlib.Omega.{arith}
 use lib.ListN.{length, length-take}
-use Rattle.model.specs.definitions.Outcomes.{verdict_number}
-use Rattle.selection.proofs.laws.ProposalLaws.{short_radius, test_read, proposal_read, proposal_promised}
+use Rattle.std.proofs.Common.{Ok}
+use Rattle.std.proofs.lemmas.Result.{err_from_is_err_and}
+use Rattle.selection.proofs.laws.ProposalLaws.{test_read, passed_radius, refused_radius, proposal_promised}
 use Rattle.selection.proofs.proposal.test_proposal.Goals as goal
 
-pub returns-then-proposal-lt-PROPOSAL_SIZE : goal.returns-then-proposal-lt-PROPOSAL_SIZE
-returns-then-proposal-lt-PROPOSAL_SIZE c = let a = c.args in record { result_value = sym (short_radius (length a.scratch.now) a.f a.g a.proposal.now (omega arith)); scratch_after = c.clear_scratch.ensures; quotient_allowed = λ e. absurd (omega (arith, ap verdict_number e)) }
+pub returns-in_err-test-clause-result_value : goal.returns-in_err-test-clause-result_value
+returns-in_err-test-clause-result_value c =
+    let a = c.args in
+    let p = err_from_is_err_and c.from_residual.result c.from_residual.ensures.1 in
+    let e = test_read (length a.scratch.now) a.f a.g a.proposal.now c.read_candidate-h.result c.read_candidate-w.result (omega arith)
+    c.read_candidate-h.ensures c.read_candidate-w.ensures c.in_err-test.ensures.result_value in
+    rw (p.1, p.2) (refused_radius (length a.scratch.now) a.f a.g a.proposal.now _ e)
 
 pub returns : goal.returns
-returns c = let q = c.before in
-    let w = q.before.before in
-    let h = w.before.before in
-    let a = h.args in
-    let n = length a.scratch.now in
-    let t = q.quotient-test.result in
-    let e =
-    test_read n a.f a.g a.proposal.now h.read_candidate-h.result w.read_candidate-w.result (omega arith)
-    h.read_candidate-h.ensures w.read_candidate-w.ensures t q.quotient-test.ensures.result_value in record { result_value = proposal_read n a.f a.g a.proposal.now t e; scratch_after = q.quotient-test.ensures.scratch_after; quotient_allowed = proposal_promised n a.f a.g a.proposal.now t e q.quotient-test.ensures.quotient_allowed }
+returns c =
+    let a = c.args in
+    let e = test_read (length a.scratch.now) a.f a.g a.proposal.now c.read_candidate-h.result c.read_candidate-w.result (omega arith)
+    c.read_candidate-h.ensures c.read_candidate-w.ensures c.in_ok-test.ensures.result_value in
+    record {
+      result_value = passed_radius (length a.scratch.now) a.f a.g a.proposal.now _ e;
+      scratch_after = c.quotient.ensures.scratch_after;
+      quotient_allowed =
+          proposal_promised (length a.scratch.now) a.f a.g a.proposal.now (Ok c.in_ok-test.test) e c.in_ok-test.ensures.quotient_allowed;
+    }
 
 pub slice_bounds-read_candidate-end : goal.slice_bounds-read_candidate-end
 slice_bounds-read_candidate-end c = simp length-take (omega arith)

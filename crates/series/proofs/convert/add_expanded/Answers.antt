@@ -1,4 +1,5 @@
 -- `convert::add_expanded` meets its contract: after k turns the first k terms are expanded.
+use Rattle.std.proofs.Common.{rules}
 use mathlib.Core.Path.{◌≡◌, sym, ◌∙◌, ap}
 use mathlib.Core.List.{List}
 use Prim.Native.Nat.{ℕ, suc, ◌+◌, ◌-◌, ◌*◌, ◌<◌, ◌≤◌}
@@ -21,15 +22,6 @@ use Rattle.series.proofs.laws.RowLaws.{length_row, row_alternate}
 use Rattle.series.proofs.laws.ConversionLaws.{row_in_table, length_table, expanded_step, expanded_end, multiple_weight}
 use Rattle.series.proofs.convert.add_expanded.Invariants.{Walked}
 use Rattle.series.proofs.convert.add_expanded.Goals as goal
-use Rattle.series.proofs.convert.add_expanded.Lts
-use Rattle.series.proofs.convert.add_expanded.Reads
-use Rattle.series.proofs.convert.add_expanded.Tie
-
-abbrev At-loop-k : Type 0
-At-loop-k = Lts.At-loop Tie.the-claims Reads.Pre Reads.Post goal.the-invariant-loop-k goal.the-decreases-loop-k
-
-abbrev Start : Type 0
-Start = Lts.Start Tie.the-claims Reads.Pre Reads.Post goal.the-invariant-loop-k goal.the-decreases-loop-k
 
 walk : {sums₀ ps sums table : List ℤ} {k : ℕ} → Expandable sums₀ ps table → Walked sums₀ ps sums k → k < length ps
     → Walked sums₀ ps (add_lists ℤ_ring sums (scale_list ℤ_ring (get_or ps k (pos 0)) (expansion_row k))) (k + 1)
@@ -45,9 +37,6 @@ walk {sums₀} {ps} {sums} {table} {k} e w h =
           omega (arith, w.bound, weight-add sums m, multiple_weight k (get_or ps k (pos 0)) (omega (arith, e.few)), weight_step ps k h);
     }
 
-table-length : (s : Start) → length s.args.table.now ≡ 33 * 33
-table-length s = ap length s.requires.table_is ∙ length_table
-
 -- the part of the table that is lent in turn k
 lent : (k : ℕ) {sums ps table : List ℤ} → Expandable sums ps table → k < length ps
     → take (33 * k + k + 1 - 33 * k) (drop (33 * k) table) ≡ expansion_row k
@@ -55,50 +44,33 @@ lent k e h =
     let n : 33 * k + k + 1 - 33 * k ≡ suc k = omega arith in
     rw (n, e.table_is) (row_in_table k (omega (arith, e.few)))
 
--- at the loop's head
-module _ (l : At-loop-k) where
-  abbrev k : ℕ
-  k = l.loop-k.k
-
-  abbrev ps : List ℤ
-  ps = l.before.args.terms.now
-
-  abbrev p : ℤ
-  p = get_or ps k (pos 0)
-
--- in a turn
-module _ (c : goal.After-add_multiple-arg-in-loop-k-2-1) where
-  abbrev head : At-loop-k
-  head = c.before.before.before.before
-
-  fits-p : SFits w32 (p head)
-  fits-p = record { sfits = c.before.add_multiple-arg-in-loop-k-1.given }
+pub slice_bounds-add_multiple-end : goal.slice_bounds-add_multiple-end
+slice_bounds-add_multiple-end c = omega (arith, ap length c.requires.table_is ∙ length_table, c.requires.few)
 
 pub add_multiple-requires : goal.add_multiple-requires
 add_multiple-requires c =
-    let l = head c in
-    let b : k l ≤ max_degree = omega (arith, l.before.requires.few) in
-    rw (lent (k l) l.before.requires (omega arith))
-    (simp (to_z-of_z (fits-p c), to_z-of_z (fits_widens (fits-p c))) (record {
-      room = omega (arith, length_row (k l), l.loop-k.invariant, l.before.requires);
+    let k = c.loop-k.k in
+    let ps = c.args.terms.now in
+    let p = get_or ps k (pos 0) in
+    let b : k ≤ max_degree = omega (arith, c.requires.few) in
+    let f : SFits w32 p = search rules in
+    rw (lent k c.requires (omega arith))
+    (simp (to_z-of_z f, to_z-of_z (fits_widens f)) (record {
+      room = omega (arith, length_row k, c.loop-k.invariant, c.requires);
       light =
-          omega (arith, l.loop-k.invariant, l.before.requires, weight-scale (p l) (expansion_row (k l)), multiple_weight (k l) (p l) b, weight_step (ps l) (k l) (omega arith));
-      alternate = λ i m e. row_alternate (k l) i m b (e ∙ length_row (k l));
+          omega (arith, c.loop-k.invariant, c.requires, weight-scale p (expansion_row k), multiple_weight k p b, weight_step ps k (omega arith));
+      alternate = λ i m e. row_alternate k i m b (e ∙ length_row k);
     }))
 
 pub loop-k-preserved : goal.loop-k-preserved
 loop-k-preserved c =
-    let d = c.before.before in
-    let l = head d in
-    let e = rw (lent (k l) l.before.requires (omega arith)) at (simp (to_z-of_z (fits-p d), to_z-of_z (fits_widens (fits-p d))) at c.before.add_multiple.ensures) in
-    rw e (walk l.before.requires l.loop-k.invariant (omega arith))
+    let f : SFits w32 (get_or c.args.terms.now c.loop-k.k (pos 0)) = search rules in
+    let e = rw (lent c.loop-k.k c.requires (omega arith)) at (simp (to_z-of_z f, to_z-of_z (fits_widens f)) at c.add_multiple.ensures) in
+    rw e (walk c.requires c.loop-k.invariant (omega arith))
 
 pub returns : goal.returns
 returns c =
-    let l = c.before in
-    sym (add-nil ℤ_ring l.loop-k.sums)
-    ∙ ap (add_lists ℤ_ring l.loop-k.sums) (sym (expanded_end l.before.args.terms.now l.loop-k.k (omega arith)))
-    ∙ l.loop-k.invariant.rest
-
-pub slice_bounds-add_multiple-end : goal.slice_bounds-add_multiple-end
-slice_bounds-add_multiple-end c = omega (arith, table-length c.before.before.before.before, c.before.before.before.before.requires.few)
+    let l = c.loop-k in
+    sym (add-nil ℤ_ring l.sums)
+    ∙ ap (add_lists ℤ_ring l.sums) (sym (expanded_end c.args.terms.now l.k (omega arith)))
+    ∙ l.invariant.rest

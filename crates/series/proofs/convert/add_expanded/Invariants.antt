@@ -1,7 +1,7 @@
 -- `convert::add_expanded` meets its contract: after k turns the first k terms are expanded.
 use mathlib.Core.Path.{◌≡◌}
 use mathlib.Core.List.{List}
-use Prim.Native.Nat.{ℕ, ◌+◌, ◌-◌, ◌*◌, ◌≤◌}
+use Prim.Native.Nat.{ℕ, ◌+◌, ◌*◌, ◌≤◌}
 use lib.IntN.{ℤ}
 use lib.ListN.{length, drop}
 use Rattle.ring.specs.definitions.Integer.{ℤ_ring}
@@ -18,6 +18,3 @@ pub record Walked (sums₀ ps sums : List ℤ) (k : ℕ) : Type 0 where
 
 abbrev pub invariant-loop-k : goal.invariant-loop-k
 invariant-loop-k l = Walked l.initial.sums l.terms l.sums l.k
-
-abbrev pub decreases-loop-k : goal.decreases-loop-k
-decreases-loop-k l = length l.terms - l.k

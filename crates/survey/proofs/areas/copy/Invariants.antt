@@ -1,12 +1,8 @@
 -- `areas::copy` meets its contract: a turn copies one byte.
 use mathlib.Core.Path.{◌≡◌}
-use Prim.Native.Nat.{◌-◌}
 use lib.ListN.{length}
 use Rattle.integer.proofs.laws.Filling.{Filling}
 use Rattle.survey.proofs.areas.copy.Given as goal
 
 abbrev pub invariant-loop-i : goal.invariant-loop-i
 invariant-loop-i l = (length l.from ≡ length l.initial.to) × Filling l.from l.initial.to l.to 0 (length l.from) l.i
-
-abbrev pub decreases-loop-i : goal.decreases-loop-i
-decreases-loop-i l = length l.from - l.i

@@ -5,8 +5,8 @@ use lib.ListN.{length}
 use Rattle.survey.proofs.laws.WalkLaws.{Walking}
 use Rattle.survey.proofs.walk.walk.Given as goal
 
-abbrev pub invariant-loop-refusal : goal.invariant-loop-refusal
-invariant-loop-refusal l = Walking l.job l.initial.out l.out l.list l.count l.at l.k × (length l.out ≡ length l.initial.out)
+abbrev pub invariant-loop-read : goal.invariant-loop-read
+invariant-loop-read l = Walking l.job l.initial.out l.out l.list l.count l.at l.command × (length l.out ≡ length l.initial.out)
 
-abbrev pub decreases-loop-refusal : goal.decreases-loop-refusal
-decreases-loop-refusal l = length l.job - l.at
+abbrev pub decreases-loop-read : goal.decreases-loop-read
+decreases-loop-read l = length l.job - l.at

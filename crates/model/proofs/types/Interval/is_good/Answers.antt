@@ -9,7 +9,6 @@ use Rattle.model.proofs.types.Interval.is_good.Goals as goal
 pub returns : goal.returns
 unfolding good_ends
 returns c =
-    let a = c.before.before.args in
-    let lower : SFits w32 a.i.lower = search rules in
-    let upper : SFits w32 a.i.upper = search rules in
+    let lower : SFits w32 c.args.self.lower = search rules in
+    let upper : SFits w32 c.args.self.upper = search rules in
     simp (to_z-of_z lower, to_z-of_z upper)

@@ -9,6 +9,4 @@ use Rattle.model.proofs.types.Model.constant.Goals as goal
 
 pub returns : goal.returns
 unfolding constant_model
-returns c =
-    let s = c.before.before in
-    (simp (to_z-of_z s.ranges.c) at c.new.ensures) ∙ ap (make_model 0 (s.args.c ∷ replicate 32 (pos 0)) 0) c.before.standard-interval.ensures
+returns c = (simp (to_z-of_z c.ranges.c) at c.new.ensures) ∙ ap (make_model 0 (c.args.c ∷ replicate 32 (pos 0)) 0) c.standard.ensures

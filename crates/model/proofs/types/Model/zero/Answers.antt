@@ -7,4 +7,4 @@ use Rattle.model.proofs.types.Model.zero.Goals as goal
 
 pub returns : goal.returns
 unfolding zero_model
-returns c = c.new.ensures ∙ ap (make_model 0 (replicate coefficient_count (pos 0)) 0) c.before.zero-interval.ensures
+returns c = c.new.ensures ∙ ap (make_model 0 (replicate coefficient_count (pos 0)) 0) c.zero.ensures
