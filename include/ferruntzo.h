@@ -339,7 +339,7 @@ uint32_t ferruntzo_evaluate(const int32_t *a, size_t a_len,
    coefficients become zero.  Accepted: out has the ends -S and S, and at every x from
    -1 to 1 it allows the exact value of the series.  The radius covers this
    rounding only; docs/FORMAT.md says how the model becomes a load of a job.
-   About 12 kB of stack.
+   About 11.6 kB of stack.
    Sizes: series 34, out 37.  Refused: out is zero, if it has its 37 numbers.
    Refusals: 1 (series or out), 14, 3 (rounding can take a weight near 2^28 above it). */
 uint32_t ferruntzo_from_series(const int32_t *series, size_t series_len,

@@ -14,6 +14,8 @@ use model::measure::{checked_candidate, checked_weight};
 use model::types::{Candidate, Model, Refusal};
 
 // The test of good models and candidates, over a part of the scratch of any length from 1.
+// Inline, as a call of its own takes 464 bytes of stack more.
+#[inline(always)]
 fn test_good(
     part: &mut [i64],
     f: Model,

@@ -1,14 +1,14 @@
 -- The step from what the check of a job and its conversion answer to their claims over one more lent area.
 use mathlib.Core.Path.{◌≡◌, refl, ap, sym, subst, ◌∙◌}
 use mathlib.Core.Bool.{Bool, not}
-use mathlib.Core.List.{List, [], ◌∷◌}
+use mathlib.Core.List.{List, [], ◌∷◌, ◌++◌}
 use mathlib.Core.Logic.{inl}
 use Rattle.std.specs.Prelude.{Result, Ok, Err}
 use Prim.Native.Nat.{ℕ, ◌≤◌, ◌<◌}
 use native.Mathlib.Omega.{arith}
 use borrow.Author.Tests.{le-leb, lt-leb, ne_eqb}
 use lib.IntN.{ℤ}
-use lib.ListN.{length, take, replicate}
+use lib.ListN.{length, drop, take, replicate}
 use Rattle.model.specs.definitions.Area.{area_out}
 use Rattle.model.specs.definitions.Outcomes.{number_of, here}
 use Rattle.model.proofs.laws.OutcomeLaws.{number_of_positive}
@@ -31,13 +31,16 @@ answerable r same small =
 abbrev pub answer_over : Result ℕ RefusedCommand → List ℕ → List ℕ
 answer_over r answer = area_out answer_size (answer_numbers (job_outcome_of r)) answer
 
--- what its numbers mean is what was answered
-answer_means : (r : Result ℕ RefusedCommand) (answer : List ℕ) → answer_size ≤ length answer
+-- what its numbers mean is what was answered, whatever stands behind them
+pub answer_means : (r : Result ℕ RefusedCommand) (answer : List ℕ)
+    → answer_in (refusal_number (job_outcome_of r)) (answer_numbers (job_outcome_of r) ++ drop answer_size answer) ≡ job_outcome_of r
+answer_means (Ok count) answer = refl
+answer_means (Err r) answer = rw (ne_eqb (number_of r.refusal) 0 (omega (arith, number_of_positive r.refusal)))
+
+area_means : (r : Result ℕ RefusedCommand) (answer : List ℕ) → answer_size ≤ length answer
     → answer_in (refusal_number (job_outcome_of r)) (answer_over r answer) ≡ job_outcome_of r
 unfolding area_out
-answer_means (Ok count) answer long = rw (le-leb answer_size (length answer) long)
-answer_means (Err r) answer long =
-    rw (le-leb answer_size (length answer) long, ne_eqb (number_of r.refusal) 0 (omega (arith, number_of_positive r.refusal)))
+area_means r answer long = rw (le-leb answer_size (length answer) long) (answer_means r answer)
 
 -- requirement 3, with the area of the answer before the other places
 module _ (places : List (Bool × ℕ)) (job answer : List ℕ) (w : List ℤ) where
@@ -46,7 +49,7 @@ module _ (places : List (Bool × ℕ)) (job answer : List ℕ) (w : List ℤ) wh
       → Requirement3 (area_place answer_size (length answer) ∷ places) job (answer_in n m) w
   required r long number_is answer_is claim =
       subst (λ (x : JobOutcome ℕ). Requirement3 (area_place answer_size (length answer) ∷ places) job x w)
-      (sym ((λ k. answer_in (number_is k) (answer_is k)) ∙ answer_means r answer long))
+      (sym ((λ k. answer_in (number_is k) (answer_is k)) ∙ area_means r answer long))
       (required_behind (_ ∷ []) (ap not (le-leb answer_size (length answer) long), tt) claim)
 
   -- it is too short
@@ -83,7 +86,7 @@ module _ (job out answer : List ℕ) where
 
     pub converts_so : {left : List ℕ} → ((count : ℕ) → job_outcome_of r ≡ accepted count → ConvertedJob job (take count left))
         → (count : ℕ) → answer_in n m ≡ accepted count → ConvertedJob job (take count left)
-    converts_so claim count e = claim count (sym ((λ k. answer_in (number_is k) (answer_is k)) ∙ answer_means r answer long) ∙ e)
+    converts_so claim count e = claim count (sym ((λ k. answer_in (number_is k) (answer_is k)) ∙ area_means r answer long) ∙ e)
 
   pub unconverted : length answer < answer_size → {left : List ℕ} → left ≡ replicate (length out) 0
       → edition_answer 1 left answer ≡ convert_answer job out answer

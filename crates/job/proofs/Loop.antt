@@ -51,23 +51,16 @@ going_begins report job w room long e r = record {
 
 module _ {report : Report} {job : List ℕ} {begun work : List ℤ} {bare room : List ℕ} {at k count : ℕ}
     (g : Going report job begun work bare room at k count) (work' : List ℤ) (room' : List ℕ)
-    (records : RecordsBy report room room' work count (λ rs. added_at job k rs at)) where
+    (wrote : room' ≡ recorded_from report room count (added_at job k g.rs at)) where
   abbrev t : List ℤ
   t = drop work_size begun
 
   abbrev u : List ℕ
   u = drop (room_size report) bare
 
-  -- the code answers r
-  abbrev Does : CodeStep → Type 0
-  Does r = StepsBy r work work' count (λ rs. command job k rs at)
-
-  wrote : room' ≡ recorded_from report room count (added_at job k g.rs at)
-  wrote = records g.rs t g.holds
-
-  again_by : (s : Step (List Model)) (p : Progress) → command job k g.rs at ≡ s → Stepped (Ok (Some p)) work' g.rs t s
+  pub going_again : (s : Step (List Model)) (p : Progress) → command job k g.rs at ≡ s → Stepped (Ok (Some p)) work' g.rs t s
       → length work' ≡ length work → length room' ≡ length room → (at < p.next) × Going report job begun work' bare room' p.next (k + 1) p.results
-  again_by (more rs' next) p e d l lr =
+  going_again (more rs' next) p e d l lr =
       let ea : p.next ≡ next = cc d.answer in
       let ec : p.results ≡ length rs' = cc d.answer in
       let m = moves_on g.reaches e in
@@ -90,12 +83,12 @@ module _ {report : Report} {job : List ℕ} {begun work : List ℤ} {bare room :
           same_room = lr ∙ g.same_room;
         },
       )
-  again_by over p e d l lr = let z : ◌≡◌ {A = ℕ} 0 1 = cc d.answer in absurd (omega arith)
-  again_by (Step.refused n) p e d l lr = let z : ◌≡◌ {A = ℕ} 0 1 = cc d.answer in absurd (omega arith)
+  going_again over p e d l lr = let z : ◌≡◌ {A = ℕ} 0 1 = cc d.answer in absurd (omega arith)
+  going_again (Step.refused n) p e d l lr = let z : ◌≡◌ {A = ℕ} 0 1 = cc d.answer in absurd (omega arith)
 
-  ends_by : (s : Step (List Model)) → command job k g.rs at ≡ s → Stepped (Ok None) work' g.rs t s
+  pub going_ends : (s : Step (List Model)) → command job k g.rs at ≡ s → Stepped (Ok None) work' g.rs t s
       → Ran report job begun bare (Ok count) work' room'
-  ends_by over e d =
+  going_ends over e d =
       let o : job_outcome job ≡ accepted g.rs = ends_there g.reaches e in
       record {
         answer = rw o (ap accepted g.holds.count_is);
@@ -103,14 +96,15 @@ module _ {report : Report} {job : List ℕ} {begun work : List ℤ} {bare room :
         claim = subst⁻¹ (λ (n : ℕ). Requirement3 [] job (accepted n) work') g.holds.count_is (requirement job g.rs o work' t d.holds);
         room_is = room_ended report u g.there g.holds.count_is g.room_is wrote g.reaches e;
       }
-  ends_by (more rs' next) e d = let z : ◌≡◌ {A = ℕ} 0 1 = cc d.answer in absurd (omega arith)
-  ends_by (Step.refused n) e d = let z : ◌≡◌ {A = ℕ} 0 1 = cc d.answer in absurd (omega arith)
+  going_ends (more rs' next) e d = let z : ◌≡◌ {A = ℕ} 0 1 = cc d.answer in absurd (omega arith)
+  going_ends (Step.refused n) e d = let z : ◌≡◌ {A = ℕ} 0 1 = cc d.answer in absurd (omega arith)
 
-  stops_by : (s : Step (List Model)) (v : Refusal) (work'' : List ℤ) (room'' : List ℕ) → command job k g.rs at ≡ s
+  -- after a refusal the area and the room are cleared
+  pub going_stops : (s : Step (List Model)) (v : Refusal) (work'' : List ℤ) (room'' : List ℕ) → command job k g.rs at ≡ s
       → Stepped (Err v) work' g.rs t s → work'' ≡ zeros work_size ++ drop work_size work'
       → room'' ≡ zero_bytes (room_size report) ++ drop (room_size report) room' → Ran report job begun bare (Err (record { refusal = v; command = k })) work'' room''
   unfolding work_with result_words
-  stops_by (Step.refused n) v work'' room'' e d c cr =
+  going_stops (Step.refused n) v work'' room'' e d c cr =
       let b = reaches_bounds g.reaches in
       let o : job_outcome job ≡ refused n k = stops_there g.reaches e in
       let en : number_of v ≡ n = cc d.answer in
@@ -120,18 +114,27 @@ module _ {report : Report} {job : List ℕ} {begun work : List ℤ} {bare room :
         claim = refused_required (inr (tt, (refused_exactly job n k).0 o)) (number_of v) k work'';
         room_is = room_refused report u g.there g.holds.count_is g.room_is wrote b.results e o cr;
       }
-  stops_by over v work'' room'' e d c cr = let z : ◌≡◌ {A = ℕ} 0 1 = cc d.answer in absurd (omega arith)
-  stops_by (more rs' next) v work'' room'' e d c cr = let z : ◌≡◌ {A = ℕ} 0 1 = cc d.answer in absurd (omega arith)
+  going_stops over v work'' room'' e d c cr = let z : ◌≡◌ {A = ℕ} 0 1 = cc d.answer in absurd (omega arith)
+  going_stops (more rs' next) v work'' room'' e d c cr = let z : ◌≡◌ {A = ℕ} 0 1 = cc d.answer in absurd (omega arith)
 
-  pub going_again : {p : Progress} → Does (Ok (Some p)) → length work' ≡ length work → length room' ≡ length room
+-- the same where the step is known by its contract, for every list of results that the work area can hold
+module _ {report : Report} {job : List ℕ} {begun work : List ℤ} {bare room : List ℕ} {at k count : ℕ}
+    (g : Going report job begun work bare room at k count) (work' : List ℤ) (room' : List ℕ)
+    (records : RecordsBy report room room' work count (λ rs. added_at job k rs at)) where
+  abbrev Does : CodeStep → Type 0
+  Does r = StepsBy r work work' count (λ rs. command job k rs at)
+
+  recorded : room' ≡ recorded_from report room count (added_at job k g.rs at)
+  recorded = records g.rs (drop work_size begun) g.holds
+
+  pub turn_again : {p : Progress} → Does (Ok (Some p)) → length work' ≡ length work → length room' ≡ length room
       → (at < p.next) × Going report job begun work' bare room' p.next (k + 1) p.results
-  going_again {p} d = again_by (command job k g.rs at) p refl (d g.rs t g.holds)
+  turn_again {p} d = going_again g work' room' recorded (command job k g.rs at) p refl (d g.rs (drop work_size begun) g.holds)
 
-  pub going_ends : Does (Ok None) → Ran report job begun bare (Ok count) work' room'
-  going_ends d = ends_by (command job k g.rs at) refl (d g.rs t g.holds)
+  pub turn_ends : Does (Ok None) → Ran report job begun bare (Ok count) work' room'
+  turn_ends d = going_ends g work' room' recorded (command job k g.rs at) refl (d g.rs (drop work_size begun) g.holds)
 
-  -- after a refusal the area and the room are cleared
-  pub going_stops : {v : Refusal} {work'' : List ℤ} {room'' : List ℕ} → Does (Err v) → work'' ≡ zeros work_size ++ drop work_size work'
+  pub turn_stops : {v : Refusal} {work'' : List ℤ} {room'' : List ℕ} → Does (Err v) → work'' ≡ zeros work_size ++ drop work_size work'
       → room'' ≡ zero_bytes (room_size report) ++ drop (room_size report) room'
       → Ran report job begun bare (Err (record { refusal = v; command = k })) work'' room''
-  going_stops {v} {work''} {room''} d = stops_by (command job k g.rs at) v work'' room'' refl (d g.rs t g.holds)
+  turn_stops {v} {work''} {room''} d = going_stops g work' room' recorded (command job k g.rs at) v work'' room'' refl (d g.rs (drop work_size begun) g.holds)

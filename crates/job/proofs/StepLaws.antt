@@ -1,19 +1,21 @@
 -- From the reading of a command to its performance.
-use mathlib.Core.Path.{◌≡◌, ap, sym, subst, ◌∙◌}
-use mathlib.Core.Bool.{Bool}
+use mathlib.Core.Path.{◌≡◌, refl, ap, sym, subst, ◌∙◌}
+use mathlib.Core.Bool.{Bool, false}
 use mathlib.Core.List.{List, []}
 use mathlib.Core.Logic.{◌⊎◌, inl, inr}
 use Prim.Native.Nat.{ℕ, ◌≤◌}
 use native.Mathlib.Omega.{arith}
+use borrow.Author.Tests.{leb-false, lt-leb}
 use lib.IntN.{ℤ}
 use lib.ListN.{length}
 use Rattle.model.specs.definitions.Outcomes.{Passed, First}
 use Rattle.model.proofs.laws.PlaceLaws.{passing_passed, passing_unrefused, first_or_passed, passing_first}
 use Rattle.model.specs.declared.types.Model.{Model}
+use Rattle.job.specs.definitions.Operations.{Maker, Making, of_none, of_one, of_two, making_for, bad_in, names_bad}
 use Rattle.job.specs.definitions.Reading.{max_results, shape_at, next_at, reading_places, CommandReading, found, command_reading}
 use Rattle.job.specs.definitions.Decode.{command_at}
 use Rattle.job.specs.definitions.Step.{refused, performed, command}
-use Rattle.job.proofs.laws.CommandLaws.{Readable, readable}
+use Rattle.job.proofs.laws.CommandLaws.{both_below, Readable, readable}
 use Rattle.job.specs.definitions.Work.{work_size}
 use Rattle.job.specs.definitions.InnerContracts.{Performable, added_by, added_at}
 use Rattle.job.specs.declared.types.Kind.{Kind}
@@ -97,3 +99,16 @@ module _ (job : List ℕ) (k count at : ℕ) (kind : Kind) (next : ℕ) (work : 
         room = rw kind_is at r.room;
         long = long;
       }
+
+-- ---- a command that makes a result names results below 32
+
+module _ (count : ℕ) (few : count ≤ max_results) where
+  making_below : (r : Making) → bad_in r count ≡ false → bad_in r max_results ≡ false
+  making_below (of_none g) h = refl
+  making_below (of_one i g) h = lt-leb max_results i (omega (arith, leb-false count i h))
+  making_below (of_two i j g) h =
+      let b = both_below count i j h in
+      simp (lt-leb max_results i (omega (arith, b)), lt-leb max_results j (omega (arith, b)))
+
+  pub names_below : (m : Maker) → names_bad m count ≡ false → names_bad m max_results ≡ false
+  names_below m h = making_below (making_for m) h

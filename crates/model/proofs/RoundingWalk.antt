@@ -17,12 +17,14 @@ use Rattle.model.proofs.laws.RoundingPassLaws.{rounded_at, loss_at, rounded-leng
 -- k of the numbers are rounded: their weight and their loss in rest form, with `dropped` lost besides; they are written as
 -- long as their weight is within its limit
 pub record Walk (d : ℕ) (cs : List ℤ) (dropped : ℕ) (out : List ℤ) (total loss k : ℕ) : Type 0 where
+  pub within : k ≤ length cs
   pub weight_rest : total + weight (drop k (rounded d cs)) ≡ weight (rounded d cs)
   pub loss_rest : loss + rounding_loss d (drop k cs) ≡ rounding_loss d cs + dropped
   pub written : total ≤ max_weight → Filling.Filling (rounded d cs) (replicate coefficient_count (pos 0)) out 0 (length cs) k
 
 pub begins : (d : ℕ) (cs : List ℤ) (dropped : ℕ) → length cs ≤ coefficient_count → Walk d cs dropped (replicate coefficient_count (pos 0)) 0 dropped 0
 begins d cs dropped h = record {
+  within = omega arith;
   weight_rest = omega arith;
   loss_rest = omega arith;
   written = λ _. Filling.begins (rounded d cs) (replicate coefficient_count (pos 0)) 0 (length cs) (rounded-length d cs) (rw length-replicate (omega arith));
@@ -34,6 +36,7 @@ pub turn : {d : ℕ} {cs : List ℤ} {dropped : ℕ} {out : List ℤ} {total los
     → Walk d cs dropped after (total + m) (loss + n) (k + 1)
 turn {d} {cs} {dropped} {out} {total} {loss} {k} x q m n after two w h ex eq em en stored =
     let q_is : q ≡ get_or (rounded d cs) k (pos 0) = eq ∙ ap (rounded_at d) ex ∙ sym (rounded_at_lem d two cs k) in record {
+      within = omega arith;
       weight_rest = omega (arith, w.weight_rest, em, ap nat_abs q_is, weight_step (rounded d cs) k (omega (arith, rounded-length d cs)));
       loss_rest = omega (arith, w.loss_rest, en, ap (loss_at d) ex, loss_step d cs k h);
       written = λ l. rw (stored l) (Filling.turn k q (pos 0) (w.written (omega arith)) h (omega arith) q_is);

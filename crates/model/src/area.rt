@@ -24,6 +24,17 @@ pub fn store<T: Copy, const N: usize>(area: &mut [T], values: [T; N])
     }
 }
 
+// The numbers of a slice of one length.
+// Kept: a loop, as a model written so stays in registers on its way; with copy_from_slice a job of 32 loads takes 1.8 times the time.
+pub fn copy(from: &[i32], to: &mut [i32])
+    requires { length from.now ≡ length to.old }
+    ensures { to.new ≡ from.now }
+{
+    for i in 0..from.len() {
+        to[i] = from[i];
+    }
+}
+
 // The candidate whose 34 numbers these are.
 pub fn read_candidate(area: &[i32]) -> Candidate
     requires { length area.now ≡ candidate_size }
@@ -64,7 +75,7 @@ pub fn write(area: &mut [i32], m: Model)
     ensures { area.new ≡ words m }
 {
     area[0] = m.degree as i32;
-    area[1..CANDIDATE_SIZE].copy_from_slice(&m.coefficients);
+    copy(&m.coefficients, &mut area[1..CANDIDATE_SIZE]);
     area[CANDIDATE_SIZE] = m.radius as i32;
     area[LOWER] = m.interval.lower;
     area[UPPER] = m.interval.upper;

@@ -33,7 +33,7 @@ module _ (f g : Model) (first second : List ℤ) where
   abbrev pub Promised : ℕ → ℕ → Type 0
   Promised k e = QuotientAllowed f g (part_model (part_numbers k first second) e f.interval)
 
-  chosen_promised : (a b : Result ℕ Refusal) → IfOk a (Promised 1) → IfOk b (Promised 2) → (c : Selected)
+  pub chosen_promised : (a b : Result ℕ Refusal) → IfOk a (Promised 1) → IfOk b (Promised 2) → (c : Selected)
       → tighter (proposal_of a) (proposal_of b) ≡ accepted c → Promised c.chosen c.radius
   chosen_promised a b of_first of_second c e =
       ⊎_elim

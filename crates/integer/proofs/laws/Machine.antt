@@ -1,7 +1,7 @@
 -- From plain facts about whole numbers to what signed code asks: that a number fits a width, and what division leaves.
 -- In a code proof every signed operand shows as `to_z w (of_z w z)`; `to_z-of_z` with `SFits w z` reads it back.
 use Rattle.std.specs.Prelude.{◌≡◌, refl, Bool, true, false, ◌&&◌, ℕ, suc, ◌-◌, ◌*◌, ◌/◌, ◌%◌, ◌≤◌, ◌<◌, ◌^◌, T, ℤ, pos, negsuc, neg_ℤ, ◌+ℤ◌, ◌*ℤ◌, nat_abs, ◌<ℤ◌, ◌≤ℤ◌}
-use Rattle.std.proofs.Common.{sym, ◌∙◌, ap, subst, zero-le, arith, div-le_self, mod-lt, lt_of_lt_of_le, lit≤, pow_pos}
+use Rattle.std.proofs.Common.{sym, ◌∙◌, ap, subst, zero-le, arith, div-le_self, mod-lt, lt_of_lt_of_le, lit≤, pow_pos, rules}
 use Rattle.std.proofs.Math.Nat.{div-add-mod}
 use Rattle.std.specs.Int.Signed.{quot_z, rem_z, le_z, lt_z, le_z_yes, lt_z_yes, mag, non_neg}
 use Rattle.std.specs.Int.Bits.{bit_and}
@@ -40,6 +40,8 @@ read_widens {z} h = record { sfits = lt_of_lt_of_le h (lit≤ tt) }
 
 pub fits_widens : {z : ℤ} → SFits w32 z → SFits w64 z
 fits_widens {z} h = record { sfits = lt_of_lt_of_le h.sfits (lit≤ tt) }
+
+pub ruleset signed_needs = (read_widens, fits_widens, rules)
 
 -- ---- the machine's tests of order, as the order
 

@@ -31,5 +31,5 @@ returns c =
     let a = c.args in
     let lower : FitsSigned w32 a.m.interval.lower = search rules in
     let upper : FitsSigned w32 a.m.interval.upper = search rules in
-    rw (c.copy_from_slice.ensures.after, to_z_pos w32 a.m.degree (omega arith), to_z_pos w32 a.m.radius (omega arith), to_z-of_z lower, to_z-of_z upper)
+    rw (c.copy.ensures, to_z_pos w32 a.m.degree (omega arith), to_z_pos w32 a.m.radius (omega arith), to_z-of_z lower, to_z-of_z upper)
     (written a.area.now a.m.coefficients (pos a.m.degree) (pos a.m.radius) a.m.interval.lower a.m.interval.upper coefficient_count (search rules) (omega arith))
