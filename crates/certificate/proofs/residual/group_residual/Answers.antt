@@ -21,6 +21,12 @@ use Rattle.certificate.proofs.residual.group_residual.Goals as goal
 weight-group : (n start : ℕ) (l : List ℤ) → weight (group n start l) ≤ weight l
 weight-group n start l = omega (arith, weight-take n (drop start l), weight-drop start l)
 
+formed : (n start : ℕ) (a b : List ℤ) → start + n ≤ product_size → places_from ℤ_ring n start a b ≡ group n start (product ℤ_ring product_size a b)
+formed n start a b h =
+    let e : min n (product_size - start) ≡ n = omega (arith, h) in
+    sym (product-group ℤ_ring product_size n start a b ∙ ap (λ (m : ℕ). places_from ℤ_ring m start a b) e)
+
+-- for what `subtract` and `weigh` require
 module _ (c : goal.After-window) where
   abbrev n : ℕ
   n = length c.args.part.now
@@ -34,11 +40,7 @@ module _ (c : goal.After-window) where
   own = c.window.result.now
 
   G-is : G ≡ group n c.args.start (product ℤ_ring product_size c.args.a.now c.args.b.now)
-  G-is =
-      let e : min n (product_size - c.args.start) ≡ n = omega (arith, c.requires.2) in
-      c.form.ensures
-      ∙ sym (product-group ℤ_ring product_size n c.args.start c.args.a.now c.args.b.now
-      ∙ ap (λ (m : ℕ). places_from ℤ_ring m c.args.start c.args.a.now c.args.b.now) e)
+  G-is = c.form.ensures ∙ formed n c.args.start c.args.a.now c.args.b.now c.requires.2
 
   length-G : length G ≡ n
   length-G = c.form.auto.part
@@ -67,11 +69,15 @@ pub weigh-requires : goal.weigh-requires
 weigh-requires c =
     let d = c.before.before in omega (arith, ap weight c.subtract.ensures, weight_residual (G d) (own d), weights d)
 
+-- from the calls' own answers, not from `After-window`: so a step more in the code changes no name here
 pub returns : goal.returns
 returns c =
-    let d = c.before.before.before in
-    let w = d in
-    c.weigh.ensures ∙ ap weight (c.subtract.ensures ∙ ap₂ residual_list (G-is w) (own_is w))
+    let a = c.args in
+    let n : ℕ = length a.part.now in
+    let first : c.form.new.part ≡ group n a.start (product ℤ_ring product_size a.a.now a.b.now) =
+    c.form.ensures ∙ formed n a.start a.a.now a.b.now c.requires.2 in
+    let own : c.window.result.now ≡ group n a.start a.f.now = c.window.ensures ∙ ap (λ (m : ℕ). group m a.start a.f.now) c.form.auto.part in
+    omega (arith, c.weigh.ensures, ap weight (c.subtract.ensures ∙ ap₂ residual_list first own))
 
 pub subtract-requires : goal.subtract-requires
 subtract-requires c = (own-short c, weights c)
