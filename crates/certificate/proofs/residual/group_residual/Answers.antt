@@ -69,7 +69,7 @@ pub weigh-requires : goal.weigh-requires
 weigh-requires c =
     let d = c.before.before in omega (arith, ap weight c.subtract.ensures, weight_residual (G d) (own d), weights d)
 
--- from the calls' own answers, not from `After-window`: so a step more in the code changes no name here
+-- each fact from its own call and none by `before`, so that a further call in the code changes no path here
 pub returns : goal.returns
 returns c =
     let a = c.args in
